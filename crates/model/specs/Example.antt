@@ -1,0 +1,167 @@
+-- Document 01's cases marked P, mended as READINGS says, and others beside them: one table under one statement, computed from the definitions.
+use Prim.Native.Nat.{ℕ, zero, suc, _+_, _-_, _*_, _/_, _%_, _^_}
+use mathlib.Core.Path.{_≡_, refl}
+use mathlib.Core.List.{List, [], _∷_, _++_, map}
+use lib.ListN.{length, replicate}
+use Rattle.wire.specs.Res
+use Rattle.wire.specs.Res.{Res, got, fault}
+use Rattle.wire.specs.Bits
+use Rattle.wire.specs.Bits.{source, digits}
+use Rattle.wire.specs.Width
+use Rattle.wire.specs.Number
+use Rattle.wire.specs.Number.{read5, read8, code5}
+use Rattle.signed.specs.Words as signed
+use Rattle.utf8.specs.Text as utf8
+use Rattle.table.specs.First
+use Rattle.table.specs.Valid
+use Rattle.table.specs.Rows
+use Rattle.value.specs.Code
+use Rattle.value.specs.Code.{codeAt}
+use Rattle.value.specs.Simple
+use Rattle.value.specs.Simple.{rangeCode}
+use Rattle.model.specs.Model
+use Rattle.model.specs.Model.{Event, event, Path, events, texts}
+use Rattle.model.specs.Items
+use Rattle.model.specs.Items.{Mode}
+use Rattle.model.specs.Read
+use Rattle.model.specs.Write
+use Rattle.model.specs.Write.{Bare, bare}
+use Rattle.model.specs.Pack
+use Rattle.model.specs.Whole
+use Rattle.model.specs.Whole.{Reply, accepted, declined, Made, made, unmade, reading, writing, eventWords}
+
+-- the worked table; whether type 3 is held
+unfoldable pub words : ℕ → List ℕ
+words held =
+    1 ∷ 4 ∷ 1 ∷ 4
+    ∷ 1 ∷ 2 ∷ 0 ∷ 1 ∷ 0 ∷ 0 ∷ 0
+    ∷ 1 ∷ 1 ∷ 0 ∷ 0 ∷ 0 ∷ 0 ∷ 0
+    ∷ 1 ∷ 1 ∷ 0 ∷ 0 ∷ 1 ∷ 4294967293 ∷ 4
+    ∷ held ∷ 1 ∷ 0 ∷ 0 ∷ 5 ∷ 0 ∷ 0
+    ∷ 20 ∷ 0 ∷ 2
+    ∷ 1 ∷ 1 ∷ 2 ∷ 0
+    ∷ 0 ∷ 11 ∷ 3 ∷ 0
+    ∷ 3 ∷ 3 ∷ 0 ∷ 3
+    ∷ 0 ∷ 12 ∷ 1 ∷ 0
+    ∷ []
+
+-- one type, which is empty; one that holds itself twice, without end
+unfoldable pub hollow : List ℕ
+hollow = 1 ∷ 1 ∷ 0 ∷ 0 ∷ 1 ∷ 0 ∷ 0 ∷ 0 ∷ 0 ∷ 0 ∷ 0 ∷ []
+
+unfoldable pub tangle : List ℕ
+tangle = 1 ∷ 1 ∷ 0 ∷ 3 ∷ 1 ∷ 2 ∷ 0 ∷ 0 ∷ 0 ∷ 0 ∷ 0 ∷ 1 ∷ 1 ∷ 2 ∷ 0 ∷ 0 ∷ 10 ∷ 0 ∷ 0 ∷ 0 ∷ 6 ∷ 0 ∷ 0 ∷ []
+
+unfoldable pub worked : ℕ → ℕ → List ℕ
+worked third last = 0x8F ∷ 0x8C ∷ third ∷ 0x15 ∷ 0x12 ∷ 0x43 ∷ 0x4E ∷ 0x0C ∷ last ∷ []
+
+unfoldable pub front : List Event
+front = event 1 10 1 10 ∷ event 2 20 1 1 ∷ event 3 4294967295 0 3 ∷ []
+
+unfoldable pub back : List Event
+back = event 5 2 0 3 ∷ event 1 12 1 5 ∷ event 3 1 0 1 ∷ event 6 0 0 0 ∷ event 1 12 1 5 ∷ event 3 0 0 1 ∷ event 6 0 0 0 ∷ event 6 0 0 0 ∷ []
+
+unfoldable pub list : List Event
+list = front ++ (event 1 11 1 10 ∷ event 3 2 0 21 ∷ event 6 0 0 0 ∷ back)
+
+unfoldable pub blank : Event
+blank = event 7 11 3 31
+
+-- what is asked: a code's bits; a code read of bits with nothing after them; a payload read; a list written in mode 2
+pub data Asked : Type 0 where
+  coded : List ℕ → Asked
+  reads : ((ℕ → ℕ) → ℕ → ℕ → Res (ℕ × ℕ)) → List ℕ → Asked
+  payload : (table : List ℕ) (name : ℕ) → List ℕ → Asked
+  writes : (table : List ℕ) → List Event → List ℕ → Asked
+
+-- and what comes of it
+pub data Shown : Type 0 where
+  bits : List ℕ → Shown
+  value : ℕ → ℕ → Shown
+  faults : ℕ → Shown
+  lists : Mode → List Event → List ℕ → ℕ → Shown
+  refuses : ℕ → ℕ → Path → Shown
+  makes : List ℕ → ℕ → Shown
+
+unfoldable pub shownRes : Res (ℕ × ℕ) → Shown
+shownRes (got (v, p)) = value v p
+shownRes (fault n) = faults n
+
+unfoldable pub shownReply : Reply → Shown
+shownReply (accepted mode ns q) = lists mode (events ns) (texts ns) q
+shownReply (declined n p π) = refuses n p π
+
+unfoldable pub shownMade : Made → Shown
+shownMade (made s n) = makes s n
+shownMade (unmade n p) = refuses n p []
+
+unfoldable pub shown : Asked → Shown
+shown (coded w) = bits w
+shown (reads rd w) = shownRes (rd (source w) (length w) 0)
+shown (payload l name s) = shownReply (reading l name 0 s 8192 8192)
+shown (writes l L T) = shownMade (writing l 10 0 2 (eventWords L) T 100)
+
+pub record Case : Type 0 where
+  pub ask : Asked
+  pub comes : Shown
+
+infix 25 _⇒_
+abbrev pub _⇒_ : Asked → Shown → Case
+a ⇒ s = record { ask = a; comes = s }
+
+unfoldable pub nest : ℕ → Event → List Event
+nest zero e = e ∷ []
+nest (suc n) e = event 1 10 1 0 ∷ nest n e
+
+-- P
+unfoldable pub proved : List Case
+proved =
+    (coded (code5 0) ⇒ bits (0 ∷ 0 ∷ 0 ∷ 0 ∷ 0 ∷ []))
+    ∷ (coded (code5 15) ⇒ bits (0 ∷ 1 ∷ 1 ∷ 1 ∷ 1 ∷ []))
+    ∷ (coded (code5 16) ⇒ bits (1 ∷ 0 ∷ 0 ∷ 0 ∷ 0 ∷ 1 ∷ 0 ∷ 0 ∷ 0 ∷ 0 ∷ []))
+    ∷ (reads read5 (0 ∷ 1 ∷ 1 ∷ 1 ∷ 1 ∷ []) ⇒ value 15 5)
+    ∷ (reads read5 (1 ∷ 0 ∷ 0 ∷ 0 ∷ 0 ∷ 0 ∷ 1 ∷ 1 ∷ 1 ∷ 1 ∷ []) ⇒ faults 12)
+    ∷ (reads read5 (replicate 8 1) ⇒ faults 13)
+    ∷ (reads read8 (digits 8 0x7F) ⇒ value 127 8)
+    ∷ (reads read8 (digits 16 0x8100) ⇒ value 128 16)
+    ∷ (reads read8 (digits 16 0x8005) ⇒ faults 12)
+    ∷ (reads (codeAt (rangeCode 0 4)) (1 ∷ 0 ∷ 0 ∷ []) ⇒ value 4 3)
+    ∷ (reads (codeAt (rangeCode 0 4)) (1 ∷ 0 ∷ 1 ∷ []) ⇒ faults 14)
+    ∷ (reads (codeAt (rangeCode 7 7)) [] ⇒ value 7 0)
+    ∷ (reads (codeAt Code.signed) (1 ∷ 0 ∷ 0 ∷ 0 ∷ 0 ∷ 0 ∷ []) ⇒ faults 15)
+    ∷ (reads (codeAt Code.signed) (1 ∷ code5 (2 ^ 31)) ⇒ value (2 ^ 31) 41)
+    ∷ (reads (codeAt Code.signed) (0 ∷ code5 (2 ^ 31)) ⇒ faults 13)
+    ∷ (payload hollow 10 (0x0F ∷ []) ⇒ lists Mode.never (event 1 10 0 0 ∷ event 6 0 0 0 ∷ []) [] 8)
+    ∷ (payload hollow 10 (0x0F ∷ 0x00 ∷ []) ⇒ refuses 17 8 [])
+    ∷ (payload (words 1) 10 (worked 0xAA 0x20) ⇒ lists Mode.always list (72 ∷ 105 ∷ []) 68)
+    ∷ (payload (words 0) 10 (worked 0xAA 0x20) ⇒ lists Mode.always (front ++ (blank ∷ back)) [] 68)
+    ∷ []
+
+-- and others: the reader's refusals, the writer's in order
+unfoldable pub beside : List Case
+beside =
+    (payload (words 1) 10 (worked 0xAA 0x21) ⇒ refuses 17 68 [])
+    ∷ (payload (words 1) 10 (worked 0x6A 0x20) ⇒ refuses 10 62 (10 ∷ []))
+    ∷ (payload (words 1) 10 (worked 0xEA 0x20) ⇒ refuses 11 18 (10 ∷ []))
+    ∷ (payload (words 1) 10 [] ⇒ refuses 3 0 [])
+    ∷ (payload (words 1) 10 (0xCF ∷ []) ⇒ refuses 4 0 [])
+    ∷ (payload (words 2) 65536 [] ⇒ refuses 1 25 [])
+    ∷ (payload (words 1) 65536 [] ⇒ refuses 2 0 [])
+    ∷ (writes (words 1) list (72 ∷ 105 ∷ []) ⇒ makes (worked 0xAA 0x20) 68)
+    ∷ (writes (words 1) [] [] ⇒ refuses 18 0 [])
+    ∷ (writes (words 1) (blank ∷ []) [] ⇒ refuses 19 0 [])
+    ∷ (writes (words 1) (event 1 10 0 0 ∷ []) [] ⇒ refuses 18 0 [])
+    ∷ (writes (words 1) (event 1 10 1 0 ∷ event 2 20 2 0 ∷ []) [] ⇒ refuses 18 1 [])
+    ∷ (writes (words 1) (event 1 10 1 0 ∷ event 2 20 1 0 ∷ event 3 5 0 0 ∷ []) [] ⇒ refuses 20 2 [])
+    ∷ (writes (words 0) list (72 ∷ 105 ∷ []) ⇒ refuses 9 3 [])
+    ∷ (writes (words 1) list (72 ∷ []) ⇒ refuses 23 4 [])
+    ∷ (writes (words 1) list (200 ∷ 105 ∷ []) ⇒ refuses 16 4 [])
+    ∷ (writes (words 1) list (72 ∷ 105 ∷ 1 ∷ []) ⇒ refuses 23 14 [])
+    ∷ (writes (words 1) (list ++ (blank ∷ [])) (72 ∷ 105 ∷ []) ⇒ refuses 19 14 [])
+    ∷ (writes tangle (nest 32 blank) [] ⇒ refuses 6 32 [])
+    ∷ (writes tangle (nest 31 (event 1 10 1 0)) [] ⇒ refuses 18 32 [])
+    ∷ []
+
+pub cases : map (λ (c : Case). shown (c .ask)) (proved ++ beside) ≡ map (λ (c : Case). c .comes) (proved ++ beside)
+unfolding words hollow tangle worked front back list blank shownRes shownReply shownMade shown nest proved beside Model.eventOf Model.value Model.maybe Model.attribute Model.attributes Model.contents Model.rows Model.within Model.due Model.plan Model._then_ Model.flagOf Model.events Model.texts Model.slotsOf Model.bytesOf Model.bitsOf Items.formOf Items.formAt Items.itemAt Items.lengthAt Items.headAt Read.onto Read.after Read.code Read.kept Read.stored Read.met Read.ended Read.closed Read.entered Read.bare Read.sized Read.opened Read.elementAt Read.read Write.put Write.along Write.unlike Write.matched Write.taken Write.wordOf Write.flagIn Write.simpleOut Write.formOut Write.itemOut Write.coded Write.headOut Write.sealed Write.tooDeep Write.allowed Write.elementOut Write.write Pack.pack Whole.modeByte Whole.modeNumber Whole.modeAt Whole.modeOf Whole.zeros Whole.padding Whole.padded Whole.replied Whole.rootIn Whole.inMode Whole.payload Whole.asked Whole.afterAsked Whole.afterVerdict Whole.reading Whole.eventWords Whole.filled Whole.outcome Whole.eventsLeft Whole.textsLeft Whole.eventsFrom Whole.roomed Whole.spent Whole.modeAsked Whole.shaped Whole.written Whole.orUnmade Whole.verdictMade Whole.writing Whole.outcomeMade Whole.payloadLeft Code.Fits Code.bitsOf Code.choiceAt Code.numberAt Code.signedOf Code.someOf Code.codeAt Code.fits Code.codeOut Code.sizeOut Simple.spanCode Simple.rangeCode Simple.unboundedCode Simple.boundedCode Simple.timesCode Simple.simpleOf Simple.bytes Simple.bytesAt Simple.unless Simple.textOf Simple.simpleAt First.first First._then_ First.judge Valid.given Valid.headerWords Valid.frontWords Valid.unusedWords Valid.rangeWords Valid.enumerationWords Valid.kindWords Valid.emptyWords Valid.simpleWords Valid.particlesWords Valid.contentWords Valid.attributeWords Valid.elementWords Valid.groupWords Valid.occursWords Valid.particleWords Valid.rows Valid.typeRow Valid.attributeRow Valid.particleRow Valid.rowWords Valid.verdictFrom Valid.verdict Valid.rightAt Rows.contentFrom Rows.rowFrom Rows.contentOf Rows.rowAt Rows.rowOf Rows.attributeOf Rows.attributesFrom Rows.firstOf Rows.countOf Rows.attributesOf Rows.tableOf Rows.heldOf Res._>>=_ Res._>>_ Res.guard Res.atMost Bits.bitAt Bits.num Bits.fixedAt Bits.digits Width.leastFrom Width.width Number.onesAt Number.isShort Number.groupsAt Number.number5 Number.second8At Number.number8 Number.strict Number.read5 Number.read8 Number.more Number.codeOf5 Number.code5 Number.code8 utf8.has utf8.lines utf8.begun utf8.open-lines utf8.goesOn utf8.faultOf utf8.textFault signed.gapOf signed.signOf signed.magnitudeOf signed.wordOf signed.wrapped
+cases = refl

@@ -1,0 +1,89 @@
+-- The codes of items and of heads: what each may be (a value, its text bytes, its bits) and its reading. This module alone knows
+-- which code an item has; grammar, reader and writer go by its names and, in ItemLaws, its laws.
+use Prim.Native.Nat.{ℕ, zero, suc, _+_, _-_, _^_}
+use mathlib.Core.Path.{_≡_}
+use mathlib.Core.Bool.{Bool, true, false}
+use mathlib.Core.List.{List, [], _∷_, _++_}
+use Rattle.wire.specs.Res.{Res, got, fault, _>>=_, _>>_, atMost}
+use Rattle.value.specs.Code.{Code, choice, five, Fits, bitsOf, codeAt}
+use Rattle.value.specs.Simple.{Simple, plain, text, timesCode, simpleOf, simpleAt, SimpleIs}
+use Rattle.model.specs.Model.{Item}
+use Rattle.model.specs.Model.Item.{required, valued, picked, counted}
+
+-- length coding: none, by a flag, always
+pub data Mode : Type 0 where
+  never optional always : Mode
+
+abbrev pub flag : Code
+flag = choice 2
+
+abbrev pub lengths : Code
+lengths = five (2 ^ 32 - 1)
+
+-- always 1, in no bits; or a simple value
+pub data Form : Type 0 where
+  present : Form
+  simply : Simple → Form
+
+unfoldable pub formOf : Item → Form
+formOf (required name) = present
+formOf (Item.optional name) = simply (plain flag)
+formOf (valued kind b c) = simply (simpleOf kind b c)
+formOf (picked n) = simply (plain (choice n))
+formOf (counted least most) = simply (plain (timesCode least most))
+
+pub data FormIs : Form → ℕ → List ℕ → List ℕ → Type 0 where
+  is-present : FormIs present 1 [] []
+  is-simple : {s : Simple} {v : ℕ} {ts w : List ℕ} → SimpleIs s v ts w → FormIs (simply s) v ts w
+
+-- an item's value, its text bytes, its bits
+abbrev pub ItemIs : Item → ℕ → List ℕ → List ℕ → Type 0
+ItemIs i v ts w = FormIs (formOf i) v ts w
+
+-- an element's length: not coded, or coded; what it says of what is inside
+pub data Length : Type 0 where
+  free : Length
+  long : ℕ → Length
+
+abbrev pub coded : Length → Bool
+coded free = false
+coded (long n) = true
+
+abbrev pub Measures : Length → ℕ → Type 0
+Measures free k = Unit
+Measures (long n) k = n ≡ k
+
+-- a head, by the declared type: the type, the length, the bits of flag and length
+pub data HeadIs : Mode → ℕ → ℕ → Length → List ℕ → Type 0 where
+  no-head : {t : ℕ} → HeadIs never t t free []
+  flag-off : {t : ℕ} → HeadIs optional t t free (bitsOf flag 0)
+  flag-on : {t n : ℕ} → Fits lengths n → HeadIs optional t t (long n) (bitsOf flag 1 ++ bitsOf lengths n)
+  head-on : {t n : ℕ} → Fits lengths n → HeadIs always t t (long n) (bitsOf lengths n)
+
+-- reading: a value, its text bytes, the place past it
+unfoldable pub formAt : Form → (ℕ → ℕ) → ℕ → ℕ → Res (ℕ × List ℕ × ℕ)
+formAt present b wall at = got (1, [], at)
+formAt (simply s) b wall at = simpleAt s b wall at
+
+unfoldable pub itemAt : Item → (ℕ → ℕ) → ℕ → ℕ → Res (ℕ × List ℕ × ℕ)
+itemAt i b wall at = formAt (formOf i) b wall at
+
+-- a head that was read: the type, where the body begins and, with a length, where the element ends
+pub data Head : Type 0 where
+  bare : (type body : ℕ) → Head
+  sized : (type body end : ℕ) → Head
+
+-- after the flag, where there is one: TheLength, which counts the bits after itself; 10 where it passes the wall
+unfoldable pub lengthAt : ℕ → (ℕ → ℕ) → ℕ → ℕ → ℕ → Res Head
+lengthAt zero b type wall at = got (bare type at)
+lengthAt (suc k) b type wall at = do
+  (n, p) ← codeAt lengths b wall at
+  atMost (p + n) wall 10
+  got (sized type p (p + n))
+
+unfoldable pub headAt : Mode → (ℕ → ℕ) → ℕ → ℕ → ℕ → Res Head
+headAt never b type wall at = got (bare type at)
+headAt optional b type wall at = do
+  (f, p) ← codeAt flag b wall at
+  lengthAt f b type wall p
+headAt always b type wall at = lengthAt 1 b type wall at

@@ -1,0 +1,152 @@
+-- What is due and what was read. A PLAN is what a content model lets come, item by item: it knows no bits, no room and no
+-- held marks. A reading of it gives the TREE of what was read, or a refusal; events and texts are the tree's flattening.
+use Prim.Native.Nat.{ℕ, zero, suc, _+_}
+use mathlib.Core.List.{List, [], _∷_, _++_}
+use mathlib.Core.Bool.{Bool, true, false}
+use lib.ListN.{length}
+use Rattle.table.specs.Rows.{Row, Content, Attribute, Table}
+use Rattle.table.specs.Rows.Content.{empty, simple, particles}
+
+-- document 01's four words: kind (1 Start, 2 Attribute, 3 Value, 4 Pick, 5 Times, 6 End, 7 Blank), p, q, bits taken
+pub record Event : Type 0 where
+  pub kind : ℕ
+  pub p : ℕ
+  pub q : ℕ
+  pub bits : ℕ
+
+abbrev pub event : ℕ → ℕ → ℕ → ℕ → Event
+event k p q n = record { kind = k; p = p; q = q; bits = n }
+
+abbrev pub end : Event
+end = event 6 0 0 0
+
+-- one code that gives one event: a required attribute (no bits), an optional one's flag, a value, a branch, a count
+pub data Item : Type 0 where
+  required : (name : ℕ) → Item
+  optional : (name : ℕ) → Item
+  valued : (kind b c : ℕ) → Item
+  picked : (count : ℕ) → Item
+  counted : (least most : ℕ) → Item
+
+-- an item's event, by its value and its bits
+unfoldable pub eventOf : Item → ℕ → ℕ → Event
+eventOf (required name) v n = event 2 name 1 n
+eventOf (optional name) v n = event 2 name v n
+eventOf (valued kind b c) v n = event 3 v 0 n
+eventOf (picked count) v n = event 4 v 0 n
+eventOf (counted least most) v n = event 5 v 0 n
+
+-- nothing more; a row too many; an item and, by its value, the rest; an element, what its type lets come inside it, the rest
+pub data Plan : Type 0 where
+  done : Plan
+  deep : Plan
+  item : Item → (ℕ → Plan) → Plan
+  element : (name type : ℕ) → (inside : ℕ → Plan) → (rest : Plan) → Plan
+
+-- attributes come in the table's order: the value of one that is present, no value of one that is absent
+unfoldable pub value : ℕ → ℕ → ℕ → Plan → Plan
+value kind b c rest = item (valued kind b c) (λ v. rest)
+
+unfoldable pub maybe : ℕ → Plan → Plan → Plan
+maybe zero p rest = rest
+maybe (suc v) p rest = p
+
+unfoldable pub attribute : Bool → Attribute → Plan → Plan
+attribute true a rest = item (required (a .name)) (λ v. value (a .kind) (a .b) (a .c) rest)
+attribute false a rest = item (optional (a .name)) (λ v. maybe v (value (a .kind) (a .b) (a .c) rest) rest)
+
+unfoldable pub attributes : List Attribute → Plan → Plan
+attributes [] rest = rest
+attributes (a ∷ l) rest = attribute (a .must) a (attributes l rest)
+
+-- content and rows, where f is the plan of a row
+unfoldable pub contents : (Row → Plan → Plan) → (ℕ → Row) → Content → Plan
+contents f row empty = done
+contents f row (simple kind b c) = value kind b c done
+contents f row (particles i) = f (row i) done
+
+unfoldable pub rows : (Row → Plan → Plan) → ℕ → (ℕ → Row) → Plan → Plan
+rows f zero g rest = rest
+rows f (suc n) g rest = f (g 0) (rows f n (λ i. g (suc i)) rest)
+
+module _ (T : Table) where
+  -- attributes, then content
+  unfoldable pub within : (Row → Plan → Plan) → ℕ → Plan
+  within f t = attributes (T .attributes t) (contents f (T .row) (T .content t))
+
+  unfoldable pub due : (Row → Plan → Plan) → Row → Plan → Plan
+  due f (Row.element name type) rest = element name type (λ t. within f t) rest
+  due f (Row.sequence first count) rest = rows f count (λ i. T .row (first + i)) rest
+  due f (Row.choice first count) rest = item (picked count) (λ v. f (T .row (first + v)) rest)
+  due f (Row.occurs child least most) rest = item (counted least most) (λ v. rows f v (λ i. T .row child) rest)
+
+  -- a row and then the rest, where so many rows may still be opened
+  unfoldable pub plan : ℕ → Row → Plan → Plan
+  plan zero row rest = deep
+  plan (suc d) row rest = due (plan d) row rest
+
+  -- the root, which is itself the first of at most 64 open rows
+  abbrev pub rooted : ℕ → ℕ → Plan
+  rooted name type = plan 64 (Row.element name type) done
+
+-- an element that was opened: what its Start says, its type and its place
+pub record Mark : Type 0 where
+  pub name : ℕ
+  pub type : ℕ
+  pub coded : Bool
+  pub at : ℕ
+  pub bits : ℕ
+
+-- what was read, in order: an item with its place, event and text bytes, or an element with what is inside it; then the rest
+pub data Nodes : Type 0 where
+  none : Nodes
+  leaf : (at : ℕ) → Event → List ℕ → Nodes → Nodes
+  node : Mark → Nodes → Nodes → Nodes
+
+infixr 30 _then_
+unfoldable pub _then_ : Nodes → Nodes → Nodes
+none then ms = ms
+leaf at e ts r then ms = leaf at e ts (r then ms)
+node m i r then ms = node m i (r then ms)
+
+unfoldable pub flagOf : Bool → ℕ
+flagOf true = 1
+flagOf false = 0
+
+abbrev pub start : Mark → Event
+start m = event 1 (m .name) (flagOf (m .coded)) (m .bits)
+
+-- the list of events; the texts one after another
+unfoldable pub events : Nodes → List Event
+events none = []
+events (leaf at e ts r) = e ∷ events r
+events (node m i r) = start m ∷ (events i ++ (end ∷ events r))
+
+unfoldable pub texts : Nodes → List ℕ
+texts none = []
+texts (leaf at e ts r) = ts ++ texts r
+texts (node m i r) = texts i ++ texts r
+
+-- how many events and text bytes, and the sum of the events' bits
+unfoldable pub slotsOf : Nodes → ℕ
+slotsOf none = 0
+slotsOf (leaf at e ts r) = 1 + slotsOf r
+slotsOf (node m i r) = 2 + slotsOf i + slotsOf r
+
+unfoldable pub bytesOf : Nodes → ℕ
+bytesOf none = 0
+bytesOf (leaf at e ts r) = length ts + bytesOf r
+bytesOf (node m i r) = bytesOf i + bytesOf r
+
+unfoldable pub bitsOf : Nodes → ℕ
+bitsOf none = 0
+bitsOf (leaf at e ts r) = e .bits + bitsOf r
+bitsOf (node m i r) = m .bits + bitsOf i + bitsOf r
+
+abbrev pub Path : Type 0
+Path = List ℕ
+
+-- the answer: what was read and the place past it; or number, place and path (here the innermost open element first)
+pub data Answer : Type 0 where
+  given : Nodes → ℕ → Answer
+  refused : (number place : ℕ) → Path → Answer

@@ -1,0 +1,195 @@
+-- The entries' meanings, over words and bytes, on every input: `reading` and `writing`, and what each leaves in the answer and in
+-- every lent buffer.
+use Prim.Native.Nat.{ℕ, zero, suc, _+_, _-_, _*_, _/_, _%_, min}
+use mathlib.Core.Bool.{Bool, true, false, cond}
+use mathlib.Core.List.{List, [], _∷_, _++_, reverse}
+use lib.ListN.{length, getD, replicate}
+use lib.Dec.{eqb, ltb, leb}
+use Rattle.wire.specs.Res.{Res, got, fault, _>>=_, _>>_, atMost}
+use Rattle.wire.specs.Bits.{bitAt}
+use Rattle.table.specs.First.{Verdict}
+use Rattle.table.specs.First.Verdict.{right, wrong}
+use Rattle.table.specs.Valid.{verdict}
+use Rattle.table.specs.Rows.{tableOf, heldOf}
+use Rattle.model.specs.Model.{Event, Plan, Nodes, Path, Answer, events, texts, rooted}
+use Rattle.model.specs.Model.Answer.{given, refused}
+use Rattle.model.specs.Items.{Mode}
+use Rattle.model.specs.Read.{Room, read}
+use Rattle.model.specs.Write.{Bare, Out, write}
+use Rattle.model.specs.Pack.{pack}
+
+-- the mode byte, and the mode as a number
+unfoldable pub modeByte : Mode → ℕ
+modeByte Mode.never = 0x0F
+modeByte Mode.optional = 0x4F
+modeByte Mode.always = 0x8F
+
+unfoldable pub modeNumber : Mode → ℕ
+modeNumber Mode.never = 0
+modeNumber Mode.optional = 1
+modeNumber Mode.always = 2
+
+-- 3, then 4
+unfoldable pub modeAt : ℕ → Res Mode
+modeAt x = cond (eqb x 0x0F) (got Mode.never) (cond (eqb x 0x4F) (got Mode.optional) (cond (eqb x 0x8F) (got Mode.always) (fault 4)))
+
+unfoldable pub modeOf : List ℕ → Res Mode
+modeOf s = do
+  atMost 1 (length s) 3
+  atMost (length s) 8192 3
+  modeAt (getD s 0 0)
+
+-- n bits from at are 0; what is left after the root: fewer than 8 bits, all 0
+unfoldable pub zeros : (ℕ → ℕ) → ℕ → ℕ → Bool
+zeros b at zero = true
+zeros b at (suc n) = cond (eqb (b at) 0) (zeros b (at + 1) n) false
+
+unfoldable pub padding : List ℕ → ℕ → Bool
+padding s q = cond (ltb (8 * length s - q) 8) (zeros (bitAt s) q (8 * length s - q)) false
+
+-- what is read and how many bits were used; or number, place and path, the outermost open element first
+pub data Reply : Type 0 where
+  accepted : Mode → Nodes → ℕ → Reply
+  declined : (number place : ℕ) → Path → Reply
+
+-- after the root: 17 where what is left is no padding
+unfoldable pub padded : Bool → Mode → Nodes → ℕ → Reply
+padded true mode ns q = accepted mode ns q
+padded false mode ns q = declined 17 q []
+
+unfoldable pub replied : (ℕ → Bool) → Mode → Answer → Reply
+replied pads mode (given ns q) = padded (pads q) mode ns q
+replied pads mode (refused n p π) = declined n p (reverse π)
+
+-- the root at bit 8, where the mode byte is one of the three
+unfoldable pub rootIn : (ℕ → Bool) → Plan → List ℕ → Room → Mode → Reply
+rootIn held P s room mode = replied (padding s) mode (read (bitAt s) mode held P room [] (8 * length s) 8)
+
+unfoldable pub inMode : Res Mode → (Mode → Reply) → Reply
+inMode (got mode) k = k mode
+inMode (fault n) k = declined n 0 []
+
+unfoldable pub payload : (ℕ → Bool) → Plan → List ℕ → Room → Reply
+payload held P s room = inMode (modeOf s) (rootIn held P s room)
+
+-- 1; 2: what every entry asks of table and root
+unfoldable pub asked : ℕ → ℕ → ℕ → Res Unit
+asked types name type = do
+  atMost (suc type) types 2
+  atMost name 65535 2
+
+-- the room that lent event words and text bytes are
+abbrev pub roomOf : ℕ → ℕ → Room
+roomOf words bytes = record { slots = min (words / 4) 2048; bytes = bytes }
+
+unfoldable pub afterAsked : Res Unit → Reply → Reply
+afterAsked (got u) r = r
+afterAsked (fault n) r = declined n 0 []
+
+unfoldable pub afterVerdict : Verdict → Reply → Reply
+afterVerdict right r = r
+afterVerdict (wrong i) r = declined 1 i []
+
+-- THE READING: table words, root name, root type, payload bytes, lent event words, lent text bytes (both as numbers)
+unfoldable pub reading : List ℕ → ℕ → ℕ → List ℕ → ℕ → ℕ → Reply
+reading l name type s words bytes =
+    afterVerdict (verdict l) (afterAsked (asked (tableOf l .types) name type) (payload (heldOf l) (rooted (tableOf l) name type) s (roomOf words bytes)))
+
+-- what the host gets: the answer, and the final content of the lent events and texts
+pub record Outcome : Type 0 where
+  pub number : ℕ
+  pub place : ℕ
+  pub mode : ℕ
+  pub events : ℕ
+  pub text : ℕ
+  pub bits : ℕ
+  pub path : Path
+
+unfoldable pub eventWords : List Event → List ℕ
+eventWords [] = []
+eventWords (e ∷ L) = e .kind ∷ e .p ∷ e .q ∷ e .bits ∷ eventWords L
+
+-- a buffer of n with l at its start, and zeros after it
+unfoldable pub filled : ℕ → List ℕ → List ℕ
+filled n l = l ++ replicate (n - length l) 0
+
+abbrev pub declines : ℕ → ℕ → Path → Outcome
+declines n p π = record { number = n; place = p; mode = 0; events = 0; text = 0; bits = 0; path = π }
+
+abbrev pub accepts : Mode → ℕ → ℕ → ℕ → Outcome
+accepts mode events text bits = record { number = 0; place = 0; mode = modeNumber mode; events = events; text = text; bits = bits; path = [] }
+
+unfoldable pub outcome : Reply → Outcome
+outcome (accepted mode ns q) = accepts mode (length (events ns)) (length (texts ns)) q
+outcome (declined n p π) = declines n p π
+
+unfoldable pub eventsLeft : ℕ → Reply → List ℕ
+eventsLeft words (accepted mode ns q) = filled words (eventWords (events ns))
+eventsLeft words (declined n p π) = replicate words 0
+
+unfoldable pub textsLeft : ℕ → Reply → List ℕ
+textsLeft bytes (accepted mode ns q) = filled bytes (texts ns)
+textsLeft bytes (declined n p π) = replicate bytes 0
+
+-- Writing. The payload and its bits before padding; or number and place. The path is empty
+pub data Made : Type 0 where
+  made : (payload : List ℕ) (bits : ℕ) → Made
+  unmade : (number place : ℕ) → Made
+
+-- n events of the list's words, from event i on; the fourth word is ignored
+abbrev pub eventAt : List ℕ → ℕ → Bare
+eventAt l i = record { kind = getD l (4 * i) 0; p = getD l (4 * i + 1) 0; q = getD l (4 * i + 2) 0 }
+
+unfoldable pub eventsFrom : List ℕ → ℕ → ℕ → List Bare
+eventsFrom l i zero = []
+eventsFrom l i (suc n) = eventAt l i ∷ eventsFrom l (i + 1) n
+
+-- 21
+unfoldable pub roomed : ℕ → Mode → List ℕ → Made
+roomed room mode w = cond (leb (1 + (length w + 7) / 8) (min room 8192)) (made (modeByte mode ∷ pack w) (8 + length w)) (unmade 21 0)
+
+-- of n events: the index of the one at fault; no event may be left over, 19 or 18; then no text, 23
+unfoldable pub spent : ℕ → Out → (List ℕ → Made) → Made
+spent n (Out.wrote w [] []) k = k w
+spent n (Out.wrote w [] (x ∷ U)) k = unmade 23 n
+spent n (Out.wrote w (e ∷ M) U) k = unmade (cond (eqb (e .kind) 7) 19 18) (n - suc (length M))
+spent n (Out.refused e left) k = unmade e (n - left)
+
+-- 22
+unfoldable pub modeAsked : ℕ → Res Mode
+modeAsked zero = got Mode.never
+modeAsked (suc zero) = got Mode.optional
+modeAsked (suc (suc zero)) = got Mode.always
+modeAsked (suc (suc (suc k))) = fault 22
+
+-- the list's shape: 18 at the word count / 4, unless whole events and at most 2,048 of them
+unfoldable pub shaped : List ℕ → Made → Made
+shaped l m = cond (eqb (length l % 4) 0) (cond (leb (length l / 4) 2048) m (unmade 18 (length l / 4))) (unmade 18 (length l / 4))
+
+unfoldable pub written : (ℕ → Bool) → Plan → Mode → List Bare → List ℕ → ℕ → Made
+written held P mode M T room = spent (length M) (write mode held P M T) (roomed room mode)
+
+unfoldable pub orUnmade : {A : Type 0} → Res A → (A → Made) → Made
+orUnmade (got a) k = k a
+orUnmade (fault n) k = unmade n 0
+
+unfoldable pub verdictMade : Verdict → Made → Made
+verdictMade right r = r
+verdictMade (wrong i) r = unmade 1 i
+
+-- THE WRITING: table words, root name, root type, mode, event words, text bytes, lent payload bytes (a number)
+unfoldable pub writing : List ℕ → ℕ → ℕ → ℕ → List ℕ → List ℕ → ℕ → Made
+writing l name type mode events texts room =
+    verdictMade (verdict l)
+    (orUnmade (asked (tableOf l .types) name type) (λ u.
+    orUnmade (modeAsked mode) (λ m.
+    shaped events (written (heldOf l) (rooted (tableOf l) name type) m (eventsFrom events 0 (length events / 4)) texts room))))
+
+-- what the host gets: the answer (mode asked, all events and texts of the list), and the final content of the lent payload
+unfoldable pub outcomeMade : ℕ → ℕ → ℕ → Made → Outcome
+outcomeMade mode events text (made s bits) = record { number = 0; place = 0; mode = mode; events = events; text = text; bits = bits; path = [] }
+outcomeMade mode events text (unmade n p) = declines n p []
+
+unfoldable pub payloadLeft : ℕ → Made → List ℕ
+payloadLeft room (made s bits) = filled room s
+payloadLeft room (unmade n p) = replicate room 0

@@ -1,0 +1,137 @@
+-- The writing of a plan: from events without their fourth words, and texts, the bits, with the events and the texts left
+-- over. A refusal says how many events were then left, the one at fault among them: the event's index is the number of all less that.
+-- Document 01's order: none left is 18, before 6 (`deep`, `taken`); 6 (`deep`); 19, 18 (`taken`); 9 (`elementOut`); 20, 23, 16 (`itemOut`).
+use Prim.Native.Nat.{ℕ, zero, suc, _+_, min}
+use mathlib.Core.Bool.{Bool, true, false, cond}
+use mathlib.Core.List.{List, [], _∷_, _++_}
+use lib.ListN.{length, take, drop}
+use lib.Dec.{eqb}
+use Rattle.wire.specs.Res.{Res, got, fault, _>>=_, _>>_, guard, atMost}
+use Rattle.value.specs.Code.{bitsOf, fits, codeOut}
+use Rattle.value.specs.Simple.{Simple, plain, text, count, bytes, unless}
+use Rattle.utf8.specs.Text.{textFault}
+use Rattle.model.specs.Model.{Event, event, end, Item, eventOf, Plan}
+use Rattle.model.specs.Model.Plan.{done, deep, item, element}
+use Rattle.model.specs.Model.Item.{required, optional, valued, picked, counted}
+use Rattle.model.specs.Items.{Mode, flag, lengths, Form, present, simply, formOf, Length, free, long}
+
+-- an event without its fourth word
+pub record Bare : Type 0 where
+  pub kind : ℕ
+  pub p : ℕ
+  pub q : ℕ
+
+abbrev pub bare : Event → Bare
+bare e = record { kind = e .kind; p = e .p; q = e .q }
+
+-- bits, events left, texts left; or number and events left
+pub data Out : Type 0 where
+  wrote : List ℕ → List Bare → List ℕ → Out
+  refused : (number left : ℕ) → Out
+
+-- bits before what is written; one part after another
+unfoldable pub put : List ℕ → Out → Out
+put w (wrote x M T) = wrote (w ++ x) M T
+put w (refused n i) = refused n i
+
+unfoldable pub along : Out → (List Bare → List ℕ → Out) → Out
+along (wrote w M T) k = put w (k M T)
+along (refused n i) k = refused n i
+
+-- what is wrong with the event e where f is wanted: nothing (0); it is a Blank; another kind, name, flag or fixed word
+unfoldable pub unlike : Bare → Bare → ℕ
+unlike f e = cond (eqb (f .kind) (e .kind)) (cond (eqb (f .p) (e .p)) (cond (eqb (f .q) (e .q)) 0 18) 18) (cond (eqb (e .kind) 7) 19 18)
+
+unfoldable pub matched : ℕ → ℕ → Out → Out
+matched zero i o = o
+matched (suc n) i o = refused (suc n) i
+
+-- the next event, where the one wanted is made from it
+unfoldable pub taken : (Bare → Bare) → List Bare → (Bare → List Bare → Out) → Out
+taken f [] k = refused 18 0
+taken f (e ∷ M) k = matched (unlike (f e) e) (suc (length M)) (k e M)
+
+-- the value that an item's event gives, and the event that this value has
+unfoldable pub wordOf : Item → Bare → ℕ
+wordOf (required name) e = 1
+wordOf (optional name) e = min (e .q) 1
+wordOf (valued kind b c) e = e .p
+wordOf (picked n) e = e .p
+wordOf (counted least most) e = e .p
+
+abbrev pub asItem : Item → Bare → Bare
+asItem i e = bare (eventOf i (wordOf i e) 0)
+
+-- a Start's second word: 0 in mode 0, 1 in mode 2, either in mode 1
+unfoldable pub flagIn : Mode → ℕ → ℕ
+flagIn Mode.never q = 0
+flagIn Mode.optional q = min q 1
+flagIn Mode.always q = 1
+
+abbrev pub asStart : Mode → ℕ → Bare → Bare
+asStart mode name e = record { kind = 1; p = name; q = flagIn mode (e .q) }
+
+abbrev pub asEnd : Bare → Bare
+asEnd e = bare end
+
+-- a value's bits, and the texts left: 20 for a value that its row does not have; then, for a text, 23 and 16
+unfoldable pub simpleOut : Simple → ℕ → List ℕ → Res (List ℕ × List ℕ)
+simpleOut (plain c) v T = do
+  w ← codeOut c v
+  got (w, T)
+simpleOut text v T = do
+  w ← codeOut count v
+  atMost v (length T) 23
+  unless (textFault (take v T))
+  got (w ++ bytes (take v T), drop v T)
+
+unfoldable pub formOut : Form → ℕ → List ℕ → Res (List ℕ × List ℕ)
+formOut present v T = got ([], T)
+formOut (simply s) v T = simpleOut s v T
+
+unfoldable pub itemOut : Item → ℕ → List ℕ → Res (List ℕ × List ℕ)
+itemOut i v T = formOut (formOf i) v T
+
+-- a leaf's bits, or its refusal at the event
+unfoldable pub coded : {A : Type 0} → Res A → ℕ → (A → Out) → Out
+coded (got a) i k = k a
+coded (fault n) i k = refused n i
+
+-- the length that a Start's second word asks for, over n bits; the bits of flag and length
+abbrev pub lengthOf : ℕ → ℕ → Length
+lengthOf zero n = free
+lengthOf (suc k) n = long n
+
+unfoldable pub headOut : Mode → Length → List ℕ
+headOut Mode.never h = []
+headOut Mode.optional free = bitsOf flag 0
+headOut Mode.optional (long n) = bitsOf flag 1 ++ bitsOf lengths n
+headOut Mode.always free = []
+headOut Mode.always (long n) = bitsOf lengths n
+
+-- what was written inside an element whose Start's second word is q: its End, then the head before it
+unfoldable pub sealed : Mode → ℕ → Out → Out
+sealed mode q (wrote w M T) = taken asEnd M (λ e N. wrote (headOut mode (lengthOf q (length w)) ++ w) N T)
+sealed mode q (refused n i) = refused n i
+
+-- 6, where an event is left
+unfoldable pub tooDeep : List Bare → Out
+tooDeep [] = refused 18 0
+tooDeep (e ∷ M) = refused 6 (suc (length M))
+
+unfoldable pub allowed : Bool → ℕ → Out → Out
+allowed true i o = o
+allowed false i o = refused 9 i
+
+module _ (mode : Mode) (held : ℕ → Bool) where
+  -- an element, where f writes what is inside it: its Start, 9 where the type is not held
+  unfoldable pub elementOut : (List Bare → List ℕ → Out) → ℕ → ℕ → List Bare → List ℕ → Out
+  elementOut f name type M T = taken (asStart mode name) M (λ e N. allowed (held type) (suc (length N)) (sealed mode (e .q) (f N T)))
+
+  unfoldable pub write : Plan → List Bare → List ℕ → Out
+  write done M T = wrote [] M T
+  write deep M T = tooDeep M
+  write (item i k) M T =
+      taken (asItem i) M
+      (λ e N. coded (itemOut i (wordOf i e) T) (suc (length N)) (λ (w, U). put w (write (k (wordOf i e)) N U)))
+  write (element name type f P) M T = along (elementOut (λ N U. write (f type) N U) name type M T) (λ N U. write P N U)

@@ -1,0 +1,5 @@
+pub mod Words
+pub mod Views
+pub mod Laws
+pub mod Numbers
+pub mod Cases

@@ -1,0 +1,7 @@
+mod Tests
+mod Choices
+mod Given
+mod OneRow
+mod Turns
+mod Order
+mod Decoded

@@ -1,0 +1,116 @@
+-- One row: its words as the code has read them, and its verdict from that of the words, which count from 0.
+use Prim.Native.Nat.{ℕ, _+_, _<_}
+use mathlib.Core.Path.{_≡_, sym, ap, _∙_}
+use mathlib.Core.List.{List, _++_}
+use mathlib.Core.Bool.{Bool}
+use native.Mathlib.Omega.{arith}
+use mir.Syntax.{w32, w64}
+use mir.Val.{Fits}
+use lib.ListN.{length}
+use Rattle.table.specs.Words.{typeAt, attributeAt, particleAt}
+use Rattle.table.specs.First.{Verdict, first}
+use Rattle.table.specs.First.Verdict.{right, wrong}
+use Rattle.table.specs.FirstLaws.{first-append, first-below, moved-right, moved-wrong, then-right, then-wrong}
+use Rattle.table.specs.Valid.{frontWords, contentWords, attributeWords, particleWords, typeRow, attributeRow, particleRow}
+use Rattle.table.specs.Lines.{content-length, particle-length}
+use Rattle.table.specs.Views.{verdictIs}
+use Rattle.table.specs.declared.answers.Verdict as code
+use Rattle.table.specs.declared.answers.Verdict.the-variants.{Right, Wrong}
+
+-- an answer's place lies within the tests that it is of
+pub place-below : (i : ℕ) (xs : List Bool) (r : code.Verdict) (k : ℕ) → verdictIs r ≡ first i xs → r ≡ Wrong k → k < i + length xs
+place-below i xs r k e w = first-below i xs k (sym e ∙ ap verdictIs w) .1
+
+-- a row's verdict from that of its words, which count from 0
+module _ (b : ℕ) (xs ys : List Bool) (same : xs ≡ ys) (r : code.Verdict) (e : verdictIs r ≡ first 0 xs) where
+  pub row-right : r ≡ Right → right ≡ first b ys
+  row-right w = sym (rw (← same) (moved-right b xs (sym e ∙ ap verdictIs w)))
+
+  pub row-wrong : (k : ℕ) → r ≡ Wrong k → wrong (b + k) ≡ first b ys
+  row-wrong k w = sym (rw (← same) (moved-wrong b xs k (sym e ∙ ap verdictIs w)))
+
+-- tests in two parts
+module _ (i : ℕ) (xs ys : List Bool) (r : code.Verdict) (e : verdictIs r ≡ first i xs) where
+  pub part-wrong : (k : ℕ) → r ≡ Wrong k → verdictIs r ≡ first i (xs ++ ys)
+  part-wrong k w = e ∙ sym (first-append i xs ys ∙ then-wrong _ _ k (sym e ∙ ap verdictIs w))
+
+  pub part-right : (v : Verdict) → r ≡ Right → v ≡ first (i + length xs) ys → v ≡ first i (xs ++ ys)
+  part-right v w f = f ∙ sym (first-append i xs ys ∙ then-right _ _ (sym e ∙ ap verdictIs w))
+
+-- the place that a row's words name, and the row's own place before it, fit a usize
+module _ (r : code.Verdict) (k : ℕ) where
+  module _ (t : ℕ) (h : Fits w32 t) where
+    pub front-fits : (A held content start count : ℕ) → verdictIs r ≡ first 0 (frontWords A held content start count) → r ≡ Wrong k → Fits w64 (typeAt t + k)
+    unfolding frontWords
+    front-fits A held content start count e w = omega (arith, place-below 0 (frontWords A held content start count) r k e w)
+
+    pub content-fits : (P content a b c : ℕ) → verdictIs r ≡ first 4 (contentWords P content a b c) → r ≡ Wrong k → Fits w64 (typeAt t + k)
+    content-fits P content a b c e w =
+        omega (arith, place-below 4 (contentWords P content a b c) r k e w, content-length P content a b c)
+
+  pub attribute-fits : (T i : ℕ) → Fits w32 T → Fits w32 i → (name must type content count : ℕ)
+      → verdictIs r ≡ first 0 (attributeWords T name must type content count) → r ≡ Wrong k → Fits w64 (attributeAt T i + k)
+  unfolding attributeWords
+  attribute-fits T i h g name must type content count e w = omega (arith, place-below 0 (attributeWords T name must type content count) r k e w)
+
+  pub particle-fits : (T A p : ℕ) → Fits w32 T → Fits w32 A → Fits w32 p → (P kind x y z : ℕ)
+      → verdictIs r ≡ first 0 (particleWords T P p kind x y z) → r ≡ Wrong k → Fits w64 (particleAt T A p + k)
+  particle-fits T A p h g f P kind x y z e w = omega (arith, place-below 0 (particleWords T P p kind x y z) r k e w, particle-length T P p kind x y z)
+
+-- a type row, whose words the code has read
+module _ (w : ℕ → ℕ) (A P t held content start count a b c : ℕ)
+    (e₀ : held ≡ w (typeAt t)) (e₁ : content ≡ w (typeAt t + 1)) (e₂ : start ≡ w (typeAt t + 2)) (e₃ : count ≡ w (typeAt t + 3))
+    (e₄ : a ≡ w (typeAt t + 4)) (e₅ : b ≡ w (typeAt t + 5)) (e₆ : c ≡ w (typeAt t + 6))
+    (h : code.Verdict) (f : verdictIs h ≡ first 0 (frontWords A held content start count)) where
+  type-words : frontWords A held content start count ++ contentWords P content a b c ≡ typeRow w A P t
+  unfolding typeRow
+  type-words = cc
+
+  pub type-front-wrong : (k : ℕ) → h ≡ Wrong k → wrong (typeAt t + k) ≡ first (typeAt t) (typeRow w A P t)
+  type-front-wrong k x = row-wrong (typeAt t) _ _ type-words h (part-wrong 0 _ _ h f k x) k x
+
+  module _ (x : h ≡ Right) (r : code.Verdict) (g : verdictIs r ≡ first 4 (contentWords P content a b c)) where
+    whole : verdictIs r ≡ first 0 (frontWords A held content start count ++ contentWords P content a b c)
+    unfolding frontWords
+    whole = part-right 0 _ _ h f _ x g
+
+    pub type-right : r ≡ Right → right ≡ first (typeAt t) (typeRow w A P t)
+    type-right y = row-right (typeAt t) _ _ type-words r whole y
+
+    pub type-wrong : (k : ℕ) → r ≡ Wrong k → wrong (typeAt t + k) ≡ first (typeAt t) (typeRow w A P t)
+    type-wrong k y = row-wrong (typeAt t) _ _ type-words r whole k y
+
+pub ruleset type-row-ways = (front-fits, content-fits, type-front-wrong, type-right, type-wrong)
+
+-- an attribute row
+module _ (w : ℕ → ℕ) (T i name must type content count : ℕ)
+    (e₀ : name ≡ w (attributeAt T i)) (e₁ : must ≡ w (attributeAt T i + 1)) (e₂ : type ≡ w (attributeAt T i + 2))
+    (e₃ : content ≡ w (typeAt type + 1)) (e₄ : count ≡ w (typeAt type + 3))
+    (r : code.Verdict) (f : verdictIs r ≡ first 0 (attributeWords T name must type content count)) where
+  attribute-words : attributeWords T name must type content count ≡ attributeRow w T i
+  unfolding attributeRow
+  attribute-words = cc
+
+  pub attribute-right : r ≡ Right → right ≡ first (attributeAt T i) (attributeRow w T i)
+  attribute-right x = row-right (attributeAt T i) _ _ attribute-words r f x
+
+  pub attribute-wrong : (k : ℕ) → r ≡ Wrong k → wrong (attributeAt T i + k) ≡ first (attributeAt T i) (attributeRow w T i)
+  attribute-wrong k x = row-wrong (attributeAt T i) _ _ attribute-words r f k x
+
+pub ruleset attribute-row-ways = (attribute-fits, attribute-right, attribute-wrong)
+
+-- a particle row
+module _ (w : ℕ → ℕ) (T A P p kind x y z : ℕ)
+    (e₀ : kind ≡ w (particleAt T A p)) (e₁ : x ≡ w (particleAt T A p + 1)) (e₂ : y ≡ w (particleAt T A p + 2)) (e₃ : z ≡ w (particleAt T A p + 3))
+    (r : code.Verdict) (f : verdictIs r ≡ first 0 (particleWords T P p kind x y z)) where
+  particle-words : particleWords T P p kind x y z ≡ particleRow w T A P p
+  unfolding particleRow
+  particle-words = cc
+
+  pub particle-right : r ≡ Right → right ≡ first (particleAt T A p) (particleRow w T A P p)
+  particle-right u = row-right (particleAt T A p) _ _ particle-words r f u
+
+  pub particle-wrong : (k : ℕ) → r ≡ Wrong k → wrong (particleAt T A p + k) ≡ first (particleAt T A p) (particleRow w T A P p)
+  particle-wrong k u = row-wrong (particleAt T A p) _ _ particle-words r f k u
+
+pub ruleset particle-row-ways = (particle-fits, particle-right, particle-wrong)

@@ -1,0 +1,91 @@
+-- The worked table of document 01 is right, damaged copies of it are wrong at the words that they should be, and its rows say what
+-- the document says.
+use Prim.Native.Nat.{ℕ}
+use mathlib.Core.Path.{_≡_, refl}
+use mathlib.Core.List.{List, [], _∷_, _++_, map}
+use mathlib.Core.Bool.{false}
+use lib.ListN.{set, take}
+use Rattle.table.specs.First.{Verdict, first, judge, _then_}
+use Rattle.table.specs.First.Verdict.{right, wrong}
+use Rattle.table.specs.Rows.{Table, tableOf, contentOf, contentFrom, rowOf, rowAt, rowFrom, attributesOf, attributesFrom, attributeOf, firstOf, countOf}
+use Rattle.table.specs.Rows.Row.{element, sequence, occurs}
+use Rattle.table.specs.Rows.Content.{simple, particles}
+use Rattle.table.specs.Valid.{verdict, verdictFrom, headerWords, given, rowWords, rows, typeRow, frontWords, contentWords, emptyWords, simpleWords, particlesWords, kindWords, rangeWords, enumerationWords, unusedWords, attributeRow, attributeWords, particleRow, particleWords, elementWords, groupWords, occursWords}
+
+-- type 0 particles at row 0 with attribute row 0; type 1 boolean; type 2 ranged -3 to 4; type 3 text; all held
+abbrev pub worked : List ℕ
+worked =
+    (1 ∷ 4 ∷ 1 ∷ 4 ∷ [])
+    ++ (1 ∷ 2 ∷ 0 ∷ 1 ∷ 0 ∷ 0 ∷ 0 ∷ [])
+    ++ (1 ∷ 1 ∷ 0 ∷ 0 ∷ 0 ∷ 0 ∷ 0 ∷ [])
+    ++ (1 ∷ 1 ∷ 0 ∷ 0 ∷ 1 ∷ 0xfffffffd ∷ 4 ∷ [])
+    ++ (1 ∷ 1 ∷ 0 ∷ 0 ∷ 5 ∷ 0 ∷ 0 ∷ [])
+    ++ (20 ∷ 0 ∷ 2 ∷ [])
+    ++ (1 ∷ 1 ∷ 2 ∷ 0 ∷ [])
+    ++ (0 ∷ 11 ∷ 3 ∷ 0 ∷ [])
+    ++ (3 ∷ 3 ∷ 0 ∷ 3 ∷ [])
+    ++ (0 ∷ 12 ∷ 1 ∷ 0 ∷ [])
+
+pub record Case : Type 0 where
+  pub table : List ℕ
+  pub gives : Verdict
+
+abbrev case : List ℕ → Verdict → Case
+case l v = record { table = l; gives = v }
+
+-- the worked table with the word i changed to x
+abbrev changed : ℕ → ℕ → Verdict → Case
+changed i x v = case (set worked i x) v
+
+abbrev pub cases : List Case
+cases =
+    case worked right
+    ∷ case [] (wrong 0)
+    ∷ case (take 2 worked) (wrong 2)
+    ∷ case (1 ∷ 0 ∷ []) (wrong 1)
+    ∷ case (take 3 worked) (wrong 3)
+    ∷ case (worked ++ (0 ∷ [])) (wrong 52)
+    ∷ case (take 50 worked) (wrong 50)
+    ∷ changed 0 2 (wrong 0)
+    ∷ changed 1 257 (wrong 1)
+    ∷ changed 3 5 (wrong 51)
+    ∷ changed 3 1025 (wrong 3)
+    ∷ changed 4 0 right
+    ∷ changed 4 2 (wrong 4)
+    ∷ changed 5 3 (wrong 5)
+    ∷ changed 6 2 (wrong 6)
+    ∷ changed 6 1 (wrong 7)
+    ∷ changed 8 4 (wrong 8)
+    ∷ changed 10 1 (wrong 10)
+    ∷ changed 24 0xfffffffc (wrong 24)
+    ∷ changed 24 0xfffffffd right
+    ∷ changed 29 7 (wrong 29)
+    ∷ changed 32 65536 (wrong 32)
+    ∷ changed 33 2 (wrong 33)
+    ∷ changed 34 0 (wrong 34)
+    ∷ changed 34 4 (wrong 34)
+    ∷ changed 35 4 (wrong 35)
+    ∷ changed 36 0 (wrong 36)
+    ∷ changed 37 4 (wrong 37)
+    ∷ changed 38 1 (wrong 38)
+    ∷ changed 41 4 (wrong 41)
+    ∷ changed 45 4 (wrong 46)
+    ∷ changed 46 0 (wrong 46)
+    ∷ changed 46 65536 right
+    ∷ changed 46 65537 (wrong 46)
+    ∷ changed 50 1 (wrong 50)
+    ∷ []
+
+pub verdicts : map (λ (c : Case). verdict (c .table)) cases ≡ map (λ (c : Case). c .gives) cases
+unfolding verdict verdictFrom headerWords given rowWords rows typeRow frontWords contentWords emptyWords simpleWords particlesWords kindWords rangeWords enumerationWords unusedWords attributeRow attributeWords particleRow particleWords elementWords groupWords occursWords first judge _then_
+verdicts = refl
+
+pub record Worked (t : Table) : Type 0 where
+  pub types : t .types ≡ 4
+  pub contents : map (t .content) (0 ∷ 1 ∷ 2 ∷ 3 ∷ []) ≡ particles 0 ∷ simple 0 0 0 ∷ simple 1 0xfffffffd 4 ∷ simple 5 0 0 ∷ []
+  pub rows : map (t .row) (0 ∷ 1 ∷ 2 ∷ 3 ∷ []) ≡ sequence 1 2 ∷ element 11 3 ∷ occurs 3 0 3 ∷ element 12 1 ∷ []
+  pub attributes : t .attributes 0 ≡ record { name = 20; must = false; kind = 1; b = 0xfffffffd; c = 4 } ∷ []
+
+pub worked-rows : Worked (tableOf worked)
+unfolding tableOf contentOf contentFrom rowOf rowAt rowFrom attributesOf attributesFrom attributeOf firstOf countOf
+worked-rows = record { types = refl; contents = refl; rows = refl; attributes = refl }

@@ -1,0 +1,13 @@
+pub mod Words
+pub mod First
+pub mod Valid
+pub mod Rows
+pub mod Views
+pub mod Walk
+pub mod Example
+pub mod FirstLaws
+pub mod Lines
+pub mod Faults
+pub mod Keeps
+pub mod Laws
+pub mod Held

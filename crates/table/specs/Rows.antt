@@ -1,0 +1,84 @@
+-- A table decoded into rows, so that meanings go by constructors and never by words. Total on every list of words.
+use Prim.Native.Nat.{ℕ, zero, suc, _+_}
+use mathlib.Core.List.{List, [], _∷_}
+use mathlib.Core.Bool.{Bool}
+use lib.Dec.{eqb}
+use Rattle.table.specs.Words.{typeAt, attributeAt, particleAt, wordAt, typesIn, attributesIn}
+
+pub data Row : Type 0 where
+  element : (name type : ℕ) → Row
+  sequence : (first count : ℕ) → Row
+  choice : (first count : ℕ) → Row
+  occurs : (child least most : ℕ) → Row
+
+pub data Content : Type 0 where
+  empty : Content
+  simple : (kind b c : ℕ) → Content
+  particles : (row : ℕ) → Content
+
+-- an attribute, with the simple kind and parameters of its type
+pub record Attribute : Type 0 where
+  pub name : ℕ
+  pub must : Bool
+  pub kind : ℕ
+  pub b : ℕ
+  pub c : ℕ
+
+-- what a table says, without its held marks
+pub record Table : Type 0 where
+  pub types : ℕ
+  pub attributes : ℕ → List Attribute
+  pub content : ℕ → Content
+  pub row : ℕ → Row
+
+unfoldable pub contentFrom : (content a b c : ℕ) → Content
+contentFrom zero a b c = empty
+contentFrom (suc zero) a b c = simple a b c
+contentFrom (suc (suc k)) a b c = particles a
+
+unfoldable pub rowFrom : (kind x y z : ℕ) → Row
+rowFrom zero x y z = element x y
+rowFrom (suc zero) x y z = sequence x y
+rowFrom (suc (suc zero)) x y z = choice x y
+rowFrom (suc (suc (suc k))) x y z = occurs x y z
+
+module _ (l : List ℕ) where
+  abbrev w : ℕ → ℕ
+  w i = wordAt l i
+
+  unfoldable pub contentOf : (t : ℕ) → Content
+  contentOf t = let i = typeAt t in contentFrom (w (i + 1)) (w (i + 4)) (w (i + 5)) (w (i + 6))
+
+  -- the particle row p behind so many type and attribute rows
+  unfoldable pub rowAt : (T A p : ℕ) → Row
+  rowAt T A p = let i = particleAt T A p in rowFrom (w i) (w (i + 1)) (w (i + 2)) (w (i + 3))
+
+  unfoldable pub rowOf : (p : ℕ) → Row
+  rowOf p = rowAt (typesIn l) (attributesIn l) p
+
+  unfoldable pub attributeOf : (a : ℕ) → Attribute
+  attributeOf a =
+      let i = attributeAt (typesIn l) a in
+      let j = typeAt (w (i + 2)) in
+      record { name = w i; must = eqb (w (i + 1)) 1; kind = w (j + 4); b = w (j + 5); c = w (j + 6) }
+
+  -- n attribute rows from row i on
+  unfoldable pub attributesFrom : (n i : ℕ) → List Attribute
+  attributesFrom zero i = []
+  attributesFrom (suc n) i = attributeOf i ∷ attributesFrom n (i + 1)
+
+  -- the first attribute row of a type, and how many it has
+  unfoldable pub firstOf : (t : ℕ) → ℕ
+  firstOf t = w (typeAt t + 2)
+
+  unfoldable pub countOf : (t : ℕ) → ℕ
+  countOf t = w (typeAt t + 3)
+
+  unfoldable pub attributesOf : (t : ℕ) → List Attribute
+  attributesOf t = attributesFrom (countOf t) (firstOf t)
+
+  unfoldable pub tableOf : Table
+  tableOf = record { types = typesIn l; attributes = λ t. attributesOf t; content = λ t. contentOf t; row = λ p. rowOf p }
+
+  unfoldable pub heldOf : (t : ℕ) → Bool
+  heldOf t = eqb (w (typeAt t)) 1

@@ -1,0 +1,134 @@
+-- What is right of each word of a table, given the words before it: a list of tests, one for each word in order. Then the verdict.
+use Prim.Native.Nat.{ℕ, zero, suc, _+_}
+use mathlib.Core.Path.{_≡_}
+use mathlib.Core.List.{List, [], _∷_, _++_}
+use mathlib.Core.Bool.{Bool, true, false, cond, _&&_, _||_}
+use lib.Dec.{ltb, leb, eqb}
+use lib.ListN.{length, getD}
+use Rattle.signed.specs.Words.{rank}
+use Rattle.table.specs.Words.{typeAt, attributeAt, particleAt, sizeOf, wordAt, typesIn, attributesIn, particlesIn}
+use Rattle.table.specs.First.{Verdict, first, judge, _then_}
+
+abbrev pub within : (least most x : ℕ) → Bool
+within least most x = leb least x && leb x most
+
+-- The header words, each where it is given: 1; T types, 1 to 256; A attribute rows and P particle rows, up to 1,024.
+unfoldable pub given : (l : List ℕ) (i least most : ℕ) → Bool
+given l i least most = cond (ltb i (length l)) (within least most (wordAt l i)) true
+
+unfoldable pub headerWords : List ℕ → List Bool
+headerWords l = given l 0 1 1 ∷ given l 1 1 256 ∷ given l 2 0 1024 ∷ given l 3 0 1024 ∷ []
+
+-- A type row: held, content, first attribute row, attribute count (a pair is blamed on its later word); then a, b and c by content.
+unfoldable pub frontWords : (A held content start count : ℕ) → List Bool
+frontWords A held content start count = leb held 1 ∷ leb content 2 ∷ leb start A ∷ leb (start + count) A ∷ []
+
+-- of the simple kinds, 0 to 6, two have parameters
+abbrev pub ranged : ℕ
+ranged = 1
+
+abbrev pub enumeration : ℕ
+enumeration = 4
+
+abbrev pub lastKind : ℕ
+lastKind = 6
+
+unfoldable pub unusedWords : (b c : ℕ) → List Bool
+unusedWords b c = eqb b 0 ∷ eqb c 0 ∷ []
+
+-- signed ends, b not over c
+unfoldable pub rangeWords : (b c : ℕ) → List Bool
+rangeWords b c = true ∷ leb (rank b) (rank c) ∷ []
+
+unfoldable pub enumerationWords : (b c : ℕ) → List Bool
+enumerationWords b c = within 1 65536 b ∷ eqb c 0 ∷ []
+
+unfoldable pub kindWords : (kind b c : ℕ) → List Bool
+kindWords kind b c =
+    cond (eqb kind ranged) (rangeWords b c) (cond (eqb kind enumeration) (enumerationWords b c) (unusedWords b c))
+
+unfoldable pub emptyWords : (a b c : ℕ) → List Bool
+emptyWords a b c = eqb a 0 ∷ unusedWords b c
+
+unfoldable pub simpleWords : (kind b c : ℕ) → List Bool
+simpleWords kind b c = leb kind lastKind ∷ kindWords kind b c
+
+unfoldable pub particlesWords : (P a b c : ℕ) → List Bool
+particlesWords P a b c = ltb a P ∷ unusedWords b c
+
+-- content 0 is empty, 1 simple, 2 particles
+unfoldable pub contentWords : (P content a b c : ℕ) → List Bool
+contentWords P zero a b c = emptyWords a b c
+contentWords P (suc zero) a b c = simpleWords a b c
+contentWords P (suc (suc k)) a b c = particlesWords P a b c
+
+-- An attribute row: name, required, and a type with simple content and no attributes.
+unfoldable pub attributeWords : (T name must type content count : ℕ) → List Bool
+attributeWords T name must type content count =
+    leb name 65535 ∷ leb must 1 ∷ (ltb type T && (eqb content 1 && eqb count 0)) ∷ []
+
+-- Of a particle row the three words after the kind. A child is over its parent's row p and below P.
+abbrev pub child : (P p x : ℕ) → Bool
+child P p x = ltb p x && ltb x P
+
+unfoldable pub elementWords : (T name type z : ℕ) → List Bool
+elementWords T name type z = leb name 65535 ∷ ltb type T ∷ eqb z 0 ∷ []
+
+-- a sequence or a choice: children are consecutive rows, so many at least
+unfoldable pub groupWords : (P least p start number z : ℕ) → List Bool
+groupWords P least p start number z = child P p start ∷ (within least 64 number && leb (start + number) P) ∷ eqb z 0 ∷ []
+
+abbrev pub unbounded : ℕ
+unbounded = 65536
+
+unfoldable pub occursWords : (P p x least most : ℕ) → List Bool
+occursWords P p x least most =
+    child P p x ∷ leb least 65535 ∷ (eqb most unbounded || (within 1 65535 most && leb least most)) ∷ []
+
+-- kind 0 is an element, 1 a sequence, 2 a choice, 3 occurs
+unfoldable pub particleWords : (T P p kind x y z : ℕ) → List Bool
+particleWords T P p zero x y z = true ∷ elementWords T x y z
+particleWords T P p (suc zero) x y z = true ∷ groupWords P 1 p x y z
+particleWords T P p (suc (suc zero)) x y z = true ∷ groupWords P 2 p x y z
+particleWords T P p (suc (suc (suc zero))) x y z = true ∷ occursWords P p x y z
+particleWords T P p (suc (suc (suc (suc k)))) x y z = false ∷ false ∷ false ∷ false ∷ []
+
+-- the tests of n rows, from row i on
+unfoldable pub rows : (f : ℕ → List Bool) (i n : ℕ) → List Bool
+rows f i zero = []
+rows f i (suc n) = f i ++ rows f (suc i) n
+
+-- The rows of a table of words w with T types, A attribute rows and P particle rows.
+module _ (w : ℕ → ℕ) where
+  unfoldable pub typeRow : (A P t : ℕ) → List Bool
+  typeRow A P t =
+      let i = typeAt t in
+      frontWords A (w i) (w (i + 1)) (w (i + 2)) (w (i + 3)) ++ contentWords P (w (i + 1)) (w (i + 4)) (w (i + 5)) (w (i + 6))
+
+  unfoldable pub attributeRow : (T a : ℕ) → List Bool
+  attributeRow T a =
+      let i = attributeAt T a in
+      let j = typeAt (w (i + 2)) in
+      attributeWords T (w i) (w (i + 1)) (w (i + 2)) (w (j + 1)) (w (j + 3))
+
+  unfoldable pub particleRow : (T A P p : ℕ) → List Bool
+  particleRow T A P p = let i = particleAt T A p in particleWords T P p (w i) (w (i + 1)) (w (i + 2)) (w (i + 3))
+
+  unfoldable pub rowWords : (T A P : ℕ) → List Bool
+  rowWords T A P = rows (typeRow A P) 0 T ++ (rows (attributeRow T) 0 A ++ rows (particleRow T A P) 0 P)
+
+-- The header words that are given, then the length, of which a wrong one is named at the number of words given, then every other word.
+unfoldable pub verdictFrom : (l : List ℕ) (T A P : ℕ) → Verdict
+verdictFrom l T A P =
+    first 0 (headerWords l) then judge (length l) (eqb (length l) (sizeOf T A P)) then first 4 (rowWords (wordAt l) T A P)
+
+unfoldable pub verdict : List ℕ → Verdict
+verdict l = verdictFrom l (typesIn l) (attributesIn l) (particlesIn l)
+
+-- the length is right
+abbrev pub Sized : List ℕ → Type 0
+Sized l = length l ≡ sizeOf (typesIn l) (attributesIn l) (particlesIn l)
+
+-- word i is right, given the words before it
+unfoldable pub rightAt : List ℕ → ℕ → Bool
+rightAt l i = getD (headerWords l ++ rowWords (wordAt l) (typesIn l) (attributesIn l) (particlesIn l)) i true

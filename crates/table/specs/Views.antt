@@ -1,0 +1,40 @@
+-- What the answers of the code mean.
+use Prim.Native.Nat.{ℕ}
+use Rattle.table.specs.First.{Verdict}
+use Rattle.table.specs.First.Verdict.{right, wrong}
+use mathlib.Core.Path.{_≡_}
+use mathlib.Core.List.{List}
+use Rattle.table.specs.Rows.{Row, Content, Attribute, firstOf, countOf}
+use Rattle.table.specs.Rows.Row.{element, sequence, choice, occurs}
+use Rattle.table.specs.Rows.Content.{empty, simple, particles}
+use Rattle.table.specs.declared.answers.Verdict as code
+use Rattle.table.specs.declared.answers.Verdict.the-variants.{Right, Wrong}
+use Rattle.table.specs.declared.answers.Content as code·content
+use Rattle.table.specs.declared.answers.Content.the-variants.{Empty, Simple, Particles}
+use Rattle.table.specs.declared.answers.Particle as code·particle
+use Rattle.table.specs.declared.answers.Particle.the-variants.{Element, Sequence, Choice, Occurs}
+use Rattle.table.specs.declared.answers.Attribute as code·attribute
+use Rattle.table.specs.declared.answers.Span as code·span
+
+abbrev pub verdictIs : code.Verdict → Verdict
+verdictIs Right = right
+verdictIs (Wrong i) = wrong i
+
+abbrev pub contentIs : code·content.Content → Content
+contentIs Empty = empty
+contentIs (Simple kind b c) = simple kind b c
+contentIs (Particles row) = particles row
+
+abbrev pub rowIs : code·particle.Particle → Row
+rowIs (Element name type) = element name type
+rowIs (Sequence first count) = sequence first count
+rowIs (Choice first count) = choice first count
+rowIs (Occurs child least most) = occurs child least most
+
+abbrev pub attributeIs : code·attribute.Attribute → Attribute
+attributeIs a = record { name = a .name; must = a .must; kind = a .kind; b = a .b; c = a .c }
+
+-- the attribute rows of a type, as the first and how many
+pub record Spans (l : List ℕ) (t : ℕ) (r : code·span.Span) : Type 0 where
+  pub first-is : r .first ≡ firstOf l t
+  pub count-is : r .count ≡ countOf l t

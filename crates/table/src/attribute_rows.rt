@@ -1,0 +1,62 @@
+// The attribute rows, of three words each: name, required, type.
+use crate::answers::Verdict;
+use crate::rows::word;
+ghost use mathlib.Core.Path.{_≡_};
+ghost use Rattle.table.specs.First.{first};
+ghost use Rattle.table.specs.Valid.{attributeWords, attributeRow, rows};
+ghost use Rattle.table.specs.Views.{verdictIs};
+ghost use Rattle.table.specs.Words.{attributeAt, wordAt};
+
+// The three words, with the content and the attribute count of the type.
+fn words(types: u32, name: u32, must: u32, t: u32, content: u32, count: u32) -> Verdict
+    ensures { λ r. ⌜ verdictIs r ≡ first 0 (attributeWords types name must t content count) ⌝ }
+{
+    if 65535 < name {
+        return Verdict::Wrong(0);
+    }
+    if 1 < must {
+        return Verdict::Wrong(1);
+    }
+    if types <= t {
+        return Verdict::Wrong(2);
+    }
+    if content != 1 {
+        return Verdict::Wrong(2);
+    }
+    if count != 0 {
+        return Verdict::Wrong(2);
+    }
+    Verdict::Right
+}
+
+// The attribute row a.
+fn row(table: &[u32], types: u32, a: u32) -> Verdict
+    ensures { λ r. ⌜ verdictIs r ≡ first (attributeAt types a) (attributeRow (wordAt (now (table .entry))) types a) ⌝ }
+{
+    let base = 4 + 7 * (types as usize) + 3 * (a as usize);
+    let name = word(table, base);
+    let must = word(table, base + 1);
+    let t = word(table, base + 2);
+    let simple = 4 + 7 * (t as usize);
+    let content = word(table, simple + 1);
+    let count = word(table, simple + 3);
+    match words(types, name, must, t, content, count) {
+        Verdict::Right => Verdict::Right,
+        Verdict::Wrong(k) => Verdict::Wrong(base + k),
+    }
+}
+
+// Every attribute row, up to one at fault.
+pub fn all(table: &[u32], types: u32, attributes: u32) -> Verdict
+    ensures { λ r. ⌜ verdictIs r ≡ first (attributeAt types 0) (rows (attributeRow (wordAt (now (table .entry))) types) 0 attributes) ⌝ }
+{
+    let mut a = 0;
+    while a < attributes {
+        let r = row(table, types, a);
+        let Verdict::Right = r else {
+            return r;
+        };
+        a += 1;
+    }
+    Verdict::Right
+}

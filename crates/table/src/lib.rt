@@ -1,0 +1,53 @@
+// The check of a schema table, a list of 32-bit words; what stands in its rows is in `rows`.
+mod answers;
+mod attribute_rows;
+mod header;
+mod particle_rows;
+pub mod rows;
+mod type_rows;
+
+pub use answers::Attribute;
+pub use answers::Content;
+pub use answers::Particle;
+pub use answers::Span;
+pub use answers::Verdict;
+use rows::word;
+ghost use mathlib.Core.Path.{_≡_};
+ghost use Rattle.table.specs.First.{first};
+ghost use Rattle.table.specs.Valid.{rowWords, verdict};
+ghost use Rattle.table.specs.Views.{verdictIs};
+ghost use Rattle.table.specs.Words.{wordAt};
+
+// The rows after the header, in order.
+fn every_row(table: &[u32], types: u32, attributes: u32, particles: u32) -> Verdict
+    ensures { λ r. ⌜ verdictIs r ≡ first 4 (rowWords (wordAt (now (table .entry))) types attributes particles) ⌝ }
+{
+    let t = type_rows::all(table, types, attributes, particles);
+    let Verdict::Right = t else {
+        return t;
+    };
+    let a = attribute_rows::all(table, types, attributes);
+    let Verdict::Right = a else {
+        return a;
+    };
+    particle_rows::all(table, types, attributes, particles)
+}
+
+// The header words that are given, then the length, then every other word: the first at fault.
+pub fn check(table: &[u32]) -> Verdict
+    ensures { λ r. ⌜ verdictIs r ≡ verdict (now (table .entry)) ⌝ }
+{
+    let h = header::given(table);
+    let Verdict::Right = h else {
+        return h;
+    };
+    let types = word(table, 1);
+    let attributes = word(table, 2);
+    let particles = word(table, 3);
+    let size = 4 + 7 * (types as usize) + 3 * (attributes as usize) + 4 * (particles as usize);
+    let n = table.len();
+    if n != size {
+        return Verdict::Wrong(n);
+    }
+    every_row(table, types, attributes, particles)
+}

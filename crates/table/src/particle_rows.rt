@@ -1,0 +1,126 @@
+// The particle rows, of four words each: a kind, and three words by that kind. Row p is told where a child has to lie over it.
+use crate::answers::Verdict;
+use crate::rows::word;
+ghost use mathlib.Core.Path.{_≡_};
+ghost use Rattle.table.specs.First.{first};
+ghost use Rattle.table.specs.Valid.{elementWords, groupWords, occursWords, particleWords, particleRow, rows};
+ghost use Rattle.table.specs.Views.{verdictIs};
+ghost use Rattle.table.specs.Words.{particleAt, wordAt};
+
+// An element: name, type, 0.
+fn element(types: u32, name: u32, t: u32, last: u32) -> Verdict
+    ensures { λ r. ⌜ verdictIs r ≡ first 1 (elementWords types name t last) ⌝ }
+{
+    if 65535 < name {
+        return Verdict::Wrong(1);
+    }
+    if types <= t {
+        return Verdict::Wrong(2);
+    }
+    if last != 0 {
+        return Verdict::Wrong(3);
+    }
+    Verdict::Right
+}
+
+// A sequence or a choice: first child, number of children, so many at least, 0.
+fn group(particles: u32, least: u32, p: u32, start: u32, number: u32, last: u32) -> Verdict
+    ensures { λ r. ⌜ verdictIs r ≡ first 1 (groupWords particles least p start number last) ⌝ }
+{
+    if start <= p {
+        return Verdict::Wrong(1);
+    }
+    if particles <= start {
+        return Verdict::Wrong(1);
+    }
+    if number < least {
+        return Verdict::Wrong(2);
+    }
+    if 64 < number {
+        return Verdict::Wrong(2);
+    }
+    if particles - start < number {
+        return Verdict::Wrong(2);
+    }
+    if last != 0 {
+        return Verdict::Wrong(3);
+    }
+    Verdict::Right
+}
+
+// Occurs: child, least, most.
+fn occurs(particles: u32, p: u32, child: u32, least: u32, most: u32) -> Verdict
+    ensures { λ r. ⌜ verdictIs r ≡ first 1 (occursWords particles p child least most) ⌝ }
+{
+    if child <= p {
+        return Verdict::Wrong(1);
+    }
+    if particles <= child {
+        return Verdict::Wrong(1);
+    }
+    if 65535 < least {
+        return Verdict::Wrong(2);
+    }
+    if most == 65536 {
+        return Verdict::Right;
+    }
+    if most == 0 {
+        return Verdict::Wrong(3);
+    }
+    if 65535 < most {
+        return Verdict::Wrong(3);
+    }
+    if most < least {
+        return Verdict::Wrong(3);
+    }
+    Verdict::Right
+}
+
+// The four words.
+fn by_kind(types: u32, particles: u32, p: u32, kind: u32, x: u32, y: u32, z: u32) -> Verdict
+    ensures { λ r. ⌜ verdictIs r ≡ first 0 (particleWords types particles p kind x y z) ⌝ }
+{
+    if kind == 0 {
+        return element(types, x, y, z);
+    }
+    if kind == 1 {
+        return group(particles, 1, p, x, y, z);
+    }
+    if kind == 2 {
+        return group(particles, 2, p, x, y, z);
+    }
+    if kind == 3 {
+        return occurs(particles, p, x, y, z);
+    }
+    Verdict::Wrong(0)
+}
+
+// The particle row p.
+fn row(table: &[u32], types: u32, attributes: u32, particles: u32, p: u32) -> Verdict
+    ensures { λ r. ⌜ verdictIs r ≡ first (particleAt types attributes p) (particleRow (wordAt (now (table .entry))) types attributes particles p) ⌝ }
+{
+    let base = 4 + 7 * (types as usize) + 3 * (attributes as usize) + 4 * (p as usize);
+    let kind = word(table, base);
+    let x = word(table, base + 1);
+    let y = word(table, base + 2);
+    let z = word(table, base + 3);
+    match by_kind(types, particles, p, kind, x, y, z) {
+        Verdict::Right => Verdict::Right,
+        Verdict::Wrong(k) => Verdict::Wrong(base + k),
+    }
+}
+
+// Every particle row, up to one at fault.
+pub fn all(table: &[u32], types: u32, attributes: u32, particles: u32) -> Verdict
+    ensures { λ r. ⌜ verdictIs r ≡ first (particleAt types attributes 0) (rows (particleRow (wordAt (now (table .entry))) types attributes particles) 0 particles) ⌝ }
+{
+    let mut p = 0;
+    while p < particles {
+        let r = row(table, types, attributes, particles, p);
+        let Verdict::Right = r else {
+            return r;
+        };
+        p += 1;
+    }
+    Verdict::Right
+}

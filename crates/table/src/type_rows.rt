@@ -1,0 +1,154 @@
+// The type rows, of seven words each. The place of a word at fault counts from its row's first word until `row` adds that word's own.
+use crate::answers::Verdict;
+use crate::rows::word;
+use signed::Gap;
+use signed::gap;
+ghost use mathlib.Core.Path.{_≡_};
+ghost use Rattle.table.specs.First.{first};
+ghost use Rattle.table.specs.Valid.{frontWords, emptyWords, unusedWords, rangeWords, enumerationWords, simpleWords, particlesWords, contentWords, typeRow, rows};
+ghost use Rattle.table.specs.Views.{verdictIs};
+ghost use Rattle.table.specs.Words.{typeAt, wordAt};
+
+// The first four words: held, content, first attribute row and attribute count.
+fn front(attributes: u32, held: u32, content: u32, start: u32, count: u32) -> Verdict
+    ensures { λ r. ⌜ verdictIs r ≡ first 0 (frontWords attributes held content start count) ⌝ }
+{
+    if 1 < held {
+        return Verdict::Wrong(0);
+    }
+    if 2 < content {
+        return Verdict::Wrong(1);
+    }
+    if attributes < start {
+        return Verdict::Wrong(2);
+    }
+    if attributes - start < count {
+        return Verdict::Wrong(3);
+    }
+    Verdict::Right
+}
+
+// b and c where they are not used.
+fn unused(b: u32, c: u32) -> Verdict
+    ensures { λ r. ⌜ verdictIs r ≡ first 5 (unusedWords b c) ⌝ }
+{
+    if b != 0 {
+        return Verdict::Wrong(5);
+    }
+    if c != 0 {
+        return Verdict::Wrong(6);
+    }
+    Verdict::Right
+}
+
+// a, b and c of empty content.
+fn empty(a: u32, b: u32, c: u32) -> Verdict
+    ensures { λ r. ⌜ verdictIs r ≡ first 4 (emptyWords a b c) ⌝ }
+{
+    if a != 0 {
+        return Verdict::Wrong(4);
+    }
+    unused(b, c)
+}
+
+// b and c, the ends of a range.
+fn ends(b: u32, c: u32) -> Verdict
+    ensures { λ r. ⌜ verdictIs r ≡ first 5 (rangeWords b c) ⌝ }
+{
+    match gap(b, c) {
+        Gap::Under => Verdict::Wrong(6),
+        Gap::By(_) => Verdict::Right,
+    }
+}
+
+// b, the number of an enumeration's values, and c.
+fn values(b: u32, c: u32) -> Verdict
+    ensures { λ r. ⌜ verdictIs r ≡ first 5 (enumerationWords b c) ⌝ }
+{
+    if b == 0 {
+        return Verdict::Wrong(5);
+    }
+    if 65536 < b {
+        return Verdict::Wrong(5);
+    }
+    if c != 0 {
+        return Verdict::Wrong(6);
+    }
+    Verdict::Right
+}
+
+// a, b and c of simple content.
+fn simple(a: u32, b: u32, c: u32) -> Verdict
+    ensures { λ r. ⌜ verdictIs r ≡ first 4 (simpleWords a b c) ⌝ }
+{
+    if 6 < a {
+        return Verdict::Wrong(4);
+    }
+    if a == 1 {
+        return ends(b, c);
+    }
+    if a == 4 {
+        return values(b, c);
+    }
+    unused(b, c)
+}
+
+// a, b and c of particles.
+fn particle(particles: u32, a: u32, b: u32, c: u32) -> Verdict
+    ensures { λ r. ⌜ verdictIs r ≡ first 4 (particlesWords particles a b c) ⌝ }
+{
+    if particles <= a {
+        return Verdict::Wrong(4);
+    }
+    unused(b, c)
+}
+
+// a, b and c by the content.
+fn by_content(particles: u32, content: u32, a: u32, b: u32, c: u32) -> Verdict
+    ensures { λ r. ⌜ verdictIs r ≡ first 4 (contentWords particles content a b c) ⌝ }
+{
+    if content == 0 {
+        return empty(a, b, c);
+    }
+    if content == 1 {
+        return simple(a, b, c);
+    }
+    particle(particles, a, b, c)
+}
+
+// The type row t.
+fn row(table: &[u32], attributes: u32, particles: u32, t: u32) -> Verdict
+    ensures { λ r. ⌜ verdictIs r ≡ first (typeAt t) (typeRow (wordAt (now (table .entry))) attributes particles t) ⌝ }
+{
+    let base = 4 + 7 * (t as usize);
+    let held = word(table, base);
+    let content = word(table, base + 1);
+    let start = word(table, base + 2);
+    let count = word(table, base + 3);
+    let a = word(table, base + 4);
+    let b = word(table, base + 5);
+    let c = word(table, base + 6);
+    let h = front(attributes, held, content, start, count);
+    if let Verdict::Wrong(k) = h {
+        return Verdict::Wrong(base + k);
+    }
+    match by_content(particles, content, a, b, c) {
+        Verdict::Right => Verdict::Right,
+        Verdict::Wrong(k) => Verdict::Wrong(base + k),
+    }
+}
+
+// Every type row, up to one at fault.
+pub fn all(table: &[u32], types: u32, attributes: u32, particles: u32) -> Verdict
+    ensures { λ r. ⌜ verdictIs r ≡ first (typeAt 0) (rows (typeRow (wordAt (now (table .entry))) attributes particles) 0 types) ⌝ }
+{
+    let mut t = 0;
+    while t < types {
+        let r = row(table, attributes, particles, t);
+        let Verdict::Right = r else {
+            return r;
+        };
+        t += 1;
+    }
+    Verdict::Right
+}

@@ -1,0 +1,51 @@
+-- The enums that the code takes and answers, as the meanings have them.
+use Prim.Native.Nat.{ℕ, _+_, _-_, _*_, _^_, _≤_}
+use mathlib.Core.Path.{_≡_}
+use mathlib.Core.List.{List}
+use Rattle.wire.specs.Res.{Res, got, fault}
+use Rattle.value.specs.Code.{Code, choice, five, signed, some, shifted}
+use Rattle.value.specs.Simple.{Simple, plain, text, bytesAt}
+use Rattle.value.specs.declared.Inner as innerT
+use Rattle.value.specs.declared.Inner.the-variants as iv
+use Rattle.value.specs.declared.Code as codeT
+use Rattle.value.specs.declared.Code.the-variants as cv
+use Rattle.value.specs.declared.Form as formT
+use Rattle.value.specs.declared.Form.the-variants as fv
+use Rattle.value.specs.declared.Value as valueT
+use Rattle.value.specs.declared.Value.the-variants as vv
+use Rattle.value.specs.declared.Size as sizeT
+use Rattle.value.specs.declared.Size.the-variants as sv
+
+unfoldable pub innerIs : innerT.Inner → Code
+innerIs (iv.Choice n) = choice n
+innerIs (iv.Five m) = five m
+
+unfoldable pub codeIs : codeT.Code → Code
+codeIs (cv.Plain i) = innerIs i
+codeIs cv.Word = choice (2 ^ 32)
+codeIs cv.Signed = signed
+codeIs (cv.Some i) = some (innerIs i)
+codeIs (cv.Shifted lo i) = shifted lo (innerIs i)
+
+unfoldable pub formIs : formT.Form → Simple
+formIs (fv.Number c) = plain (codeIs c)
+formIs fv.Text = text
+
+-- a value's word, its text bytes, which end where it does, and the place past it
+unfoldable pub valueIs : (ℕ → ℕ) → valueT.Value → Res (ℕ × List ℕ × ℕ)
+valueIs b (vv.Read word n bits next) = got (word, bytesAt b (next .0 - 8 * n .0) (n .0), next .0)
+valueIs b (vv.Refuse e) = fault e
+
+-- the bits that it took from the place at
+abbrev pub Took : ℕ → valueT.Value → Type 0
+Took at (vv.Read word n bits next) = next .0 ≡ at + bits .0
+Took at (vv.Refuse e) = Unit {0}
+
+unfoldable pub sizeIs : sizeT.Size → Res ℕ
+sizeIs (sv.Takes n) = got (n .0)
+sizeIs (sv.Refuse e) = fault e
+
+-- so many bits at most
+abbrev pub Under : ℕ → sizeT.Size → Type 0
+Under k (sv.Takes n) = n .0 ≤ k
+Under k (sv.Refuse e) = Unit {0}

@@ -1,0 +1,109 @@
+-- The codes of one number: which numbers a code has, their bits, its reading, the writer's test. Whatever else is read or written
+-- goes by these names and their laws, so that a new code is a case here and nowhere else.
+use Prim.Native.Nat.{ℕ, zero, suc, _+_, _-_, _%_, _<_, _≤_, _^_, min}
+use mathlib.Core.Bool.{Bool, true, false, cond}
+use mathlib.Core.List.{List, [], _∷_, _++_}
+use lib.Dec.{leb, ltb}
+use lib.ListN.{length}
+use Rattle.wire.specs.Res.{Res, got, fault, _>>=_, _>>_, guard, atMost}
+use Rattle.wire.specs.Bits.{fixedAt, digits}
+use Rattle.wire.specs.Width.{width}
+use Rattle.wire.specs.Number.{read5, code5}
+use Rattle.signed.specs.Words.{up, down, signOf, magnitudeOf, wordOf}
+
+pub data Code : Type 0 where
+  -- one of n, in the width of n
+  choice : (n : ℕ) → Code
+  -- vluimsbf5, up to a limit
+  five : (most : ℕ) → Code
+  -- a sign bit and a vluimsbf5 magnitude; the word is two's complement
+  signed : Code
+  -- a bit for none, or a bit and the number, which is not 0
+  some : Code → Code
+  -- the word less lo, modulo 2^32
+  shifted : (lo : ℕ) → Code → Code
+
+-- the word v less the word lo
+abbrev pub less : ℕ → ℕ → ℕ
+less lo v = down (lo % 2 ^ 32) v
+
+-- the numbers, and their bits
+unfoldable pub Fits : Code → ℕ → Type 0
+Fits (choice n) v = v < n
+Fits (five most) v = v ≤ min most (2 ^ 32 - 1)
+Fits signed v = v < 2 ^ 32
+Fits (some c) zero = Unit
+Fits (some c) (suc k) = Fits c (suc k)
+Fits (shifted lo c) v = (v < 2 ^ 32) × Fits c (less lo v)
+
+abbrev pub choiceBits : ℕ → ℕ → List ℕ
+choiceBits n v = digits (width n) v
+
+unfoldable pub bitsOf : Code → ℕ → List ℕ
+bitsOf (choice n) v = choiceBits n v
+bitsOf (five most) v = code5 v
+bitsOf signed v = choiceBits 2 (signOf v) ++ code5 (magnitudeOf v)
+bitsOf (some c) zero = choiceBits 2 0
+bitsOf (some c) (suc k) = choiceBits 2 1 ++ bitsOf c (suc k)
+bitsOf (shifted lo c) v = bitsOf c (less lo v)
+
+-- the reading: a fixed width that names nothing is 14, a vluimsbf5 over its limit is 13
+unfoldable pub choiceAt : (ℕ → ℕ) → ℕ → ℕ → ℕ → Res (ℕ × ℕ)
+choiceAt b n wall at = do
+  (v, p) ← fixedAt b wall at (width n)
+  atMost (v + 1) n 14
+  got (v, p)
+
+unfoldable pub numberAt : (ℕ → ℕ) → ℕ → ℕ → ℕ → Res (ℕ × ℕ)
+numberAt b most wall at = do
+  (v, p) ← read5 b wall at
+  atMost v most 13
+  got (v, p)
+
+-- after the sign: 13, then 15; after the bit that says whether there are some: none of them is 14
+unfoldable pub signedOf : ℕ → ℕ → ℕ → Res (ℕ × ℕ)
+signedOf zero m p = do
+  atMost (m + 1) (2 ^ 31) 13
+  got (wordOf 0 m, p)
+signedOf (suc k) m p = do
+  atMost m (2 ^ 31) 13
+  atMost 1 m 15
+  got (wordOf 1 m, p)
+
+unfoldable pub someOf : (ℕ → Res (ℕ × ℕ)) → ℕ → ℕ → Res (ℕ × ℕ)
+someOf rd zero p = got (0, p)
+someOf rd (suc k) p = do
+  (v, q) ← rd p
+  atMost 1 v 14
+  got (v, q)
+
+unfoldable pub codeAt : Code → (ℕ → ℕ) → ℕ → ℕ → Res (ℕ × ℕ)
+codeAt (choice n) b wall at = choiceAt b n wall at
+codeAt (five most) b wall at = numberAt b most wall at
+codeAt signed b wall at = do
+  (s, p) ← choiceAt b 2 wall at
+  (m, q) ← read5 b wall p
+  signedOf s m q
+codeAt (some c) b wall at = do
+  (f, p) ← choiceAt b 2 wall at
+  someOf (codeAt c b wall) f p
+codeAt (shifted lo c) b wall at = do
+  (k, p) ← codeAt c b wall at
+  atMost (k + 1) (2 ^ 32) 13
+  got (up lo k, p)
+
+-- the writer's test, and the code or 20
+unfoldable pub fits : Code → ℕ → Bool
+fits (choice n) v = ltb v n
+fits (five most) v = leb v (min most (2 ^ 32 - 1))
+fits signed v = ltb v (2 ^ 32)
+fits (some c) zero = true
+fits (some c) (suc k) = fits c (suc k)
+fits (shifted lo c) v = cond (ltb v (2 ^ 32)) (fits c (less lo v)) false
+
+unfoldable pub codeOut : Code → ℕ → Res (List ℕ)
+codeOut c v = guard (fits c v) 20 >> got (bitsOf c v)
+
+-- how many bits that is
+unfoldable pub sizeOut : Code → ℕ → Res ℕ
+sizeOut c v = guard (fits c v) 20 >> got (length (bitsOf c v))

@@ -1,0 +1,125 @@
+-- Each way through the functions that choose a code.
+use Prim.Native.Nat.{ℕ, zero, suc, _+_, _-_, _^_, _<_, _≤_}
+use mathlib.Core.Path.{_≡_, refl, sym, ap, _∙_}
+use native.Mathlib.Omega.{arith}
+use borrow.Author.Tests.{le-leb, lt-leb, lt-ltb, le-ltb, eq-eqb, ne-eqb}
+use Rattle.signed.specs.Words.{Gap, under, by, gapOf}
+use Rattle.signed.specs.Views.{gapIs}
+use Rattle.signed.specs.Laws.{met-by, met-under}
+use Rattle.signed.specs.declared.answers.Gap as gapT
+use Rattle.signed.specs.declared.answers.Gap.the-variants.{Under, By}
+use Rattle.value.specs.Code.{Code, choice, five, signed, some, shifted}
+use Rattle.value.specs.Simple.{Simple, plain, text, nothing, spanCode, rangeCode, unboundedCode, boundedCode, timesCode, simpleOf}
+use Rattle.value.specs.Answer.{innerIs, codeIs, formIs}
+use Rattle.value.specs.declared.Inner.the-variants as iv
+use Rattle.value.specs.declared.Code as codeT
+use Rattle.value.specs.declared.Code.the-variants as cv
+use Rattle.value.specs.declared.Form.the-variants as fv
+
+module _ (b c : ℕ) (r : gapT.Gap) (e : gapIs r ≡ gapOf b c) where
+  pub range-under : r ≡ Under → codeIs (cv.Plain (iv.Choice 0)) ≡ rangeCode b c
+  unfolding rangeCode spanCode codeIs innerIs
+  range-under w = sym (rw (met-under b c r e w))
+
+  module _ (k : ℕ) (w : r ≡ By k) where
+    pub range-near : k ≤ 65535 → codeIs (cv.Shifted b (iv.Choice (k + 1))) ≡ rangeCode b c
+    unfolding rangeCode spanCode codeIs innerIs
+    range-near h = sym (rw (met-by b c r e k w, le-leb _ _ h))
+
+    pub range-far : 65535 < k → codeIs (cv.Shifted b (iv.Five k)) ≡ rangeCode b c
+    unfolding rangeCode spanCode codeIs innerIs
+    range-far h = sym (rw (met-by b c r e k w, lt-leb _ _ h))
+
+pub ruleset range-ways = (range-under, range-near, range-far)
+
+pub open-none : (least : ℕ) → least ≡ 0 → codeIs (cv.Some (iv.Five 65535)) ≡ unboundedCode least
+unfolding unboundedCode codeIs innerIs
+open-none least z = rw z
+
+pub open-some : (least k : ℕ) → (least ≡ 0 → ⊥) → k ≡ 65535 - least → codeIs (cv.Shifted least (iv.Five k)) ≡ unboundedCode least
+unfolding unboundedCode codeIs innerIs
+open-some zero k z e = absurd (z refl)
+open-some (suc n) k z e = rw e
+
+pub ruleset open-ways = (open-none, open-some)
+
+module _ (least most : ℕ) where
+  pub bound-flag : least ≡ 0 → most ≤ 1 → codeIs (cv.Plain (iv.Choice (most + 1))) ≡ boundedCode least most
+  unfolding boundedCode codeIs innerIs
+  bound-flag z h = sym (rw (z, le-leb _ _ h))
+
+  pub bound-some : least ≡ 0 → 1 < most → codeIs (cv.Some (iv.Choice (most + 1))) ≡ boundedCode least most
+  unfolding boundedCode codeIs innerIs
+  bound-some z h = sym (rw (z, lt-leb _ _ h))
+
+pub bound-from : (least most k : ℕ) → (least ≡ 0 → ⊥) → k ≡ most - least → codeIs (cv.Shifted least (iv.Choice (k + 1))) ≡ boundedCode least most
+unfolding boundedCode codeIs innerIs
+bound-from zero most k z e = absurd (z refl)
+bound-from (suc n) most k z e = rw e
+
+pub ruleset bound-ways = (bound-flag, bound-some, bound-from)
+
+module _ (least most : ℕ) where
+  pub times-crossed : most < least → codeIs (cv.Plain (iv.Choice 0)) ≡ timesCode least most
+  unfolding timesCode codeIs innerIs
+  times-crossed h = sym (rw (lt-ltb _ _ h))
+
+  module _ (h : least ≤ most) where
+    pub times-over : 65536 < most → codeIs (cv.Plain (iv.Choice 0)) ≡ timesCode least most
+    unfolding timesCode codeIs innerIs
+    times-over k = sym (rw (le-ltb _ _ h, lt-ltb _ _ k))
+
+    module _ (k : most ≤ 65536) where
+      pub times-open : (r : codeT.Code) → most ≡ 65536 → codeIs r ≡ unboundedCode least → codeIs r ≡ timesCode least most
+      unfolding timesCode
+      times-open r z e = e ∙ sym (rw (le-ltb _ _ h, le-ltb _ _ k, eq-eqb _ _ z))
+
+      pub times-bounded : (r : codeT.Code) → (most ≡ 65536 → ⊥) → codeIs r ≡ boundedCode least most → codeIs r ≡ timesCode least most
+      unfolding timesCode
+      times-bounded r z e = e ∙ sym (rw (le-ltb _ _ h, le-ltb _ _ k, ne-eqb _ _ z))
+
+pub ruleset times-ways = (times-crossed, times-over, times-open, times-bounded)
+
+-- a kind as the tests tell it
+module _ (kind b c : ℕ) where
+  pub simple-boolean : kind ≡ 0 → formIs (fv.Number (cv.Plain (iv.Choice 2))) ≡ simpleOf kind b c
+  unfolding simpleOf formIs codeIs innerIs
+  simple-boolean z = sym (rw z)
+
+  pub simple-ranged : (r : codeT.Code) → kind ≡ 1 → codeIs r ≡ rangeCode b c → formIs (fv.Number r) ≡ simpleOf kind b c
+  unfolding simpleOf formIs
+  simple-ranged r z e = rw e (sym (rw z))
+
+  pub simple-unsigned : kind ≡ 2 → formIs (fv.Number (cv.Plain (iv.Five 4294967295))) ≡ simpleOf kind b c
+  unfolding simpleOf formIs codeIs innerIs
+  simple-unsigned z = sym (rw z)
+
+  pub simple-signed : kind ≡ 3 → formIs (fv.Number cv.Signed) ≡ simpleOf kind b c
+  unfolding simpleOf formIs codeIs
+  simple-signed z = sym (rw z)
+
+  pub simple-enumerated : kind ≡ 4 → formIs (fv.Number (cv.Plain (iv.Choice b))) ≡ simpleOf kind b c
+  unfolding simpleOf formIs codeIs innerIs
+  simple-enumerated z = sym (rw z)
+
+  pub simple-text : kind ≡ 5 → formIs fv.Text ≡ simpleOf kind b c
+  unfolding simpleOf formIs
+  simple-text z = sym (rw z)
+
+  pub simple-float : kind ≡ 6 → formIs (fv.Number cv.Word) ≡ simpleOf kind b c
+  unfolding simpleOf formIs codeIs
+  simple-float z = sym (rw z)
+
+pub simple-none : (kind b c : ℕ) → (kind ≡ 0 → ⊥) → (kind ≡ 1 → ⊥) → (kind ≡ 2 → ⊥) → (kind ≡ 3 → ⊥) → (kind ≡ 4 → ⊥) → (kind ≡ 5 → ⊥) → (kind ≡ 6 → ⊥)
+    → formIs (fv.Number (cv.Plain (iv.Choice 0))) ≡ simpleOf kind b c
+unfolding simpleOf formIs codeIs innerIs
+simple-none zero b c n₀ n₁ n₂ n₃ n₄ n₅ n₆ = absurd (n₀ refl)
+simple-none (suc zero) b c n₀ n₁ n₂ n₃ n₄ n₅ n₆ = absurd (n₁ refl)
+simple-none (suc (suc zero)) b c n₀ n₁ n₂ n₃ n₄ n₅ n₆ = absurd (n₂ refl)
+simple-none (suc (suc (suc zero))) b c n₀ n₁ n₂ n₃ n₄ n₅ n₆ = absurd (n₃ refl)
+simple-none (suc (suc (suc (suc zero)))) b c n₀ n₁ n₂ n₃ n₄ n₅ n₆ = absurd (n₄ refl)
+simple-none (suc (suc (suc (suc (suc zero))))) b c n₀ n₁ n₂ n₃ n₄ n₅ n₆ = absurd (n₅ refl)
+simple-none (suc (suc (suc (suc (suc (suc zero)))))) b c n₀ n₁ n₂ n₃ n₄ n₅ n₆ = absurd (n₆ refl)
+simple-none (suc (suc (suc (suc (suc (suc (suc k))))))) b c n₀ n₁ n₂ n₃ n₄ n₅ n₆ = refl
+
+pub ruleset simple-ways = (simple-boolean, simple-ranged, simple-unsigned, simple-signed, simple-enumerated, simple-text, simple-float, simple-none)

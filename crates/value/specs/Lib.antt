@@ -1,0 +1,10 @@
+pub mod Code
+pub mod CodeLaws
+pub mod Simple
+pub mod SimpleLaws
+pub mod Answer
+pub mod FormWays
+pub mod ReadWays
+pub mod Written
+pub mod WriteWays
+pub mod Cases

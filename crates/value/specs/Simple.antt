@@ -1,0 +1,95 @@
+-- Which code a row of the table asks for: ranges (001, 8.5.4.2.1), occurrences (8.5.2.4), the simple kinds of document 01; and texts.
+use Prim.Native.Nat.{ℕ, zero, suc, _+_, _-_, _*_, _^_, _<_}
+use mathlib.Core.Path.{_≡_}
+use mathlib.Core.Bool.{cond}
+use mathlib.Core.List.{List, [], _∷_, _++_}
+use lib.Dec.{leb, ltb, eqb}
+use lib.ListN.{length}
+use Rattle.wire.specs.Res.{Res, got, fault, _>>=_, _>>_, atMost}
+use Rattle.wire.specs.Bits.{num, digits}
+use Rattle.signed.specs.Words.{Gap, under, by, gapOf}
+use Rattle.utf8.specs.Text.{textFault}
+use Rattle.value.specs.Code.{Code, choice, five, signed, some, shifted, Fits, bitsOf, codeAt}
+
+-- one of no choices: no word names anything
+abbrev pub nothing : Code
+nothing = choice 0
+
+-- a value from b on: up to 65,535 over it in the fixed width, else in vluimsbf5
+unfoldable pub spanCode : ℕ → Gap → Code
+spanCode b under = nothing
+spanCode b (by k) = shifted b (cond (leb k 65535) (choice (k + 1)) (five k))
+
+unfoldable pub rangeCode : ℕ → ℕ → Code
+rangeCode b c = spanCode b (gapOf b c)
+
+-- a count with no end, up to 65,535; one of none to most; one of least to most
+unfoldable pub unboundedCode : ℕ → Code
+unboundedCode zero = some (five 65535)
+unboundedCode (suc k) = shifted (suc k) (five (65535 - suc k))
+
+unfoldable pub boundedCode : ℕ → ℕ → Code
+boundedCode zero most = cond (leb most 1) (choice (most + 1)) (some (choice (most + 1)))
+boundedCode (suc k) most = shifted (suc k) (choice (most - suc k + 1))
+
+-- 65,536 is unbounded; a row with most under least, or over that, lets no count come
+unfoldable pub timesCode : ℕ → ℕ → Code
+timesCode least most = cond (ltb most least) nothing (cond (ltb 65536 most) nothing (cond (eqb most 65536) (unboundedCode least) (boundedCode least most)))
+
+-- a number, or a text
+pub data Simple : Type 0 where
+  plain : Code → Simple
+  text : Simple
+
+unfoldable pub simpleOf : ℕ → ℕ → ℕ → Simple
+simpleOf zero b c = plain (choice 2)
+simpleOf (suc zero) b c = plain (rangeCode b c)
+simpleOf (suc (suc zero)) b c = plain (five (2 ^ 32 - 1))
+simpleOf (suc (suc (suc zero))) b c = plain signed
+simpleOf (suc (suc (suc (suc zero)))) b c = plain (choice b)
+simpleOf (suc (suc (suc (suc (suc zero))))) b c = text
+simpleOf (suc (suc (suc (suc (suc (suc zero)))))) b c = plain (choice (2 ^ 32))
+simpleOf (suc (suc (suc (suc (suc (suc (suc k))))))) b c = plain nothing
+
+-- a text's byte count
+abbrev pub count : Code
+count = five 4095
+
+-- bytes as bits, and the n bytes from a place on
+unfoldable pub bytes : List ℕ → List ℕ
+bytes [] = []
+bytes (x ∷ l) = digits 8 x ++ bytes l
+
+unfoldable pub bytesAt : (ℕ → ℕ) → ℕ → ℕ → List ℕ
+bytesAt b at zero = []
+bytesAt b at (suc n) = num b at 8 ∷ bytesAt b (at + 8) n
+
+abbrev pub Octets : List ℕ → Type 0
+Octets [] = Unit
+Octets (x ∷ l) = (x < 256) × Octets l
+
+-- refused with what is wrong with it, unless that is nothing
+unfoldable pub unless : ℕ → Res Unit
+unless zero = got tt
+unless (suc n) = fault (suc n)
+
+-- after a text's count: its bytes, below the wall, and nothing wrong with them
+unfoldable pub textOf : (ℕ → ℕ) → ℕ → ℕ → ℕ → Res (ℕ × List ℕ × ℕ)
+textOf b wall n p = do
+  atMost (p + 8 * n) wall 5
+  unless (textFault (bytesAt b p n))
+  got (n, bytesAt b p n, p + 8 * n)
+
+-- the reading: value word, text bytes, place past it
+unfoldable pub simpleAt : Simple → (ℕ → ℕ) → ℕ → ℕ → Res (ℕ × List ℕ × ℕ)
+simpleAt (plain c) b wall at = do
+  (v, p) ← codeAt c b wall at
+  got (v, [], p)
+simpleAt text b wall at = do
+  (n, p) ← codeAt count b wall at
+  textOf b wall n p
+
+-- what may stand: a value word, its text bytes, its bits
+pub data SimpleIs : Simple → ℕ → List ℕ → List ℕ → Type 0 where
+  a-code : {c : Code} {v : ℕ} → Fits c v → SimpleIs (plain c) v [] (bitsOf c v)
+  a-text : {l : List ℕ} → Fits count (length l) → Octets l → textFault l ≡ 0 → SimpleIs text (length l) l (bitsOf count (length l) ++ bytes l)

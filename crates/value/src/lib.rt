@@ -1,0 +1,45 @@
+// Values: which code a row of the table asks for, and such a code read and written.
+pub mod forms; // forms.rt: the code that a range, an occurs row or a simple kind asks for
+pub mod reading; // reading.rt: a code or a simple value from a place, below a wall
+pub mod writing; // writing.rt: its size, and its bits into a lent buffer
+
+use wire::Bits;
+use wire::Bytes;
+
+// A code that another holds: one of n, in the width of n; or vluimsbf5 up to a limit.
+pub enum Inner {
+    Choice(u32),
+    Five(u32),
+}
+
+// A code of one number: an inner one; 32 bits; a sign and a magnitude; a bit for none, or a bit and a number that is not 0; a word less another.
+pub enum Code {
+    Plain(Inner),
+    Word,
+    Signed,
+    Some(Inner),
+    Shifted(u32, Inner),
+}
+
+// What a simple kind asks for: a number, or a text.
+pub enum Form {
+    Number(Code),
+    Text,
+}
+
+// A simple value that was read: its word, its text's bytes, the bits it took and the place past it; or the number of a refusal.
+pub enum Value {
+    Read {
+        word: u32,
+        text: Bytes,
+        bits: Bits,
+        next: Bits,
+    },
+    Refuse(u32),
+}
+
+// How many bits a value takes, or the number of a refusal.
+pub enum Size {
+    Takes(Bits),
+    Refuse(u32),
+}

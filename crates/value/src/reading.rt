@@ -1,0 +1,237 @@
+// Codes and simple values read from a place of a payload, below a wall.
+use super::Code;
+use super::Form;
+use super::Inner;
+use super::Value;
+use signed::raised;
+use signed::with_sign;
+use utf8::State;
+use utf8::fault;
+use utf8::step;
+use wire::Bits;
+use wire::Bytes;
+use wire::Read;
+use wire::choices::width;
+use wire::reading::fixed;
+use wire::reading::vlu5;
+ghost use mathlib.Core.Path.{_≡_};
+ghost use Prim.Native.Nat.{_+_, _*_, _≤_, _<_};
+ghost use lib.ListN.{length};
+ghost use Rattle.wire.specs.Bits.{bitAt, num};
+ghost use Rattle.wire.specs.Answer.{readIs};
+ghost use Rattle.utf8.specs.Text.{textFault};
+ghost use Rattle.value.specs.Code.{choiceAt, numberAt, signedOf, someOf, codeAt, signed, some, shifted};
+ghost use Rattle.value.specs.Simple.{bytesAt, textOf, simpleAt};
+ghost use Rattle.value.specs.Answer.{innerIs, codeIs, formIs, valueIs, Took};
+
+// One of n choices.
+pub fn choice(s: &[u8], end: Bits, at: Bits, n: u32) -> Read
+    requires { ⌜ end .0 ≤ 8 * length (now s) ⌝ }
+    ensures { λ r. ⌜ readIs r ≡ choiceAt (bitAt (now (s .entry))) n (end .0) (at .0) ⌝ }
+{
+    match fixed(s, end, at, width(n)) {
+        Read::Refuse(e) => Read::Refuse(e),
+        Read::Value(v, p) => {
+            if v < n {
+                return Read::Value(v, p);
+            }
+            Read::Refuse(14)
+        }
+    }
+}
+
+// A number up to a limit.
+pub fn number(s: &[u8], end: Bits, at: Bits, most: u32) -> Read
+    requires { ⌜ end .0 ≤ 8 * length (now s) ⌝ }
+    ensures { λ r. ⌜ readIs r ≡ numberAt (bitAt (now (s .entry))) most (end .0) (at .0) ⌝ }
+{
+    match vlu5(s, end, at) {
+        Read::Refuse(e) => Read::Refuse(e),
+        Read::Value(v, p) => {
+            if v <= most {
+                return Read::Value(v, p);
+            }
+            Read::Refuse(13)
+        }
+    }
+}
+
+// A code that another holds.
+fn inner(s: &[u8], end: Bits, at: Bits, i: Inner) -> Read
+    requires { ⌜ end .0 ≤ 8 * length (now s) ⌝ }
+    ensures { λ r. ⌜ readIs r ≡ codeAt (innerIs i) (bitAt (now (s .entry))) (end .0) (at .0) ⌝ }
+{
+    match i {
+        Inner::Choice(n) => choice(s, end, at, n),
+        Inner::Five(most) => number(s, end, at, most),
+    }
+}
+
+// The word of a sign and a magnitude: 13 past the limit, then 15 for minus zero.
+fn join(sign: u32, magnitude: u32, next: Bits) -> Read
+    ensures { λ r. ⌜ readIs r ≡ signedOf sign magnitude (next .0) ⌝ }
+{
+    if sign == 0 {
+        if magnitude < 2147483648 {
+            return Read::Value(with_sign(false, magnitude), next);
+        }
+        return Read::Refuse(13);
+    }
+    if 2147483648 < magnitude {
+        return Read::Refuse(13);
+    }
+    if magnitude == 0 {
+        return Read::Refuse(15);
+    }
+    Read::Value(with_sign(true, magnitude), next)
+}
+
+// A sign bit and a magnitude.
+fn signed_number(s: &[u8], end: Bits, at: Bits) -> Read
+    requires { ⌜ end .0 ≤ 8 * length (now s) ⌝ }
+    ensures { λ r. ⌜ readIs r ≡ codeAt signed (bitAt (now (s .entry))) (end .0) (at .0) ⌝ }
+{
+    match choice(s, end, at, 2) {
+        Read::Refuse(e) => Read::Refuse(e),
+        Read::Value(sign, p) => match vlu5(s, end, p) {
+            Read::Refuse(e) => Read::Refuse(e),
+            Read::Value(m, q) => join(sign, m, q),
+        },
+    }
+}
+
+// None, or some and how many, where 0 names nothing.
+fn some_number(s: &[u8], end: Bits, at: Bits, i: Inner) -> Read
+    requires { ⌜ end .0 ≤ 8 * length (now s) ⌝ }
+    ensures { λ r. ⌜ readIs r ≡ codeAt (some (innerIs i)) (bitAt (now (s .entry))) (end .0) (at .0) ⌝ }
+{
+    match choice(s, end, at, 2) {
+        Read::Refuse(e) => Read::Refuse(e),
+        Read::Value(flag, p) => {
+            if flag == 0 {
+                return Read::Value(0, p);
+            }
+            match inner(s, end, p, i) {
+                Read::Refuse(e) => Read::Refuse(e),
+                Read::Value(v, q) => {
+                    if v == 0 {
+                        return Read::Refuse(14);
+                    }
+                    Read::Value(v, q)
+                }
+            }
+        }
+    }
+}
+
+// A word from lo on.
+fn shifted_number(s: &[u8], end: Bits, at: Bits, lo: u32, i: Inner) -> Read
+    requires { ⌜ end .0 ≤ 8 * length (now s) ⌝ }
+    ensures { λ r. ⌜ readIs r ≡ codeAt (shifted lo (innerIs i)) (bitAt (now (s .entry))) (end .0) (at .0) ⌝ }
+{
+    match inner(s, end, at, i) {
+        Read::Refuse(e) => Read::Refuse(e),
+        Read::Value(k, p) => Read::Value(raised(lo, k), p),
+    }
+}
+
+// One number by its code.
+pub fn code(s: &[u8], end: Bits, at: Bits, c: Code) -> Read
+    requires { ⌜ end .0 ≤ 8 * length (now s) ⌝ }
+    ensures { λ r. ⌜ readIs r ≡ codeAt (codeIs c) (bitAt (now (s .entry))) (end .0) (at .0) ⌝ }
+{
+    match c {
+        Code::Plain(i) => inner(s, end, at, i),
+        Code::Word => fixed(s, end, at, 32),
+        Code::Signed => signed_number(s, end, at),
+        Code::Some(i) => some_number(s, end, at, i),
+        Code::Shifted(lo, i) => shifted_number(s, end, at, lo, i),
+    }
+}
+
+// The byte that the 8 bits from a place are.
+pub fn byte(s: &[u8], at: Bits) -> u8
+    requires { ⌜ (at .0 + 8 ≤ 8 * length (now s)) × (at .0 + 8 < 4294967296) ⌝ }
+    ensures { λ r. ⌜ r ≡ num (bitAt (now (s .entry))) (at .0) 8 ⌝ }
+{
+    let end = Bits(at.0 + 8);
+    match fixed(s, end, at, 8) {
+        Read::Refuse(_) => 0,
+        Read::Value(v, _) => v as u8,
+    }
+}
+
+// What is wrong with the n bytes from a place.
+pub fn text_fault(s: &[u8], at: Bits, n: Bytes) -> u32
+    requires { ⌜ (at .0 + 8 * n .0 ≤ 8 * length (now s)) × (at .0 + 8 * n .0 < 4294967296) ⌝ }
+    ensures { λ r. ⌜ r ≡ textFault (bytesAt (bitAt (now (s .entry))) (at .0) (n .0)) ⌝ }
+{
+    let a = at.0;
+    let m = n.0;
+    let mut state = State::Start;
+    let mut i: u32 = 0;
+    while i < m {
+        let p = Bits(a + 8 * i);
+        let x = byte(s, p);
+        state = step(state, x);
+        i += 1;
+    }
+    fault(state)
+}
+
+// A text's bytes after its count: 5, then what is wrong with them.
+fn text_after(s: &[u8], end: Bits, at: Bits, n: u32, p: Bits) -> Value
+    requires { ⌜ (end .0 ≤ 8 * length (now s)) × (at .0 ≤ p .0) × (n ≤ 4095) ⌝ }
+    ensures { λ r. ⌜ (valueIs (bitAt (now (s .entry))) r ≡ textOf (bitAt (now (s .entry))) (end .0) n (p .0)) × Took (at .0) r ⌝ }
+{
+    let a = at.0;
+    let e = end.0;
+    let from = p.0;
+    if e < from {
+        return Value::Refuse(5);
+    }
+    if e - from < 8 * n {
+        return Value::Refuse(5);
+    }
+    let m = Bytes(n);
+    let wrong = text_fault(s, p, m);
+    if 0 < wrong {
+        return Value::Refuse(wrong);
+    }
+    let q = from + 8 * n;
+    let next = Bits(q);
+    let bits = Bits(q - a);
+    Value::Read {
+        word: n,
+        text: m,
+        bits,
+        next,
+    }
+}
+
+// A simple value by its form.
+pub fn simple(s: &[u8], end: Bits, at: Bits, f: Form) -> Value
+    requires { ⌜ end .0 ≤ 8 * length (now s) ⌝ }
+    ensures { λ r. ⌜ (valueIs (bitAt (now (s .entry))) r ≡ simpleAt (formIs f) (bitAt (now (s .entry))) (end .0) (at .0)) × Took (at .0) r ⌝ }
+{
+    let a = at.0;
+    match f {
+        Form::Number(c) => match code(s, end, at, c) {
+            Read::Refuse(e) => Value::Refuse(e),
+            Read::Value(v, p) => {
+                let bits = Bits(p.0 - a);
+                let none = Bytes(0);
+                Value::Read {
+                    word: v,
+                    text: none,
+                    bits,
+                    next: p,
+                }
+            }
+        },
+        Form::Text => match number(s, end, at, 4095) {
+            Read::Refuse(e) => Value::Refuse(e),
+            Read::Value(n, p) => text_after(s, end, at, n, p),
+        },
+    }
+}

@@ -1,0 +1,13 @@
+pub mod Res
+pub mod Bits
+pub mod Width
+pub mod Number
+pub mod Answer
+pub mod BitLaws
+pub mod Steps
+pub mod ReadWays
+pub mod Laws5
+pub mod Laws8
+pub mod Lawful
+pub mod Put
+pub mod WriteWays

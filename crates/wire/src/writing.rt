@@ -1,0 +1,100 @@
+// Codes written into a lent buffer at a place; no other bit changes.
+use super::Bits;
+use super::Read;
+ghost use mathlib.Core.Path.{_≡_};
+ghost use mathlib.Core.List.{[], _∷_};
+ghost use Prim.Native.Nat.{_+_, _*_, _/_, _%_, _^_, _≤_, _<_};
+ghost use lib.ListN.{length};
+ghost use Rattle.wire.specs.Bits.{bitAt, digits};
+ghost use Rattle.wire.specs.Number.{code5, code8, more};
+ghost use Rattle.wire.specs.Put.{Put, Room, Wrote, Wrote8};
+
+// One bit.
+fn put_bit(buf: &mut [u8], at: u32, x: u8)
+    requires { ⌜ (at < 8 * length (now buf)) × (x < 2) ⌝ }
+    ensures { λ _. ⌜ Put (bitAt (now (buf .entry))) (bitAt (now (buf .exit))) at (x ∷ []) ⌝ }
+{
+    let q = (at / 8) as usize;
+    let k = 7 - at % 8;
+    let y = buf[q];
+    let old = (y >> k) % 2;
+    if old < x {
+        buf[q] = y + (1u8 << k);
+    } else if x < old {
+        buf[q] = y - (1u8 << k);
+    }
+}
+
+// Bit k of v, from its lowest.
+fn digit(v: u32, k: u32) -> u8
+    ensures { λ r. ⌜ r ≡ v / 2 ^ k % 2 ⌝ }
+{
+    if 32 <= k {
+        return 0;
+    }
+    ((v >> k) % 2) as u8
+}
+
+// The w lowest bits of v, the highest first; the place past them.
+pub fn put(buf: &mut [u8], at: Bits, w: u32, v: u32) -> Bits
+    requires { ⌜ Room (now buf) (at .0) w ⌝ }
+    ensures { λ r. ⌜ Wrote (now (buf .entry)) (now (buf .exit)) (at .0) (digits w v) (r .0) ⌝ }
+{
+    let a = at.0;
+    let mut i: u32 = 0;
+    while i < w {
+        let x = digit(v, w - i - 1);
+        put_bit(buf, a + i, x);
+        i += 1;
+    }
+    Bits(a + w)
+}
+
+// How many groups of four bits v needs besides the first.
+fn extra(v: u32) -> u32
+    ensures { λ r. ⌜ (r ≡ more 7 v) × (r ≤ 7) ⌝ }
+{
+    let mut n: u32 = 0;
+    let mut u = v;
+    while 16 <= u {
+        u = u / 16;
+        n += 1;
+    }
+    n
+}
+
+// The bits of the shortest vluimsbf5 of v.
+pub fn size5(v: u32) -> Bits
+    ensures { λ r. ⌜ r .0 ≡ length (code5 v) ⌝ }
+{
+    let n = extra(v);
+    Bits(5 * (n + 1))
+}
+
+// The shortest vluimsbf5 of v; the place past it.
+pub fn put5(buf: &mut [u8], at: Bits, v: u32) -> Bits
+    requires { ⌜ Room (now buf) (at .0) (length (code5 v)) ⌝ }
+    ensures { λ r. ⌜ Wrote (now (buf .entry)) (now (buf .exit)) (at .0) (code5 v) (r .0) ⌝ }
+{
+    let n = extra(v);
+    let m = n + 1;
+    let p = put(buf, at, m, (1u32 << m) - 2);
+    put(buf, p, 4 * m, v)
+}
+
+// The shortest vluimsbf8 of v and the place past it; more than two bytes are 20, and nothing is written.
+pub fn put8(buf: &mut [u8], at: Bits, v: u32) -> Read
+    requires { ⌜ Room (now buf) (at .0) (length (code8 v)) ⌝ }
+    ensures { λ r. ⌜ Wrote8 (now (buf .entry)) (now (buf .exit)) (at .0) v r ⌝ }
+{
+    if 16384 <= v {
+        return Read::Refuse(20);
+    }
+    if v < 128 {
+        let p = put(buf, at, 8, v);
+        return Read::Value(v, p);
+    }
+    let p = put(buf, at, 8, 128 + v / 128);
+    let q = put(buf, p, 8, v % 128);
+    Read::Value(v, q)
+}

@@ -1,0 +1,434 @@
+//! The three demands as properties. Each gives `Err` with what was violated.
+//!
+//! Every call goes through `read` or `write` here: dirty buffers in, and the first demand's shape and the model's
+//! answer checked on what comes out.
+
+use crate::answer::{kind, number, Answer};
+use crate::cases::{Call, Case, Expected};
+use crate::model;
+use crate::{reader, table, writer};
+
+/// What the run has met so far.
+#[derive(Clone, Debug, Default, PartialEq, Eq)]
+pub struct Tally {
+    /// Reader answers by number, 0 for acceptance.
+    pub read: [u64; 25],
+    /// Writer answers by number, 0 for acceptance.
+    pub written: [u64; 25],
+    /// Table checks: right, wrong.
+    pub tables: [u64; 2],
+    /// Accepted readings with a Blank.
+    pub blanks: u64,
+    /// Accepted readings without one, written back to the same bytes.
+    pub identical: u64,
+    /// Demand 3: both accept and something was newly held.
+    pub both: u64,
+    /// Demand 3: the second accepts, the first refuses with 9.
+    pub first_refuses: u64,
+    /// Demand 3: the first accepts, the second refuses inside a Blank.
+    pub second_refuses: u64,
+    /// Demand 3: the first accepts, the second lacks room.
+    pub second_lacks_room: u64,
+    /// Demand 3: neither accepts, or the tables are the same.
+    pub neither: u64,
+}
+
+/// A reader's input.
+#[derive(Clone, Debug)]
+pub struct ReadCall<'a> {
+    /// The table.
+    pub table: &'a [u32],
+    /// Root name and type.
+    pub root: (u32, u32),
+    /// The payload.
+    pub payload: &'a [u8],
+    /// Lent event words.
+    pub event_words: usize,
+    /// Lent text bytes.
+    pub text_room: usize,
+}
+
+/// A reader's answer with its buffers.
+#[derive(Clone, Debug, PartialEq, Eq)]
+pub struct Outcome {
+    /// The answer.
+    pub answer: Answer,
+    /// The event words.
+    pub events: Vec<u32>,
+    /// The text bytes.
+    pub texts: Vec<u8>,
+}
+
+impl Outcome {
+    /// The stored events.
+    pub fn list(&self) -> Vec<[u32; 4]> {
+        self.events
+            .chunks_exact(4)
+            .take(self.answer.events)
+            .map(|event| [event[0], event[1], event[2], event[3]])
+            .collect()
+    }
+
+    /// The stored texts.
+    pub fn text(&self) -> &[u8] {
+        &self.texts[..self.answer.text]
+    }
+}
+
+/// A writer's input.
+#[derive(Clone, Debug)]
+pub struct WriteCall<'a> {
+    /// The table.
+    pub table: &'a [u32],
+    /// Root name and type.
+    pub root: (u32, u32),
+    /// The mode asked.
+    pub mode: u32,
+    /// The list's words.
+    pub events: &'a [u32],
+    /// The texts.
+    pub texts: &'a [u8],
+    /// Lent payload bytes.
+    pub room: usize,
+}
+
+/// Passes where `good`, and else tells what was violated.
+fn demand(good: bool, what: impl FnOnce() -> String) -> Result<(), String> {
+    if good {
+        Ok(())
+    } else {
+        Err(what())
+    }
+}
+
+/// Demand 1 of an answer: a refusal counts nothing, an acceptance has neither place nor path.
+fn answer_has_its_shape(answer: &Answer) -> bool {
+    if answer.is_accepted() {
+        answer.place == 0 && answer.path.names().is_empty()
+    } else {
+        answer.number < number::AREA && (answer.mode, answer.events, answer.text, answer.bits) == (0, 0, 0, 0)
+    }
+}
+
+/// The table check, against the model's.
+pub fn check_table(tally: &mut Tally, words: &[u32]) -> Result<Option<usize>, String> {
+    let fault = table::check(words).err();
+    tally.tables[usize::from(fault.is_some())] += 1;
+    let expected = model::check_table(words);
+    demand(fault == expected, || format!("table check says {fault:?}, the model {expected:?}"))?;
+    Ok(fault)
+}
+
+/// Reads into dirty buffers: demand 1's shape, and demand 2's "exactly the reading" against the model.
+pub fn read(tally: &mut Tally, call: &ReadCall<'_>) -> Result<Outcome, String> {
+    let mut events = vec![0xdddd_dddd; call.event_words];
+    let mut texts = vec![0xdd; call.text_room];
+    let (name, of_type) = call.root;
+    let answer = reader::read(call.table, name, of_type, call.payload, &mut events, &mut texts);
+    tally.read[answer.number as usize] += 1;
+    demand(answer_has_its_shape(&answer), || format!("demand 1: the answer's shape: {answer:?}"))?;
+    // On refusal both counts are 0, so this is "every output buffer all zeros".
+    let spare_is_zero =
+        events[4 * answer.events..].iter().all(|&word| word == 0) && texts[answer.text..].iter().all(|&byte| byte == 0);
+    demand(spare_is_zero, || format!("demand 1: spare output is not 0: {answer:?}"))?;
+    let outcome = Outcome { answer, events, texts };
+    let room = call.event_words / 4;
+    let expected = model::read(call.table, name, of_type, call.payload, room, call.text_room);
+    let got = reading_of(&outcome);
+    demand(got == expected, || format!("demand 2: the reader gives {got:?}, the model {expected:?}"))?;
+    if answer.is_accepted() {
+        let list = outcome.list();
+        let sum: usize = list.iter().map(|event| event[3] as usize).sum();
+        demand(sum + 8 == answer.bits, || format!("the events' bits and 8 are not the bits used: {answer:?}"))?;
+        if list.iter().any(|event| event[0] == kind::BLANK) {
+            tally.blanks += 1;
+        } else {
+            written_back(tally, call, &outcome)?;
+        }
+    }
+    Ok(outcome)
+}
+
+/// An outcome in the model's words.
+fn reading_of(outcome: &Outcome) -> model::Reading {
+    let answer = &outcome.answer;
+    if answer.is_accepted() {
+        model::Reading::Accepted {
+            mode: answer.mode,
+            events: outcome.list(),
+            texts: outcome.text().to_vec(),
+            bits: answer.bits,
+        }
+    } else {
+        model::Reading::Refused {
+            number: answer.number,
+            place: answer.place as usize,
+            path: answer.path.names().to_vec(),
+        }
+    }
+}
+
+/// Demand 2: bytes read without blanks are written back identically.
+fn written_back(tally: &mut Tally, call: &ReadCall<'_>, outcome: &Outcome) -> Result<(), String> {
+    let events = &outcome.events[..4 * outcome.answer.events];
+    let mut payload = vec![0xdd; call.payload.len()];
+    let answer =
+        writer::write(call.table, call.root.0, call.root.1, outcome.answer.mode, events, outcome.text(), &mut payload);
+    demand(answer == outcome.answer, || format!("demand 2: read as {:?}, written back as {answer:?}", outcome.answer))?;
+    demand(payload == call.payload, || format!("demand 2: {:02x?} is written back as {payload:02x?}", call.payload))?;
+    tally.identical += 1;
+    Ok(())
+}
+
+/// Writes into a dirty buffer: demand 1's shape, the model's answer, and demand 2's reading back.
+pub fn write(tally: &mut Tally, call: &WriteCall<'_>) -> Result<(Answer, Vec<u8>), String> {
+    let mut payload = vec![0xdd; call.room];
+    let (name, of_type) = call.root;
+    let answer = writer::write(call.table, name, of_type, call.mode, call.events, call.texts, &mut payload);
+    tally.written[answer.number as usize] += 1;
+    demand(answer_has_its_shape(&answer) && answer.path.names().is_empty(), || {
+        format!("demand 1: the answer's shape: {answer:?}")
+    })?;
+    let bytes = answer.bits.div_ceil(8);
+    demand(payload[bytes..].iter().all(|&byte| byte == 0), || format!("demand 1: spare payload is not 0: {answer:?}"))?;
+    let expected = model::write(call.table, name, of_type, call.mode, call.events, call.texts, call.room);
+    let got = if answer.is_accepted() {
+        Ok((payload[..bytes].to_vec(), answer.bits))
+    } else {
+        Err((answer.number, answer.place as usize))
+    };
+    demand(got == expected, || format!("demand 2: the writer gives {got:02x?}, the model {expected:02x?}"))?;
+    if answer.is_accepted() {
+        read_back(call, &answer, &payload[..bytes])?;
+    }
+    Ok((answer, payload))
+}
+
+/// Demand 2: what was written reads back, given room, as that list with true bit counts.
+fn read_back(call: &WriteCall<'_>, answer: &Answer, payload: &[u8]) -> Result<(), String> {
+    let mut events = vec![0xdddd_dddd; call.events.len()];
+    let mut texts = vec![0xdd; call.texts.len()];
+    let back = reader::read(call.table, call.root.0, call.root.1, payload, &mut events, &mut texts);
+    demand(back == *answer, || format!("demand 2: written as {answer:?}, read back as {back:?}"))?;
+    let same_words =
+        events.chunks_exact(4).zip(call.events.chunks_exact(4)).all(|(read, given)| read[..3] == given[..3]);
+    demand(same_words && texts == call.texts, || format!("demand 2: the list reads back as {events:?} {texts:02x?}"))?;
+    let sum: usize = events.chunks_exact(4).map(|event| event[3] as usize).sum();
+    demand(sum + 8 == answer.bits, || "demand 2: the bit counts are not true".to_string())
+}
+
+/// An element of an accepted list, with where it stands.
+struct Span {
+    /// Its Start or Blank.
+    first: usize,
+    /// Its last event.
+    last: usize,
+    /// Its first bit.
+    place: usize,
+    /// All its bits.
+    bits: usize,
+    name: u32,
+    of_type: usize,
+    /// Whether a length is coded.
+    has_length: bool,
+    /// The names of the elements around it, outermost first.
+    path: Vec<u16>,
+    /// Its text bytes: the first, and how many.
+    text: (usize, usize),
+}
+
+/// The elements of an accepted list, in order of their first events. The types come from walking the table along the
+/// list, since a Start does not name its type.
+fn spans(words: &[u32], root: (u32, u32), list: &[[u32; 4]]) -> Vec<Span> {
+    let table = table::Table::new(words).expect("an accepted list has a right table");
+    let mut walk = SpanWalk { table, list, next: 0, place: 8, text: 0, path: vec![], spans: vec![] };
+    walk.element(root.0, root.1 as usize);
+    walk.spans
+}
+
+struct SpanWalk<'a> {
+    table: table::Table<'a>,
+    list: &'a [[u32; 4]],
+    next: usize,
+    place: usize,
+    text: usize,
+    path: Vec<u16>,
+    spans: Vec<Span>,
+}
+
+impl SpanWalk<'_> {
+    fn take(&mut self) -> [u32; 4] {
+        let event = self.list[self.next];
+        self.next += 1;
+        self.place += event[3] as usize;
+        event
+    }
+
+    fn value(&mut self, of_type: usize) {
+        let word = self.take()[1];
+        if self.table.type_row(of_type).a == crate::value::TEXT {
+            self.text += word as usize;
+        }
+    }
+
+    fn element(&mut self, name: u32, of_type: usize) {
+        let index = self.spans.len();
+        let (first, place, text) = (self.next, self.place, self.text);
+        let head = self.take();
+        self.spans.push(Span {
+            first,
+            last: first,
+            place,
+            bits: 0,
+            name,
+            of_type,
+            has_length: head[0] == kind::BLANK || head[2] == 1,
+            path: self.path.clone(),
+            text: (text, 0),
+        });
+        if head[0] == kind::START {
+            self.path.push(name as u16);
+            let row = self.table.type_row(of_type);
+            for attribute in row.first_attribute..row.first_attribute + row.attributes {
+                if self.take()[2] == 1 {
+                    self.value(self.table.attribute_row(attribute).of_type);
+                }
+            }
+            match row.content {
+                table::content::EMPTY => {}
+                table::content::SIMPLE => self.value(of_type),
+                _ => self.particle(row.a as usize),
+            }
+            self.take();
+            self.path.pop();
+        }
+        let span = &mut self.spans[index];
+        span.last = self.next - 1;
+        span.bits = self.place - place;
+        span.text.1 = self.text - text;
+    }
+
+    fn particle(&mut self, row: usize) {
+        match self.table.particle_row(row) {
+            table::Particle::Element { name, of_type } => self.element(name, of_type),
+            table::Particle::Sequence { first, number } => {
+                (first..first + number).for_each(|child| self.particle(child));
+            }
+            table::Particle::Choice { first, .. } => {
+                let branch = self.take()[1] as usize;
+                self.particle(first + branch);
+            }
+            table::Particle::Occurs { child, .. } => {
+                let count = self.take()[1];
+                (0..count).for_each(|_| self.particle(child));
+            }
+        }
+    }
+}
+
+/// Demand 3, for one payload, root and room under two valid tables alike but for held marks, where the second holds
+/// all that the first holds.
+pub fn two_tables(tally: &mut Tally, first_table: &[u32], second_call: &ReadCall<'_>) -> Result<(), String> {
+    let second_table = second_call.table;
+    let first_call = ReadCall { table: first_table, ..second_call.clone() };
+    let first = read(tally, &first_call)?;
+    let second = read(tally, second_call)?;
+    let held = |words: &[u32], of_type: usize| words[table::HEADER + table::TYPE_ROW * of_type] == 1;
+    match (first.answer.is_accepted(), second.answer.is_accepted()) {
+        (_, true) => {
+            let all = spans(second_table, second_call.root, &second.list());
+            let mut outermost: Vec<&Span> = vec![];
+            for span in &all {
+                let newly = held(second_table, span.of_type) && !held(first_table, span.of_type);
+                let inside = outermost.last().is_some_and(|outer| span.first <= outer.last);
+                if newly && !inside {
+                    outermost.push(span);
+                }
+            }
+            let bare = outermost.iter().find(|span| !span.has_length);
+            let expected = match bare {
+                Some(span) => {
+                    model::Reading::Refused { number: number::NOT_HELD, place: span.place, path: span.path.clone() }
+                }
+                None => with_blanks(&second, &outermost),
+            };
+            let got = reading_of(&first);
+            demand(got == expected, || format!("demand 3: the first gives {got:?}, and should {expected:?}"))?;
+            match (bare.is_some(), outermost.is_empty()) {
+                (true, _) => tally.first_refuses += 1,
+                (false, false) => tally.both += 1,
+                (false, true) => tally.neither += 1,
+            }
+        }
+        (true, false) => {
+            let refused = &second.answer;
+            let all = spans(first_table, first_call.root, &first.list());
+            // The refusal lies in a Blank of the first when the second's open path leads into that very element.
+            let inside = all.iter().any(|span| {
+                let mut open = span.path.clone();
+                open.push(span.name as u16);
+                let place = refused.place as usize;
+                !held(first_table, span.of_type)
+                    && refused.path.names().starts_with(&open)
+                    && (span.place..=span.place + span.bits).contains(&place)
+            });
+            if inside {
+                tally.second_refuses += 1;
+            } else {
+                demand([number::EVENT_ROOM, number::TEXT_ROOM].contains(&refused.number), || {
+                    format!("demand 3: the second refuses outside of every Blank: {refused:?}")
+                })?;
+                tally.second_lacks_room += 1;
+            }
+        }
+        (false, false) => tally.neither += 1,
+    }
+    Ok(())
+}
+
+/// The second's reading with each of these elements replaced by one Blank, and its texts left out.
+fn with_blanks(second: &Outcome, elements: &[&Span]) -> model::Reading {
+    let list = second.list();
+    let mut events = vec![];
+    let mut texts = vec![];
+    let (mut next, mut text) = (0, 0);
+    for span in elements {
+        events.extend_from_slice(&list[next..span.first]);
+        events.push([kind::BLANK, span.name, span.of_type as u32, span.bits as u32]);
+        next = span.last + 1;
+        texts.extend_from_slice(&second.text()[text..span.text.0]);
+        text = span.text.0 + span.text.1;
+    }
+    events.extend_from_slice(&list[next..]);
+    texts.extend_from_slice(&second.text()[text..]);
+    model::Reading::Accepted { mode: second.answer.mode, events, texts, bits: second.answer.bits }
+}
+
+/// A named case gives the answer worked out by hand.
+pub fn named(tally: &mut Tally, case: &Case) -> Result<(), String> {
+    let answer = match &case.call {
+        Call::Table { table } => {
+            let fault = check_table(tally, table)?;
+            match fault {
+                None => Answer::accepted(0, 0, 0, 0),
+                Some(word) => {
+                    Answer::refused(crate::answer::refusal(number::TABLE, word), crate::answer::Path::empty())
+                }
+            }
+        }
+        Call::Read { table, root, payload, event_words, text_room } => {
+            let call = ReadCall { table, root: *root, payload, event_words: *event_words, text_room: *text_room };
+            read(tally, &call)?.answer
+        }
+        Call::Write { table, root, mode, events, texts, room } => {
+            let call = WriteCall { table, root: *root, mode: *mode, events, texts, room: *room };
+            write(tally, &call)?.0
+        }
+    };
+    let got = if answer.is_accepted() {
+        Expected::Accepted(answer.mode, answer.events, answer.text, answer.bits)
+    } else {
+        Expected::Refused(answer.number, answer.place, answer.path.names().to_vec())
+    };
+    demand(got == case.expected, || format!("\"{}\" gives {got:?}, and should {:?}", case.name, case.expected))
+}

@@ -1,0 +1,638 @@
+//! Seeded cases: tables, valid lists with their payloads, and both of them damaged.
+//!
+//! A sample's payload is made here from bits of the model, not by the writer, so that the two can be compared; and it
+//! may carry quirks that no writer of ours makes: codes not shortest, codes that name nothing, wrong lengths.
+
+use crate::model::{bits5, bits_of, bytes_of, count_bits, groups, value_bits, width};
+use crate::rng::Rng;
+use crate::table::{content, Particle, Table, HEADER, TYPE_ROW};
+use crate::value;
+
+/// The costs from here on are as good as endless.
+const ENDLESS: u64 = 3000;
+
+/// Occurs rows worth trying, both sides of every case of the code among them.
+const BOUNDS: [(u32, u32); 16] = [
+    (0, 1),
+    (0, 1),
+    (1, 1),
+    (0, 2),
+    (0, 3),
+    (1, 3),
+    (2, 2),
+    (2, 6),
+    (0, 7),
+    (0, 8),
+    (0, 65_535),
+    (0, 65_536),
+    (0, 65_536),
+    (1, 65_536),
+    (3, 65_536),
+    (65_535, 65_536),
+];
+
+/// Words that lie at some limit.
+const EDGES: [u32; 28] = [
+    0,
+    1,
+    2,
+    3,
+    4,
+    5,
+    6,
+    7,
+    8,
+    15,
+    16,
+    63,
+    64,
+    65,
+    256,
+    257,
+    1024,
+    1025,
+    4095,
+    4096,
+    65_535,
+    65_536,
+    65_537,
+    1 << 28,
+    (1 << 31) - 1,
+    1 << 31,
+    u32::MAX - 1,
+    u32::MAX,
+];
+
+/// A word that is often at a limit.
+pub fn edge_word(rng: &mut Rng) -> u32 {
+    match rng.below(4) {
+        0 => rng.word(),
+        1 => rng.word() >> rng.below(32),
+        _ => rng.pick(&EDGES),
+    }
+}
+
+/// Parameters b and c of a simple kind.
+fn parameters(rng: &mut Rng, kind: u32) -> (u32, u32) {
+    match kind {
+        value::RANGED => {
+            let b = edge_word(rng) as i32;
+            let span = match rng.below(6) {
+                0 => rng.pick(&[65_534, 65_535, 65_536, 65_537]),
+                1 => rng.word() >> 1,
+                2 => 0,
+                _ => rng.below(300) as u32,
+            };
+            let c = b.saturating_add_unsigned(span);
+            (b as u32, c as u32)
+        }
+        value::ENUMERATION => match rng.below(8) {
+            0 => (rng.pick(&[1, 65_535, 65_536]), 0),
+            _ => (rng.within(1, 40) as u32, 0),
+        },
+        _ => (0, 0),
+    }
+}
+
+/// A right table, all of it held.
+pub fn table(rng: &mut Rng) -> Vec<u32> {
+    let types = rng.within(1, 9);
+    let particles = if rng.one_in(6) { 0 } else { rng.within(1, 14) };
+    let mut rows = vec![];
+    for _ in 0..types {
+        let content = match rng.below(10) {
+            0 => content::EMPTY,
+            1..=4 if particles > 0 => content::PARTICLES,
+            _ => content::SIMPLE,
+        };
+        let mut row = [1, content, 0, 0, 0, 0, 0];
+        if content == content::PARTICLES {
+            row[4] = rng.below(particles) as u32;
+        }
+        if content == content::SIMPLE {
+            let kind = rng.pick(&[0, 1, 1, 2, 3, 4, 5, 5, 6]);
+            let (b, c) = parameters(rng, kind);
+            row[4..].copy_from_slice(&[kind, b, c]);
+        }
+        rows.push(row);
+    }
+    // Attributes need simple types without attributes; the first simple type stays so.
+    let plain = rows.iter().position(|row| row[1] == content::SIMPLE);
+    let attributes = if plain.is_some() && !rng.one_in(3) { rng.within(1, 6) } else { 0 };
+    for (index, row) in rows.iter_mut().enumerate() {
+        if Some(index) != plain && rng.one_in(2) {
+            let first = rng.within(0, attributes);
+            row[2] = first as u32;
+            row[3] = rng.within(0, attributes - first).min(3) as u32;
+        } else {
+            row[2] = rng.within(0, attributes) as u32;
+        }
+    }
+    let simple: Vec<_> = (0..types).filter(|&index| rows[index][1] == content::SIMPLE && rows[index][3] == 0).collect();
+    let mut words = vec![1, types as u32, attributes as u32, particles as u32];
+    words.extend(rows.concat());
+    for _ in 0..attributes {
+        words.extend([name(rng), u32::from(rng.one_in(2)), rng.pick(&simple) as u32]);
+    }
+    for row in 0..particles {
+        words.extend(particle(rng, row, particles, types));
+    }
+    words
+}
+
+fn name(rng: &mut Rng) -> u32 {
+    match rng.below(8) {
+        0 => 65_535,
+        _ => rng.below(30) as u32,
+    }
+}
+
+/// A right particle row. Children lie close behind it, so that nesting is deep and rows are shared.
+fn particle(rng: &mut Rng, row: usize, rows: usize, types: usize) -> [u32; 4] {
+    let after = rows - row - 1;
+    let kind = match after {
+        0 => 0,
+        1 => rng.pick(&[0, 1, 3]),
+        _ => rng.pick(&[0, 0, 1, 1, 2, 3, 3]),
+    };
+    if kind == 0 {
+        return [0, name(rng), rng.below(types) as u32, 0];
+    }
+    let least = if kind == 2 { 2 } else { 1 };
+    let first = row + 1 + rng.below((after - least + 1).min(3));
+    if kind == 3 {
+        let (least, most) = rng.pick(&BOUNDS);
+        return [3, first as u32, least, most];
+    }
+    let number = rng.within(least, (rows - first).min(5));
+    [kind, first as u32, number as u32, 0]
+}
+
+/// One word of a table changed, or its length. The table is not empty.
+pub fn damage_table(rng: &mut Rng, words: &mut Vec<u32>) {
+    match rng.below(12) {
+        0 => {
+            let length = rng.below(words.len() + 1);
+            words.truncate(length);
+        }
+        1 => words.extend((0..rng.within(1, 9)).map(|_| 0)),
+        2 => {
+            let at = rng.below(words.len().min(HEADER));
+            words[at] = edge_word(rng);
+        }
+        _ => {
+            let at = rng.below(words.len());
+            words[at] = match rng.below(4) {
+                0 => words[at].wrapping_add(1),
+                1 => words[at].wrapping_sub(1),
+                2 => rng.below(20) as u32,
+                _ => edge_word(rng),
+            };
+        }
+    }
+}
+
+/// The table with some of its held marks cleared, each with one chance in `times`.
+pub fn let_go(rng: &mut Rng, words: &[u32], times: usize) -> Vec<u32> {
+    let mut words = words.to_vec();
+    for of_type in 0..words[1] as usize {
+        if rng.one_in(times) {
+            words[HEADER + TYPE_ROW * of_type] = 0;
+        }
+    }
+    words
+}
+
+/// The fewest events of every type and particle row; `ENDLESS` where a list would be too long or never end.
+struct Costs {
+    types: Vec<u64>,
+    rows: Vec<u64>,
+}
+
+impl Costs {
+    fn of(table: &Table<'_>) -> Self {
+        let mut costs = Costs { types: vec![ENDLESS; table.types()], rows: vec![ENDLESS; table.particles()] };
+        // Each round settles at least one more row; the tables made here are small.
+        for _ in 0..table.types() + table.particles() {
+            for row in (0..table.particles()).rev() {
+                let cost = match table.particle_row(row) {
+                    Particle::Element { of_type, .. } => costs.types[of_type],
+                    Particle::Sequence { first, number } => costs.rows[first..first + number].iter().sum(),
+                    Particle::Choice { first, number } => 1 + costs.cheapest(first, number).1,
+                    Particle::Occurs { child, least, .. } => 1 + u64::from(least) * costs.rows[child],
+                };
+                costs.rows[row] = cost.min(ENDLESS);
+            }
+            for of_type in 0..table.types() {
+                let row = table.type_row(of_type);
+                let attributes: u64 = (row.first_attribute..row.first_attribute + row.attributes)
+                    .map(|index| 1 + u64::from(table.attribute_row(index).required))
+                    .sum();
+                let inner = match row.content {
+                    content::EMPTY => 0,
+                    content::SIMPLE => 1,
+                    _ => costs.rows[row.a as usize],
+                };
+                costs.types[of_type] = (2 + attributes + inner).min(ENDLESS);
+            }
+        }
+        costs
+    }
+
+    /// The cheapest of these rows, counted from `first`, and its cost.
+    fn cheapest(&self, first: usize, number: usize) -> (usize, u64) {
+        (0..number)
+            .map(|branch| (branch, self.rows[first + branch]))
+            .min_by_key(|&(_, cost)| cost)
+            .unwrap_or((0, ENDLESS))
+    }
+}
+
+/// A valid list under an all-held table, with its texts and a payload.
+#[derive(Clone, Debug)]
+pub struct Sample {
+    /// Root name and type.
+    pub root: (u32, u32),
+    /// Mode.
+    pub mode: u32,
+    /// The list, with true bit counts where no quirk was put in.
+    pub events: Vec<[u32; 4]>,
+    /// The texts.
+    pub texts: Vec<u8>,
+    /// The payload's bits, the mode byte included.
+    pub bits: Vec<bool>,
+    /// Whether some code is not the one a writer makes.
+    pub quirky: bool,
+}
+
+impl Sample {
+    /// The payload.
+    pub fn payload(&self) -> Vec<u8> {
+        bytes_of(&self.bits)
+    }
+}
+
+/// A right table whose root, type 0, nests about as many rows as may be open, of every kind that nests.
+pub fn deep_table(rng: &mut Rng) -> Vec<u32> {
+    let depth = rng.within(58, 70);
+    let plain = rng.pick(&[[1, 0, 0, 0, 0, 0, 0], [1, 1, 0, 0, 0, 0, 0]]);
+    let mut types = vec![[1, 2, 0, 0, 0, 0, 0], plain];
+    let mut rows = vec![];
+    for row in 0..depth as u32 {
+        let next = row + 1;
+        rows.push(match rng.below(6) {
+            0 => [1, next, 1, 0],
+            1 => [2, next, 2, 0],
+            2 => [3, next, 1, 1],
+            3 => [3, next, rng.below(2) as u32, rng.pick(&[1, 2, 65_536])],
+            _ => {
+                types.push([1, 2, 0, 0, next, 0, 0]);
+                [0, name(rng), types.len() as u32 - 1, 0]
+            }
+        });
+    }
+    // Two elements end the chain, since its last row may be a choice.
+    rows.extend([[0, 2, 1, 0], [0, 3, 1, 0]]);
+    let mut words = vec![1, types.len() as u32, 0, rows.len() as u32];
+    words.extend(types.concat());
+    words.extend(rows.concat());
+    words
+}
+
+/// A sample under a deep table, which may open more rows than are allowed.
+pub fn deep_sample(rng: &mut Rng, words: &[u32]) -> Option<Sample> {
+    let root = (name(rng), 0);
+    sample_of(rng, words, root, 0, 80)
+}
+
+/// A sample under a right table, with a quirk about once in `quirk` codes (0 for none). `None` where the table has no
+/// list that is short and shallow enough.
+pub fn sample(rng: &mut Rng, words: &[u32], quirk: usize) -> Option<Sample> {
+    let table = Table::new(words).ok()?;
+    let costs = Costs::of(&table);
+    let able: Vec<_> = (0..table.types()).filter(|&of_type| costs.types[of_type] < 400).collect();
+    if able.is_empty() {
+        return None;
+    }
+    let root = (name(rng), rng.pick(&able) as u32);
+    sample_of(rng, words, root, quirk, 64)
+}
+
+/// A sample of one root, opening at most `open` rows.
+fn sample_of(rng: &mut Rng, words: &[u32], root: (u32, u32), quirk: usize, open: usize) -> Option<Sample> {
+    let table = Table::new(words).ok()?;
+    let costs = Costs::of(&table);
+    let mode = rng.below(3) as u32;
+    let budget = if rng.one_in(20) { 400 } else { rng.within(0, 60) as u64 };
+    let mut maker = Maker { table, costs, rng, mode, budget, quirk, quirky: false, events: vec![], texts: vec![] };
+    let body = maker.element(root.0, root.1 as usize, open)?;
+    let mut bits = bits_of(u64::from(mode) << 6 | 0x0f, 8);
+    bits.extend(body);
+    Some(Sample { root, mode, events: maker.events, texts: maker.texts, bits, quirky: maker.quirky })
+}
+
+struct Maker<'a> {
+    table: Table<'a>,
+    costs: Costs,
+    rng: &'a mut Rng,
+    mode: u32,
+    /// Events that may be spent beyond the cheapest list.
+    budget: u64,
+    quirk: usize,
+    quirky: bool,
+    events: Vec<[u32; 4]>,
+    texts: Vec<u8>,
+}
+
+impl Maker<'_> {
+    /// Whether the code at hand shall be odd.
+    fn odd(&mut self) -> bool {
+        let odd = self.quirk > 0 && self.rng.one_in(self.quirk);
+        self.quirky |= odd;
+        odd
+    }
+
+    /// vluimsbf5 of `value`, at times too long or too large.
+    fn number(&mut self, value: u64) -> Vec<bool> {
+        if !self.odd() {
+            return bits5(value, groups(value));
+        }
+        match self.rng.below(4) {
+            0 => vec![true; self.rng.within(5, 12)],
+            1 => {
+                let value = u64::from(edge_word(self.rng));
+                bits5(value, groups(value))
+            }
+            _ => bits5(value, self.rng.within(groups(value), 8)),
+        }
+    }
+
+    fn push(&mut self, kind: u32, p: u32, q: u32, bits: &[bool]) {
+        self.events.push([kind, p, q, bits.len() as u32]);
+    }
+
+    fn element(&mut self, name: u32, of_type: usize, open: usize) -> Option<Vec<bool>> {
+        let open = open.checked_sub(1)?;
+        let index = self.events.len();
+        let has_length = self.mode == 2 || (self.mode == 1 && !self.rng.one_in(3));
+        self.events.push([1, name, u32::from(has_length), 0]);
+        let row = self.table.type_row(of_type);
+        let mut body = vec![];
+        for attribute in row.first_attribute..row.first_attribute + row.attributes {
+            let attribute = self.table.attribute_row(attribute);
+            let present = attribute.required || self.rng.one_in(2);
+            let flag = if attribute.required { vec![] } else { vec![present] };
+            self.push(2, attribute.name, u32::from(present), &flag);
+            body.extend(flag);
+            if present {
+                body.extend(self.value(attribute.of_type));
+            }
+        }
+        match row.content {
+            content::EMPTY => {}
+            content::SIMPLE => body.extend(self.value(of_type)),
+            _ => body.extend(self.particle(row.a as usize, open)?),
+        }
+        self.events.push([6, 0, 0, 0]);
+        let mut head = vec![];
+        if self.mode == 1 {
+            head.push(has_length);
+        }
+        if has_length {
+            let mut length = body.len() as u64;
+            if self.odd() {
+                let shift = self.rng.within(1, 9) as u64;
+                length = if self.rng.one_in(2) { length + shift } else { length.saturating_sub(shift) };
+            }
+            head.extend(self.number(length));
+        }
+        self.events[index][3] = head.len() as u32;
+        head.extend(body);
+        Some(head)
+    }
+
+    /// A value word that its row has, and its bits.
+    fn value(&mut self, of_type: usize) -> Vec<bool> {
+        let row = self.table.type_row(of_type);
+        let (b, c) = (i64::from(row.b), i64::from(row.c));
+        if row.a == value::TEXT {
+            return self.text();
+        }
+        let word = match row.a {
+            value::BOOLEAN => self.rng.below(2) as u32,
+            value::RANGED => {
+                let (low, high) = (i64::from(row.b as i32), i64::from(row.c as i32));
+                let value = match self.rng.below(4) {
+                    0 => low,
+                    1 => high,
+                    _ => low + self.rng.below((high - low + 1) as usize) as i64,
+                };
+                value as i32 as u32
+            }
+            value::ENUMERATION => match self.rng.below(3) {
+                0 => row.b - 1,
+                _ => self.rng.below(row.b as usize) as u32,
+            },
+            _ => edge_word(self.rng),
+        };
+        let mut bits = value_bits(row.a.into(), b, c, word).unwrap_or_default();
+        if self.odd() {
+            bits = match row.a {
+                value::UNSIGNED => self.number(word.into()),
+                value::SIGNED => {
+                    // Minus zero, magnitudes past their limits, and codes that are not shortest.
+                    let magnitude = self.rng.pick(&[0, 0, 1, 1 << 31, (1 << 31) + 1]);
+                    let mut bits = vec![self.rng.one_in(2)];
+                    bits.extend(self.number(magnitude));
+                    bits
+                }
+                value::RANGED if bits.len() != width(i64::from(row.c as i32) - i64::from(row.b as i32) + 1) => {
+                    let above = edge_word(self.rng);
+                    self.number(above.into())
+                }
+                // All ones names nothing wherever the choices are no power of two.
+                _ => vec![true; bits.len()],
+            };
+        }
+        self.push(3, word, 0, &bits);
+        bits
+    }
+
+    fn text(&mut self) -> Vec<bool> {
+        let characters = match self.rng.below(40) {
+            0 => self.rng.within(100, 700),
+            1..=20 => self.rng.within(0, 4),
+            _ => self.rng.within(0, 20),
+        };
+        let mut text = String::new();
+        for _ in 0..characters {
+            text.push(character(self.rng));
+        }
+        let mut bytes = text.into_bytes();
+        if !bytes.is_empty() && self.odd() {
+            let at = self.rng.below(bytes.len());
+            bytes[at] = self.rng.word() as u8;
+        }
+        let mut bits = self.number(bytes.len() as u64);
+        for &byte in &bytes {
+            bits.extend(bits_of(byte.into(), 8));
+        }
+        self.push(3, bytes.len() as u32, 0, &bits);
+        self.texts.extend(bytes);
+        bits
+    }
+
+    fn particle(&mut self, row: usize, open: usize) -> Option<Vec<bool>> {
+        match self.table.particle_row(row) {
+            Particle::Element { name, of_type } => self.element(name, of_type, open),
+            Particle::Sequence { first, number } => {
+                let open = open.checked_sub(1)?;
+                let mut bits = vec![];
+                for child in first..first + number {
+                    bits.extend(self.particle(child, open)?);
+                }
+                Some(bits)
+            }
+            Particle::Choice { first, number } => {
+                let open = open.checked_sub(1)?;
+                let (cheapest, least) = self.costs.cheapest(first, number);
+                let wished = self.rng.below(number);
+                let extra = self.costs.rows[first + wished] - least;
+                let branch = if self.spend(extra) { wished } else { cheapest };
+                let mut bits = bits_of(branch as u64, width(number as i64));
+                if self.odd() {
+                    bits = vec![true; bits.len()];
+                }
+                self.push(4, branch as u32, 0, &bits);
+                bits.extend(self.particle(first + branch, open)?);
+                Some(bits)
+            }
+            Particle::Occurs { child, least, most } => {
+                let open = open.checked_sub(1)?;
+                let cost = self.costs.rows[child];
+                let mut count = least;
+                let wished = self.rng.below(5);
+                while count < most.min(65_535) && count < least + wished as u32 && self.spend(cost) {
+                    count += 1;
+                }
+                let mut bits = count_bits(least.into(), most.into(), count).unwrap_or_default();
+                if self.odd() {
+                    bits = self.odd_count(least, most, count, bits);
+                }
+                self.push(5, count, 0, &bits);
+                for _ in 0..count {
+                    bits.extend(self.particle(child, open)?);
+                }
+                Some(bits)
+            }
+        }
+    }
+
+    /// A count's code that names nothing, is not shortest or is too large.
+    fn odd_count(&mut self, least: u32, most: u32, count: u32, bits: Vec<bool>) -> Vec<bool> {
+        if most != 65_536 {
+            let fill = self.rng.one_in(2);
+            return bits.iter().enumerate().map(|(at, _)| fill || at == 0).collect();
+        }
+        let shunt = least == 0;
+        let mut odd = if shunt { vec![true] } else { vec![] };
+        let above = self.rng.pick(&[0, count - least, 65_535 - least, 65_536 - least]);
+        odd.extend(self.number(above.into()));
+        odd
+    }
+
+    /// Takes `cost` events from the budget, if it has them.
+    fn spend(&mut self, cost: u64) -> bool {
+        if cost > self.budget {
+            return false;
+        }
+        self.budget -= cost;
+        true
+    }
+}
+
+/// A character of one to four bytes, those at the limits of a length among them.
+fn character(rng: &mut Rng) -> char {
+    let code = match rng.below(10) {
+        0 => rng.pick(&[0, 0x7f, 0x80, 0x7ff, 0x800, 0xd7ff, 0xe000, 0xffff, 0x10000, 0x10_ffff]),
+        1 => rng.within(0x80, 0x7ff) as u32,
+        2 => rng.within(0x800, 0xd7ff) as u32,
+        3 => rng.within(0x10000, 0x10_ffff) as u32,
+        _ => rng.within(0x20, 0x7e) as u32,
+    };
+    char::from_u32(code).unwrap_or(' ')
+}
+
+/// Bits flipped, bytes cut off or added, another mode byte.
+pub fn damage_payload(rng: &mut Rng, payload: &mut Vec<u8>) {
+    match rng.below(10) {
+        0 => {
+            let length = rng.below(payload.len() + 1);
+            payload.truncate(length);
+        }
+        1 => {
+            payload.pop();
+        }
+        2 => payload.push(if rng.one_in(2) { 0 } else { rng.word() as u8 }),
+        3 if !payload.is_empty() => payload[0] = rng.pick(&[0x0f, 0x4f, 0x8f, 0xcf, 0x1f, 0x2f, 0x07]),
+        4 if !payload.is_empty() => {
+            // A 1 in the last byte hits the padding as often as anything.
+            let last = payload.len() - 1;
+            payload[last] |= 1 << rng.below(8);
+        }
+        _ => {
+            for _ in 0..rng.within(1, 3) {
+                if !payload.is_empty() {
+                    let bit = rng.below(8 * payload.len());
+                    payload[bit / 8] ^= 0x80 >> (bit % 8);
+                }
+            }
+        }
+    }
+}
+
+/// Random bytes behind a mode byte, small numbers being more common so that lengths are not hopeless.
+pub fn noise(rng: &mut Rng) -> Vec<u8> {
+    let length = rng.within(0, 40);
+    let mut payload = vec![rng.pick(&[0x0f, 0x4f, 0x8f, 0x8f])];
+    payload.extend((0..length).map(|_| (rng.word() & rng.word() & rng.word()) as u8));
+    payload
+}
+
+/// A list with one word or event changed, or its texts.
+pub fn damage_list(rng: &mut Rng, events: &mut Vec<[u32; 4]>, texts: &mut Vec<u8>) {
+    let at = rng.below(events.len());
+    match rng.below(12) {
+        0 => {
+            events.remove(at);
+        }
+        1 => events.insert(at, events[at]),
+        2 => events.truncate(at),
+        3 => events.push([rng.below(9) as u32, 0, 0, 0]),
+        4 => events[at][0] = 7,
+        5 => {
+            let other = rng.below(events.len());
+            events.swap(at, other);
+        }
+        6 => {
+            if rng.one_in(2) {
+                texts.pop();
+            } else {
+                texts.push(b'a');
+            }
+        }
+        7 if !texts.is_empty() => {
+            let byte = rng.below(texts.len());
+            texts[byte] = rng.word() as u8;
+        }
+        8 => events[at][0] = rng.below(9) as u32,
+        _ => {
+            let column = rng.within(1, 2);
+            events[at][column] = match rng.below(3) {
+                0 => events[at][column].wrapping_add(1),
+                1 => events[at][column] ^ 1,
+                _ => edge_word(rng),
+            };
+        }
+    }
+}

@@ -1,0 +1,24 @@
+//! The second, independent implementation of the payload codec, written from documents 01 and 001 and the team's
+//! readings of them. It judges the proved one, so it favours plain code over clever code.
+
+#![forbid(unsafe_code)]
+#![warn(missing_docs)]
+
+pub mod answer;
+pub mod bits;
+pub mod cases;
+pub mod code_cases;
+pub mod codes;
+pub mod demands;
+pub mod gen;
+pub mod host;
+pub mod listing;
+pub mod model;
+pub mod reader;
+pub mod rng;
+pub mod table;
+pub mod trials;
+pub mod utf8;
+pub mod value;
+pub mod vectors;
+pub mod writer;

@@ -1,0 +1,495 @@
+//! One trial is one seeded case of some kind, held against the demands.
+
+use crate::demands::{self, check_table, two_tables, ReadCall, Tally, WriteCall};
+use crate::gen;
+use crate::rng::Rng;
+use crate::{bits, codes, host, model, reader, utf8, value, writer};
+
+/// The kinds of trial, by name.
+pub const KINDS: [&str; 10] = [
+    "valid lists",
+    "odd codes",
+    "damaged payloads",
+    "two tables",
+    "damaged lists",
+    "damaged tables",
+    "noise",
+    "codes alone",
+    "C boundary",
+    "deep lists",
+];
+
+/// How often each kind comes up among 21.
+const SHARES: [usize; 21] = [0, 0, 0, 1, 1, 1, 2, 2, 2, 3, 3, 3, 4, 4, 4, 5, 6, 7, 7, 8, 9];
+
+/// Runs the trial of this seed; gives its kind, and `Err` with what was violated.
+pub fn trial(tally: &mut Tally, seed: u64) -> (usize, Result<(), String>) {
+    let mut rng = Rng::new(seed);
+    let kind = rng.pick(&SHARES);
+    let result = match kind {
+        0 => valid_list(tally, &mut rng),
+        1 => odd_codes(tally, &mut rng),
+        2 => damaged_payload(tally, &mut rng),
+        3 => two_table_trial(tally, &mut rng),
+        4 => damaged_list(tally, &mut rng),
+        5 => damaged_table(tally, &mut rng),
+        6 => noise(tally, &mut rng),
+        7 => codes_alone(&mut rng),
+        8 => boundary(&mut rng),
+        _ => deep_list(tally, &mut rng),
+    };
+    (kind, result)
+}
+
+/// A table that has lists, and a sample of them.
+fn table_and_sample(rng: &mut Rng, quirk: usize) -> (Vec<u32>, gen::Sample) {
+    loop {
+        let table = gen::table(rng);
+        if let Some(sample) = gen::sample(rng, &table, quirk) {
+            return (table, sample);
+        }
+    }
+}
+
+/// Event words and text bytes to lend for lists of about this size: mostly enough, else just short.
+fn rooms(rng: &mut Rng, events: usize, texts: usize) -> (usize, usize) {
+    let event_words = match rng.below(6) {
+        0 => 4 * events,
+        1 => (4 * events).saturating_sub(rng.within(1, 9)),
+        2 => rng.below(4 * events + 1),
+        _ => 4 * events + rng.below(9),
+    };
+    let text_room = match rng.below(6) {
+        0 => texts.saturating_sub(1),
+        1 => rng.below(texts + 1),
+        _ => texts + rng.below(5),
+    };
+    (event_words, text_room)
+}
+
+/// A valid list is written to the sample's own bits, and reads back as that list.
+fn valid_list(tally: &mut Tally, rng: &mut Rng) -> Result<(), String> {
+    let (table, sample) = table_and_sample(rng, 0);
+    let payload = sample.payload();
+    let words = sample.events.concat();
+    let fits = payload.len() <= 8192 && sample.events.len() <= 2048;
+    let mut call = WriteCall {
+        table: &table,
+        root: sample.root,
+        mode: sample.mode,
+        events: &words,
+        texts: &sample.texts,
+        room: payload.len(),
+    };
+    let (answer, written) = demands::write(tally, &call)?;
+    if answer.is_accepted() != fits {
+        return Err(format!("a valid list gets {answer:?}"));
+    }
+    if !fits {
+        return Ok(());
+    }
+    if written != payload || answer.bits != sample.bits.len() {
+        return Err(format!("{payload:02x?} should be written, not {written:02x?}"));
+    }
+    let mut read_call = ReadCall {
+        table: &table,
+        root: sample.root,
+        payload: &payload,
+        event_words: words.len(),
+        text_room: sample.texts.len(),
+    };
+    let outcome = demands::read(tally, &read_call)?;
+    if outcome.list() != sample.events || outcome.text() != sample.texts {
+        return Err(format!("{:?} reads as {:?}", sample.events, outcome.list()));
+    }
+    // One unit less of each room: 21, 7 and 8.
+    call.room -= 1;
+    let short = demands::write(tally, &call)?.0.number;
+    read_call.event_words -= 1;
+    let few = demands::read(tally, &read_call)?.answer.number;
+    read_call.event_words += 1;
+    let mut tight = 8;
+    if !sample.texts.is_empty() {
+        read_call.text_room -= 1;
+        tight = demands::read(tally, &read_call)?.answer.number;
+    }
+    if (short, few, tight) != (21, 7, 8) {
+        return Err(format!("short rooms give {short}, {few}, {tight}"));
+    }
+    Ok(())
+}
+
+/// A list that opens about as many rows as may be, some too many: written, read, and under two tables.
+fn deep_list(tally: &mut Tally, rng: &mut Rng) -> Result<(), String> {
+    let table = gen::deep_table(rng);
+    let Some(mut sample) = gen::deep_sample(rng, &table) else {
+        return Ok(());
+    };
+    let payload = sample.payload();
+    if rng.one_in(3) {
+        gen::damage_list(rng, &mut sample.events, &mut sample.texts);
+    }
+    let list = WriteCall {
+        table: &table,
+        root: sample.root,
+        mode: sample.mode,
+        events: &sample.events.concat(),
+        texts: &sample.texts,
+        room: payload.len() + 9,
+    };
+    demands::write(tally, &list)?;
+    let first = gen::let_go(rng, &table, 12);
+    let call = ReadCall {
+        table: &table,
+        root: sample.root,
+        payload: &payload,
+        event_words: 4 * sample.events.len() + 16,
+        text_room: sample.texts.len(),
+    };
+    two_tables(tally, &first, &call)
+}
+
+/// A payload with codes that no writer of ours makes.
+fn odd_codes(tally: &mut Tally, rng: &mut Rng) -> Result<(), String> {
+    let quirk = rng.pick(&[3, 8, 25]);
+    let (table, sample) = table_and_sample(rng, quirk);
+    let (event_words, text_room) = rooms(rng, sample.events.len(), sample.texts.len());
+    let table = gen::let_go(rng, &table, 5);
+    let call = ReadCall { table: &table, root: sample.root, payload: &sample.payload(), event_words, text_room };
+    demands::read(tally, &call).map(drop)
+}
+
+/// A payload damaged from outside, now and then with a wrong root.
+fn damaged_payload(tally: &mut Tally, rng: &mut Rng) -> Result<(), String> {
+    let (table, sample) = table_and_sample(rng, 0);
+    let mut payload = sample.payload();
+    gen::damage_payload(rng, &mut payload);
+    let (event_words, text_room) = rooms(rng, sample.events.len() + 3, sample.texts.len() + 8);
+    let table = gen::let_go(rng, &table, 5);
+    let root = match rng.below(40) {
+        0 => (sample.root.0, table[1] + rng.below(2) as u32),
+        1 => (gen::edge_word(rng), sample.root.1),
+        2 => (sample.root.0, gen::edge_word(rng)),
+        _ => sample.root,
+    };
+    let call = ReadCall { table: &table, root, payload: &payload, event_words, text_room };
+    demands::read(tally, &call).map(drop)
+}
+
+/// Demand 3, on whole, odd and damaged payloads.
+fn two_table_trial(tally: &mut Tally, rng: &mut Rng) -> Result<(), String> {
+    let quirk = rng.pick(&[0, 0, 60]);
+    let (table, sample) = table_and_sample(rng, quirk);
+    let mut payload = sample.payload();
+    if rng.one_in(4) {
+        gen::damage_payload(rng, &mut payload);
+    }
+    let second = gen::let_go(rng, &table, 8);
+    let first = gen::let_go(rng, &second, 3);
+    let mut call = ReadCall {
+        table: &first,
+        root: sample.root,
+        payload: &payload,
+        event_words: 4 * sample.events.len() + 40,
+        text_room: sample.texts.len() + 40,
+    };
+    // Room for the first, and not always for the second: the last part of demand 3.
+    let least = demands::read(tally, &call)?.answer;
+    let tight = least.is_accepted() && least.events < sample.events.len() && rng.one_in(2);
+    if tight {
+        call.event_words = 4 * rng.within(least.events, sample.events.len());
+        call.text_room = rng.within(least.text, sample.texts.len().max(least.text));
+    } else if rng.one_in(4) {
+        (call.event_words, call.text_room) = rooms(rng, sample.events.len(), sample.texts.len());
+    }
+    call.table = &second;
+    two_tables(tally, &first, &call)
+}
+
+/// A list damaged, a type let go, a wrong mode, root, room or shape.
+fn damaged_list(tally: &mut Tally, rng: &mut Rng) -> Result<(), String> {
+    let (mut table, sample) = table_and_sample(rng, 0);
+    let mut events = sample.events.clone();
+    let mut texts = sample.texts.clone();
+    if !rng.one_in(4) {
+        gen::damage_list(rng, &mut events, &mut texts);
+    }
+    if rng.one_in(5) {
+        table = gen::let_go(rng, &table, 4);
+    }
+    let mut words = events.concat();
+    if rng.one_in(30) {
+        words.pop();
+    }
+    let mode = match rng.below(10) {
+        0 => rng.below(5) as u32,
+        _ => sample.mode,
+    };
+    let root = match rng.below(30) {
+        0 => (sample.root.0, gen::edge_word(rng)),
+        1 => (gen::edge_word(rng), sample.root.1),
+        _ => sample.root,
+    };
+    let payload = sample.bits.len().div_ceil(8);
+    let room = match rng.below(8) {
+        0 => payload.saturating_sub(1),
+        1 => rng.below(payload + 1),
+        _ => payload + rng.below(20),
+    };
+    let call = WriteCall { table: &table, root, mode, events: &words, texts: &texts, room };
+    demands::write(tally, &call).map(drop)
+}
+
+/// A table damaged: the check against the model's, and all three calls give the same word.
+fn damaged_table(tally: &mut Tally, rng: &mut Rng) -> Result<(), String> {
+    let mut table = gen::table(rng);
+    for _ in 0..rng.within(0, 2) {
+        gen::damage_table(rng, &mut table);
+        if table.is_empty() {
+            break;
+        }
+    }
+    if rng.one_in(30) {
+        table = (0..rng.below(40)).map(|_| gen::edge_word(rng)).collect();
+    }
+    let fault = check_table(tally, &table)?;
+    let root = (rng.below(9) as u32, rng.below(3) as u32);
+    let read = ReadCall { table: &table, root, payload: &gen::noise(rng), event_words: 400, text_room: 100 };
+    let read = demands::read(tally, &read)?.answer;
+    let list = WriteCall {
+        table: &table,
+        root,
+        mode: rng.below(4) as u32,
+        events: &[1, root.0, 0, 0, 6, 0, 0, 0],
+        texts: &[],
+        room: 40,
+    };
+    let written = demands::write(tally, &list)?.0;
+    for answer in [read, written] {
+        let named = (answer.number == 1).then_some(answer.place as usize);
+        if named != fault {
+            return Err(format!("the check names {fault:?}, a call {answer:?}"));
+        }
+    }
+    Ok(())
+}
+
+/// Any root, any bits.
+fn noise(tally: &mut Tally, rng: &mut Rng) -> Result<(), String> {
+    let table = gen::table(rng);
+    let first = gen::let_go(rng, &table, 4);
+    let payload = gen::noise(rng);
+    let (event_words, text_room) = rooms(rng, 100, 40);
+    let call = ReadCall {
+        table: &table,
+        root: (rng.below(50) as u32, rng.below(table[1] as usize) as u32),
+        payload: &payload,
+        event_words,
+        text_room,
+    };
+    two_tables(tally, &first, &call)?;
+    // The same bits as a list.
+    let words: Vec<_> = (0..4 * rng.below(6)).map(|_| rng.below(9) as u32).collect();
+    let call =
+        WriteCall { table: &table, root: call.root, mode: rng.below(3) as u32, events: &words, texts: &[], room: 40 };
+    demands::write(tally, &call).map(drop)
+}
+
+/// Every code by itself, from any bit up to any wall, against the model's; then written and read back.
+fn codes_alone(rng: &mut Rng) -> Result<(), String> {
+    let mut payload: Vec<_> = (0..rng.within(0, 12)).map(|_| rng.word() as u8).collect();
+    if rng.one_in(2) {
+        let run = rng.below(payload.len() + 1);
+        payload[..run].fill(rng.pick(&[0x00, 0xff, 0xf0, 0xfe, 0x80]));
+    }
+    let end = rng.within(0, 8 * payload.len());
+    let at = rng.within(0, end);
+    let fetch = || model::Fetch::new(&payload, end, at);
+    let agree = |what: &str, got: String, expected: String| {
+        if got == expected {
+            return Ok(());
+        }
+        Err(format!("{what} from {at} to {end} of {payload:02x?}: {got}, and should {expected}"))
+    };
+
+    let bits = rng.below(33);
+    let got = bits::fixed(&payload, end, at, bits as u32).map(i64::from);
+    agree("fixed", format!("{got:?}"), format!("{:?}", fetch().fixed(bits)))?;
+
+    for (what, got, of_model) in [
+        ("vluimsbf5", codes::read5(&payload, end, at), with_bits(fetch(), at, model::Fetch::loose5)),
+        ("vluimsbf8", codes::read8(&payload, end, at), with_bits(fetch(), at, model::Fetch::loose8)),
+    ] {
+        let got = got.map(|read| (i64::from(read.value), read.shortest, read.bits));
+        let expected = of_model.map(|((value, shortest), bits)| (value, shortest, bits));
+        agree(what, format!("{got:?}"), format!("{expected:?}"))?;
+    }
+    let strict = codes::strict5(&payload, end, at).map(|taken| (i64::from(taken.value), taken.bits));
+    let expected = with_bits(fetch(), at, |fetch| fetch.upto(i64::MAX));
+    agree("strict vluimsbf5", format!("{strict:?}"), format!("{expected:?}"))?;
+
+    let (least, most) = loop {
+        let (least, most) = (gen::edge_word(rng), gen::edge_word(rng));
+        if least <= 65_535 && (1..=65_536).contains(&most) && least <= most {
+            break (least, most);
+        }
+    };
+    let got = codes::read_occurs(least, most, &payload, end, at).map(|taken| (i64::from(taken.value), taken.bits));
+    let expected = with_bits(fetch(), at, |fetch| fetch.count(least.into(), most.into()));
+    agree("occurs", format!("{got:?}"), format!("{expected:?}"))?;
+
+    let kind = rng.below(7) as u32;
+    let (b, c) = match kind {
+        value::RANGED => {
+            let (one, two) = (gen::edge_word(rng) as i32, gen::edge_word(rng) as i32);
+            (one.min(two) as u32, one.max(two) as u32)
+        }
+        value::ENUMERATION => (rng.within(1, 65_536) as u32, 0),
+        _ => (0, 0),
+    };
+    let got = value::read(kind, b, c, &payload, end, at).map(|read| (read.word, read.text, read.bits));
+    let expected = with_bits(fetch(), at, |fetch| fetch.value(kind.into(), b.into(), c.into()))
+        .map(|((word, text), bits)| (word, text.len(), bits));
+    agree("value", format!("{got:?}"), format!("{expected:?}"))?;
+
+    let word = gen::edge_word(rng);
+    let as_model = |code: Option<bits::Code>| code.map(|code| model::bits_of(code.bits, code.width as usize));
+    let got = as_model(value::write(kind, b, c, word).ok());
+    let expected = model::value_bits(kind.into(), b.into(), c.into(), word);
+    agree("written value", format!("{got:?}"), format!("{expected:?}"))?;
+    let got = as_model(codes::write_occurs(least, most, word));
+    let expected = model::count_bits(least.into(), most.into(), word);
+    agree("written count", format!("{got:?}"), format!("{expected:?}"))?;
+    let choices = (1_u64 << rng.below(32)) + rng.below(3) as u64;
+    let expected = model::width(choices as i64);
+    agree("width", codes::width(choices).to_string(), expected.to_string())?;
+
+    let text: Vec<_> = (0..rng.below(14))
+        .map(|_| rng.pick(&[0x41, 0x80, 0xbf, 0xc2, 0xe0, 0xa0, 0xed, 0x9f, 0xf0, 0x90, 0xf4, 0x8f, 0xef]))
+        .collect();
+    let good = utf8::check(&text) == 0;
+    agree("UTF-8", format!("{good} {text:02x?}"), format!("{} {text:02x?}", std::str::from_utf8(&text).is_ok()))
+}
+
+/// What a fetch of the model gives, and the bits it took.
+fn with_bits<'a, T>(
+    mut fetch: model::Fetch<'a>,
+    at: usize,
+    read: impl Fn(&mut model::Fetch<'a>) -> Result<T, u32>,
+) -> Result<(T, usize), u32> {
+    let value = read(&mut fetch)?;
+    Ok((value, fetch.at - at))
+}
+
+fn big_endian(words: &[u32]) -> Vec<u8> {
+    words.iter().flat_map(|word| word.to_be_bytes()).collect()
+}
+
+/// The area that an answer fills.
+fn area_of(answer: &crate::answer::Answer) -> Vec<u8> {
+    let names = answer.path.names();
+    let mut area = big_endian(&[
+        answer.place as u32,
+        answer.mode,
+        answer.events as u32,
+        answer.text as u32,
+        answer.bits as u32,
+        names.len() as u32,
+    ]);
+    area.extend(names.iter().flat_map(|name| name.to_be_bytes()));
+    area.resize(152, 0);
+    area
+}
+
+/// The byte calls against the word calls; 24, and bytes over the last whole word.
+fn boundary(rng: &mut Rng) -> Result<(), String> {
+    let quirk = rng.pick(&[0, 20]);
+    let (mut table, sample) = table_and_sample(rng, quirk);
+    if rng.one_in(8) {
+        gen::damage_table(rng, &mut table);
+    }
+    let mut payload = sample.payload();
+    if rng.one_in(3) {
+        gen::damage_payload(rng, &mut payload);
+    }
+    let mut table_bytes = big_endian(&table);
+    let ragged = rng.one_in(8);
+    if ragged {
+        let more = rng.within(1, 3);
+        table_bytes.extend(vec![0xdd; more]);
+    }
+    let whole = table.len();
+    let area_bytes = if rng.one_in(10) { rng.below(300) } else { 152 };
+    let fault = match model::check_table(&table) {
+        Some(word) if word < 4 => Some(word),
+        _ if ragged => Some(whole),
+        fault => fault,
+    };
+    let refusal =
+        |word: usize| crate::answer::Answer::refused(crate::answer::refusal(1, word), crate::answer::Path::empty());
+    let agree = |what: &str, got: (u32, Vec<u8>, Vec<u8>), expected: (u32, Vec<u8>, Vec<u8>)| {
+        if got == expected {
+            return Ok(());
+        }
+        Err(format!("{what}: {got:02x?}, and should {expected:02x?}"))
+    };
+    let zeros = |buffer: &[u8]| vec![0; buffer.len()];
+
+    let mut area = vec![0xdd; area_bytes];
+    let number = host::check_table(&table_bytes, &mut area);
+    let expected = match (area_bytes, fault) {
+        (152, None) => (0, vec![0; 152], vec![]),
+        (152, Some(word)) => (1, area_of(&refusal(word)), vec![]),
+        _ => (24, zeros(&area), vec![]),
+    };
+    agree("bim_check_table", (number, area, vec![]), expected)?;
+
+    let mut events = vec![0xdd; 16 * rng.below(sample.events.len() + 2) + rng.below(20)];
+    let mut texts = vec![0xdd; rng.below(sample.texts.len() + 9)];
+    let mut area = vec![0xdd; area_bytes];
+    let (name, of_type) = sample.root;
+    let number = host::read(&table_bytes, name, of_type, &payload, &mut events, &mut texts, &mut area);
+    let mut out = events.clone();
+    out.extend(&texts);
+    let expected = if area_bytes != 152 {
+        (24, zeros(&area), zeros(&out))
+    } else if let Some(word) = fault {
+        (1, area_of(&refusal(word)), zeros(&out))
+    } else {
+        let mut words = vec![0; 4 * (events.len() / 16)];
+        let mut text = vec![0; texts.len()];
+        let answer = reader::read(&table, name, of_type, &payload, &mut words, &mut text);
+        let mut out = big_endian(&words);
+        out.resize(events.len(), 0);
+        out.extend(text);
+        (answer.number, area_of(&answer), out)
+    };
+    agree("bim_read", (number, area, out), expected)?;
+
+    let mut list = big_endian(&sample.events.concat());
+    if rng.one_in(6) {
+        let length = rng.below(list.len() + 1);
+        list.truncate(length);
+    }
+    let mode = rng.pick(&[sample.mode, sample.mode, sample.mode, 3]);
+    let mut out = vec![0xdd; sample.bits.len().div_ceil(8) + rng.below(4)];
+    let mut area = vec![0xdd; area_bytes];
+    let number = host::write(&table_bytes, name, of_type, mode, &list, &sample.texts, &mut out, &mut area);
+    let expected = if area_bytes != 152 {
+        (24, zeros(&area), zeros(&out))
+    } else if let Some(word) = fault {
+        (1, area_of(&refusal(word)), zeros(&out))
+    } else {
+        // Bytes over a whole word read as one more word: the list is as ragged, and its events as many.
+        let mut words: Vec<_> = list.chunks(4).map(|word| u32::from_be_bytes([word[0], 0, 0, 0])).collect();
+        if list.len().is_multiple_of(4) {
+            words = list.chunks_exact(4).map(|word| u32::from_be_bytes([word[0], word[1], word[2], word[3]])).collect();
+        } else if list.len() % 16 > 12 {
+            words.pop();
+        }
+        let mut bytes = vec![0; out.len()];
+        let answer = writer::write(&table, name, of_type, mode, &words, &sample.texts, &mut bytes);
+        (answer.number, area_of(&answer), bytes)
+    };
+    agree("bim_write", (number, area, out), expected)
+}

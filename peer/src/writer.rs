@@ -1,0 +1,289 @@
+//! The writer: a list of events with texts, under a table and a root, as a payload in shortest codes.
+//!
+//! The walk judges every event and gathers its code; a Start's length is known at its End. Then the codes are put out.
+
+use crate::answer::{kind, number, refusal, Answer, Path, Refusal};
+use crate::answer::{MOST_BYTES, MOST_EVENTS, MOST_OPEN};
+use crate::bits::{BitWriter, Code};
+use crate::codes::{write5, write_choice, write_occurs};
+use crate::reader::check_root;
+use crate::table::{content, Particle, Table, Type};
+use crate::utf8;
+use crate::value;
+
+/// Mode bytes of the length coding modes 0, 1 and 2.
+const MODE_BYTES: [u8; 3] = [0x0f, 0x4f, 0x8f];
+
+/// Writes `events` with `texts` into `payload`. Bytes past the payload become 0; on refusal all do.
+pub fn write(
+    table: &[u32],
+    root_name: u32,
+    root_type: u32,
+    mode: u32,
+    events: &[u32],
+    texts: &[u8],
+    payload: &mut [u8],
+) -> Answer {
+    let written = check_call(table, root_name, root_type, mode).and_then(|table| {
+        check_shape(events.len(), 4)?;
+        write_into(table, root_name, root_type, mode, events, texts, payload)
+    });
+    answer(written, payload)
+}
+
+/// The answer of a call that must be refused for a list of `bytes` bytes that are not whole events, or too many.
+pub fn refuse_shape(
+    table: &[u32],
+    root_name: u32,
+    root_type: u32,
+    mode: u32,
+    bytes: usize,
+    payload: &mut [u8],
+) -> Answer {
+    let refused = check_call(table, root_name, root_type, mode).and(Err(refusal(number::NO_READING, bytes / 16)));
+    answer(refused, payload)
+}
+
+/// Clears what no payload byte covers: all of the buffer on refusal.
+fn answer(written: Result<Answer, Refusal>, payload: &mut [u8]) -> Answer {
+    let answer = written.unwrap_or_else(|refusal| Answer::refused(refusal, Path::empty()));
+    payload[answer.bits.div_ceil(8)..].fill(0);
+    answer
+}
+
+/// What can be refused before the list is looked at: 1, 2, 22.
+fn check_call(table: &[u32], root_name: u32, root_type: u32, mode: u32) -> Result<Table<'_>, Refusal> {
+    let table = check_root(table, root_name, root_type)?;
+    if mode > 2 {
+        return Err(refusal(number::WRITE_MODE, 0));
+    }
+    Ok(table)
+}
+
+/// A list of `units` words or bytes, `event` to an event: whole events, and at most 2,048 of them.
+pub fn check_shape(units: usize, event: usize) -> Result<(), Refusal> {
+    if !units.is_multiple_of(event) || units / event > MOST_EVENTS {
+        return Err(refusal(number::NO_READING, units / event));
+    }
+    Ok(())
+}
+
+fn write_into(
+    table: Table<'_>,
+    root_name: u32,
+    root_type: u32,
+    mode: u32,
+    events: &[u32],
+    texts: &[u8],
+    payload: &mut [u8],
+) -> Result<Answer, Refusal> {
+    let count = events.len() / 4;
+    let mut walk = Walk { table, mode, events, texts, next: 0, used: 0, bits: 8, pieces: Vec::with_capacity(count) };
+    walk.element(root_name, root_type as usize, MOST_OPEN)?;
+    if walk.next < count {
+        let number = if walk.event()?.kind == kind::BLANK { number::BLANK } else { number::NO_READING };
+        return Err(refusal(number, walk.next));
+    }
+    if walk.used < texts.len() {
+        return Err(refusal(number::TEXT_BYTES, count));
+    }
+    let bytes = walk.bits.div_ceil(8);
+    if bytes > MOST_BYTES || bytes > payload.len() {
+        return Err(refusal(number::PAYLOAD_ROOM, 0));
+    }
+    let mut out = BitWriter::new(payload);
+    out.put(Code::new(u32::from(MODE_BYTES[mode as usize]), 8));
+    let mut rest = texts;
+    for piece in &walk.pieces {
+        out.put(piece.code);
+        let (text, after) = rest.split_at(piece.text);
+        out.put_bytes(text);
+        rest = after;
+    }
+    out.finish();
+    Ok(Answer::accepted(mode, count, texts.len(), walk.bits))
+}
+
+/// What one event puts out.
+struct Piece {
+    code: Code,
+    /// Text bytes behind the code.
+    text: usize,
+}
+
+/// An event's words without the fourth, which the writer ignores.
+#[derive(Clone, Copy)]
+struct Event {
+    kind: u32,
+    p: u32,
+    q: u32,
+}
+
+struct Walk<'a> {
+    table: Table<'a>,
+    mode: u32,
+    events: &'a [u32],
+    texts: &'a [u8],
+    /// The next event.
+    next: usize,
+    /// Text bytes used so far.
+    used: usize,
+    /// Bits so far, the mode byte included.
+    bits: usize,
+    pieces: Vec<Piece>,
+}
+
+impl Walk<'_> {
+    fn element(&mut self, name: u32, of_type: usize, open: usize) -> Result<(), Refusal> {
+        let open = self.enter(open)?;
+        let row = self.table.type_row(of_type);
+        let start = self.take(kind::START, |event| {
+            let flag_good = match self.mode {
+                0 => event.q == 0,
+                1 => event.q <= 1,
+                _ => event.q == 1,
+            };
+            event.p == name && flag_good
+        })?;
+        if !row.held {
+            return self.refuse(number::NOT_HELD);
+        }
+        let piece = self.pieces.len();
+        self.put(Code::NONE);
+        let before = self.bits;
+        self.attributes(&row)?;
+        self.content(&row, open)?;
+        self.take(kind::END, |event| event.p == 0 && event.q == 0)?;
+        self.put(Code::NONE);
+
+        let flag = if self.mode == 1 { Code::new(start.q, 1) } else { Code::NONE };
+        let length = if start.q == 1 {
+            // 2,048 texts of 4,095 bytes stay far below 2^32 bits.
+            write5((self.bits - before) as u32)
+        } else {
+            Code::NONE
+        };
+        let code = flag.then(length);
+        self.pieces[piece].code = code;
+        self.bits += code.width as usize;
+        Ok(())
+    }
+
+    fn attributes(&mut self, row: &Type) -> Result<(), Refusal> {
+        for index in row.first_attribute..row.first_attribute + row.attributes {
+            let attribute = self.table.attribute_row(index);
+            let least = u32::from(attribute.required);
+            let event =
+                self.take(kind::ATTRIBUTE, |event| event.p == attribute.name && (least..=1).contains(&event.q))?;
+            self.put(if attribute.required { Code::NONE } else { Code::new(event.q, 1) });
+            if event.q == 1 {
+                let of_type = self.table.type_row(attribute.of_type);
+                self.value(&of_type)?;
+            }
+        }
+        Ok(())
+    }
+
+    fn content(&mut self, row: &Type, open: usize) -> Result<(), Refusal> {
+        match row.content {
+            content::EMPTY => Ok(()),
+            content::SIMPLE => self.value(row),
+            _ => self.particle(row.a as usize, open),
+        }
+    }
+
+    fn value(&mut self, row: &Type) -> Result<(), Refusal> {
+        let event = self.take(kind::VALUE, |event| event.q == 0)?;
+        let code = match value::write(row.a, row.b, row.c, event.p) {
+            Ok(code) => code,
+            Err(number) => return self.refuse(number),
+        };
+        let text = if row.a == value::TEXT { event.p as usize } else { 0 };
+        let left = &self.texts[self.used..];
+        if text > left.len() {
+            return self.refuse(number::TEXT_BYTES);
+        }
+        if utf8::check(&left[..text]) != 0 {
+            return self.refuse(number::NOT_UTF8);
+        }
+        self.put(code);
+        self.put_text(text);
+        Ok(())
+    }
+
+    fn particle(&mut self, row: usize, open: usize) -> Result<(), Refusal> {
+        match self.table.particle_row(row) {
+            Particle::Element { name, of_type } => self.element(name, of_type, open),
+            Particle::Sequence { first, number } => {
+                let open = self.enter(open)?;
+                (first..first + number).try_for_each(|child| self.particle(child, open))
+            }
+            Particle::Choice { first, number } => {
+                let open = self.enter(open)?;
+                let branch = self.number(kind::PICK, |p| write_choice(number as u32, p))?;
+                self.particle(first + branch as usize, open)
+            }
+            Particle::Occurs { child, least, most } => {
+                let open = self.enter(open)?;
+                let count = self.number(kind::TIMES, |p| write_occurs(least, most, p))?;
+                (0..count).try_for_each(|_| self.particle(child, open))
+            }
+        }
+    }
+
+    /// A Pick or Times event, with the number it names.
+    fn number(&mut self, kind: u32, code: impl Fn(u32) -> Option<Code>) -> Result<u32, Refusal> {
+        let event = self.take(kind, |event| event.q == 0)?;
+        match code(event.p) {
+            Some(code) => self.put(code),
+            None => return self.refuse(number::OUTSIDE_ROW),
+        }
+        Ok(event.p)
+    }
+
+    /// One more row is opened, if one may be. An event is wanted in it, and its lack (18) stands before 6.
+    fn enter(&self, open: usize) -> Result<usize, Refusal> {
+        self.event()?;
+        open.checked_sub(1).ok_or(refusal(number::TOO_DEEP, self.next))
+    }
+
+    /// The next event; 18 at the count where none is left.
+    fn event(&self) -> Result<Event, Refusal> {
+        match self.events.get(4 * self.next..4 * self.next + 4) {
+            Some(&[kind, p, q, _]) => Ok(Event { kind, p, q }),
+            _ => Err(refusal(number::NO_READING, self.next)),
+        }
+    }
+
+    /// The next event, judged but not yet passed: a Blank is 19, one of another kind or with wrong words is 18.
+    fn take(&self, kind: u32, good: impl Fn(Event) -> bool) -> Result<Event, Refusal> {
+        let event = self.event()?;
+        if event.kind == kind::BLANK {
+            return self.refuse(number::BLANK);
+        }
+        if event.kind != kind || !good(event) {
+            return self.refuse(number::NO_READING);
+        }
+        Ok(event)
+    }
+
+    fn refuse<T>(&self, number: u32) -> Result<T, Refusal> {
+        Err(refusal(number, self.next))
+    }
+
+    /// Passes the next event with its code.
+    fn put(&mut self, code: Code) {
+        self.pieces.push(Piece { code, text: 0 });
+        self.bits += code.width as usize;
+        self.next += 1;
+    }
+
+    /// Adds text bytes to the last event.
+    fn put_text(&mut self, text: usize) {
+        if let Some(piece) = self.pieces.last_mut() {
+            piece.text = text;
+        }
+        self.bits += 8 * text;
+        self.used += text;
+    }
+}

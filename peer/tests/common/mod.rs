@@ -1,0 +1,88 @@
+//! What the tests share: calls over buffers filled with dirt, and tables written row by row.
+
+#![allow(dead_code, unused_imports)] // no test file uses all of it
+
+use peer::answer::Answer;
+pub use peer::cases::{table_of, worked_table, WORKED as WORKED_PAYLOAD, WORKED_EVENTS};
+
+/// The bits of a text of 0s and 1s, padded with zeros to whole bytes.
+pub fn bits(text: &str) -> Vec<u8> {
+    let mut bytes = vec![0; text.len().div_ceil(8)];
+    for (at, bit) in text.bytes().enumerate() {
+        if bit == b'1' {
+            bytes[at / 8] |= 0x80 >> (at % 8);
+        }
+    }
+    bytes
+}
+
+/// A reader's answer with its buffers.
+pub struct Read {
+    pub answer: Answer,
+    pub events: Vec<u32>,
+    pub texts: Vec<u8>,
+}
+
+impl Read {
+    /// Accepted with exactly these events and texts, and zeros behind them.
+    pub fn accepted(&self, mode: u32, events: &[[u32; 4]], texts: &[u8], bits: usize) {
+        assert_eq!(self.answer, Answer::accepted(mode, events.len(), texts.len(), bits));
+        let words = events.concat();
+        assert_eq!(self.events[..words.len()], words);
+        assert!(self.events[words.len()..].iter().all(|&word| word == 0));
+        assert_eq!(&self.texts[..texts.len()], texts);
+        assert!(self.texts[texts.len()..].iter().all(|&byte| byte == 0));
+    }
+
+    /// Refused with this number, place and path, and all buffers zero.
+    pub fn refused(&self, number: u32, place: u64, path: &[u16]) {
+        assert_eq!((self.answer.number, self.answer.place), (number, place));
+        assert_eq!(self.answer.path.names(), path);
+        let rest = (self.answer.mode, self.answer.events, self.answer.text, self.answer.bits);
+        assert_eq!(rest, (0, 0, 0, 0));
+        assert!(self.events.iter().all(|&word| word == 0));
+        assert!(self.texts.iter().all(|&byte| byte == 0));
+    }
+}
+
+/// Reads with room for `room` events and `text_room` text bytes.
+pub fn read(table: &[u32], root_name: u32, root_type: u32, payload: &[u8], room: usize, text_room: usize) -> Read {
+    // Three odd words behind the last whole event must be cleared too.
+    let mut events = vec![0xdddd_dddd; 4 * room + 3];
+    let mut texts = vec![0xdd; text_room];
+    let answer = peer::reader::read(table, root_name, root_type, payload, &mut events, &mut texts);
+    Read { answer, events, texts }
+}
+
+/// A writer's answer with its buffer.
+pub struct Written {
+    pub answer: Answer,
+    pub payload: Vec<u8>,
+}
+
+impl Written {
+    /// Refused with this number and place, and the buffer zero.
+    pub fn refused(&self, number: u32, place: u64) {
+        assert_eq!((self.answer.number, self.answer.place), (number, place));
+        assert!(self.answer.path.names().is_empty());
+        let rest = (self.answer.mode, self.answer.events, self.answer.text, self.answer.bits);
+        assert_eq!(rest, (0, 0, 0, 0));
+        assert!(self.payload.iter().all(|&byte| byte == 0));
+    }
+}
+
+/// Writes into `room` bytes.
+pub fn write(
+    table: &[u32],
+    root_name: u32,
+    root_type: u32,
+    mode: u32,
+    events: &[[u32; 4]],
+    texts: &[u8],
+    room: usize,
+) -> Written {
+    let mut payload = vec![0xdd; room];
+    let words = events.concat();
+    let answer = peer::writer::write(table, root_name, root_type, mode, &words, texts, &mut payload);
+    Written { answer, payload }
+}
