@@ -1,17 +1,17 @@
 -- BLANKS: one stands exactly where a type is not held and a length is coded. So by the grammar for every tree, and so in the reading at every head.
-use Prim.Native.Nat.{ℕ, zero, suc, _+_, _-_}
-use mathlib.Core.Path.{_≡_, refl, sym, ap, _∙_}
+use Prim.Native.Nat.{ℕ, _+_, _-_}
+use mathlib.Core.Path.{_≡_, refl}
 use mathlib.Core.Bool.{Bool, true, false}
-use mathlib.Core.List.{List, [], _∷_, _++_}
+use mathlib.Core.List.{List, []}
 use native.Mathlib.Omega.{arith}
 use lib.Dec.{ltb}
 use lib.ListN.{length, length-append}
-use Rattle.wire.specs.Res.{Res, got, fault}
-use Rattle.model.specs.Model.{Event, event, Mark, Nodes, Path, Plan, Answer}
+use Rattle.wire.specs.Res.{got, fault}
+use Rattle.model.specs.Model.{event, Nodes, Path, Plan}
 use Rattle.model.specs.Model.Plan.{element}
 use Rattle.model.specs.Model.Nodes.{none, leaf, node}
-use Rattle.model.specs.Model.Answer.{given, refused}
-use Rattle.model.specs.Items.{Mode, Length, free, long, HeadIs, no-head, flag-off, flag-on, head-on, Head, headAt}
+use Rattle.model.specs.Model.Answer.{refused}
+use Rattle.model.specs.Items.{Mode, Length, long, HeadIs, no-head, Head, headAt}
 use Rattle.model.specs.ItemLaws.{same-type}
 use Rattle.model.specs.Grammar.{opens, Is, nothing, an-item, an-element, a-blank}
 use Rattle.model.specs.Plain.{Plain, item-plain}

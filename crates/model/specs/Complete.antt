@@ -10,10 +10,10 @@ use lib.Dec.{ltb}
 use lib.ListN.{length, length-append}
 use Rattle.wire.specs.Res.{Res, got}
 use Rattle.wire.specs.BitLaws.{At, at-left, at-right}
-use Rattle.model.specs.Model.{Event, event, eventOf, Plan, Mark, Nodes, Path, Answer, slotsOf, bytesOf, bitsOf, _then_}
+use Rattle.model.specs.Model.{Event, event, eventOf, Plan, Mark, Nodes, Path, Answer, slotsOf, bytesOf, bitsOf}
 use Rattle.model.specs.Model.Nodes.{none, leaf, node}
 use Rattle.model.specs.Model.Answer.{given}
-use Rattle.model.specs.Items.{Mode, Length, free, long, coded, Measures, Head, headAt, itemAt}
+use Rattle.model.specs.Items.{Mode, Length, free, long, coded, Measures, Head}
 use Rattle.model.specs.ItemLaws.{item-reads, headOf, stopOf, stop-in, head-reads}
 use Rattle.model.specs.Grammar.{opens, Is, nothing, an-item, an-element, a-blank}
 use Rattle.model.specs.Read.{Room, less, lessOne, after, code, kept, stored, met, ended, closed, Into, entered, mark, bare, sized, opened, elementAt, read}

@@ -2,7 +2,7 @@
 -- occurrence bounds, values of their kinds. `FollowsModel.antt` proves it of every list given.
 use Prim.Native.Nat.{ℕ, zero, suc, _+_, _<_, _≤_}
 use mathlib.Core.Path.{_≡_}
-use mathlib.Core.Bool.{true, false}
+use mathlib.Core.Bool.{false}
 use mathlib.Core.List.{List, [], _∷_, _++_}
 use Rattle.table.specs.Rows.{Row, Content, Attribute, Table}
 use Rattle.value.specs.Simple.{simpleOf, SimpleIs}

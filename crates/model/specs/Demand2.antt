@@ -1,27 +1,26 @@
 -- DEMAND 2, of the entries, over words and bytes. The writer turns a valid list into bytes which, given room, read back as that list with true
 -- bit counts; bytes read without blanks are written back identically where room allows. What is valid the grammar says.
-use Prim.Native.Nat.{ℕ, zero, suc, _+_, _-_, _*_, _/_, _%_, _<_, _≤_, _^_, min}
-use mathlib.Core.Path.{_≡_, refl, sym, ap, subst, _∙_}
+use Prim.Native.Nat.{ℕ, suc, _+_, _/_, _<_, _≤_, _^_, min}
+use mathlib.Core.Path.{_≡_, refl, sym, ap, _∙_}
 use mathlib.Core.List.{List, [], _∷_, map}
 use native.Mathlib.Omega.{arith}
 use lib.ListN.{length, length-map}
-use Rattle.wire.specs.Res.{got}
-use Rattle.table.specs.Rows.{tableOf, heldOf}
+use Rattle.table.specs.Rows.{heldOf}
 use Rattle.value.specs.Simple.{Octets}
-use Rattle.model.specs.Model.{Event, Nodes, events, texts, slotsOf, bytesOf}
+use Rattle.model.specs.Model.{Nodes, events, texts, slotsOf, bytesOf}
 use Rattle.model.specs.Items.{Mode}
 use Rattle.model.specs.Grammar.{Is}
 use Rattle.model.specs.Trees.{slots-length, bytes-length, total, bits-total}
-use Rattle.model.specs.Write.{Bare, bare, Out, write}
-use Rattle.model.specs.Plain.{NoBlank, Plain, list-plain, plain-list}
-use Rattle.model.specs.Lists.{lists, spells, lists-all, spells-all}
-use Rattle.model.specs.WriteSound.{Written, write-is}
+use Rattle.model.specs.Write.{bare}
+use Rattle.model.specs.Plain.{NoBlank, list-plain, plain-list}
+use Rattle.model.specs.Lists.{lists-all, spells-all}
+use Rattle.model.specs.WriteSound.{write-is}
 use Rattle.model.specs.WriteComplete.{is-written}
 use Rattle.model.specs.Pack.{pack}
 use Rattle.model.specs.PackLaws.{pack-length}
-use Rattle.model.specs.Payload.{PayloadIs, payload-found, payload-reads, payload-sum, payload-bytes, packed-is}
+use Rattle.model.specs.Payload.{payload-found, payload-reads, payload-sum, payload-bytes, packed-is}
 use Rattle.model.specs.Whole.{modeByte, modeNumber, accepted, roomOf, reading, eventWords, made, writing}
-use Rattle.model.specs.Entries.{Entered, planOf, reading-entered, reading-found, Shaped, listOf, mode-asked, asked-mode, Writing, written-then, writing-entered, Wrote, writing-found, words-length, list-back, events-length}
+use Rattle.model.specs.Entries.{Entered, planOf, reading-entered, reading-found, Shaped, listOf, mode-asked, asked-mode, written-then, writing-entered, writing-found, words-length, list-back, events-length}
 
 -- a list of events and its texts, for a table, a root and a mode: by the grammar some bits are a tree without a Blank whose events these are,
 -- but for their fourth words, and whose texts these are

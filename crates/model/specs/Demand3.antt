@@ -1,6 +1,6 @@
 -- DEMAND 3, of the entry `reading`, over words and bytes: what one who holds less may say. One payload, root and output room; two valid tables alike
 -- but for held marks, the second holding all that the first holds.
-use Prim.Native.Nat.{ℕ, zero, suc, _+_, _-_, _*_, _<_, _≤_}
+use Prim.Native.Nat.{ℕ, _*_, _<_}
 use mathlib.Core.Path.{_≡_, refl, sym, ap, _∙_}
 use mathlib.Core.List.{List, [], _∷_, _++_, reverse}
 use mathlib.Core.Bool.{Bool, true, false, cond}
@@ -9,16 +9,14 @@ use native.Mathlib.Omega.{arith}
 use native.Mathlib.Decide.{decLt}
 use lib.Dec.{eqb}
 use lib.ListN.{length}
-use Rattle.wire.specs.Res.{Res, got, fault}
 use Rattle.wire.specs.Bits.{bitAt}
 use Rattle.wire.specs.BitLaws.{bit-lt}
 use Rattle.table.specs.Words.{typeAt, wordAt}
-use Rattle.table.specs.First.{Verdict}
-use Rattle.table.specs.First.Verdict.{right, wrong}
+use Rattle.table.specs.First.Verdict.{right}
 use Rattle.table.specs.Valid.{verdict}
 use Rattle.table.specs.Rows.{Table, tableOf, heldOf}
 use Rattle.table.specs.Held.{Alike, table-same}
-use Rattle.model.specs.Model.{Event, Mark, Nodes, Path, Plan, Answer, events, texts, bitsOf, rooted}
+use Rattle.model.specs.Model.{Mark, Nodes, Path, Plan, Answer, rooted}
 use Rattle.model.specs.Model.Answer.{given, refused}
 use Rattle.model.specs.Items.{Mode}
 use Rattle.model.specs.Read.{Room, read}
@@ -27,8 +25,8 @@ use Rattle.model.specs.Walk.{walk-said}
 use Rattle.model.specs.Complete.{is-shown}
 use Rattle.model.specs.Open.{Excuse}
 use Rattle.model.specs.Follow.{Follows, is-followed}
-use Rattle.model.specs.Payload.{PayloadIs, payload-found, moded-then, padded-then}
-use Rattle.model.specs.Whole.{modeOf, padding, Reply, accepted, declined, padded, replied, rootIn, inMode, payload, roomOf, reading}
+use Rattle.model.specs.Payload.{payload-found, moded-then, padded-then}
+use Rattle.model.specs.Whole.{padding, Reply, accepted, declined, padded, replied, rootIn, inMode, payload, roomOf, reading}
 use Rattle.model.specs.Entries.{Entered, planOf, reading-entered, reading-found}
 
 -- the two tables
@@ -38,6 +36,10 @@ pub record Pair (l l′ : List ℕ) : Type 0 where
   pub alike : Alike l l′
   pub holds : (t : ℕ) → t < tableOf l .types → heldOf l t ≡ true → heldOf l′ t ≡ true
 
+-- held by the second and not by the first
+abbrev pub newOf : List ℕ → List ℕ → ℕ → Bool
+newOf l l′ t = newly (heldOf l) (heldOf l′) t
+
 -- the first's answer: 9 at the first outermost newly held element that has no length; or, where there is none, the second's tree with each of
 -- them replaced by one Blank of the same bit count, and the same bits used
 unfoldable pub saysLess : Mode → Option (Mark × Path) → Nodes → ℕ → Reply
@@ -45,10 +47,6 @@ saysLess mode none ns q = accepted mode ns q
 saysLess mode (some (m, π)) ns q = declined 9 (m .at) (reverse π)
 
 module _ (l l′ : List ℕ) (pair : Pair l l′) where
-  -- held by the second and not by the first
-  abbrev pub newOf : ℕ → Bool
-  newOf t = newly (heldOf l) (heldOf l′) t
-
   -- a number that is no type has no mark
   holds-all : (t : ℕ) → heldOf l t ≡ true → heldOf l′ t ≡ true
   unfolding heldOf tableOf
@@ -88,20 +86,20 @@ module _ (l l′ : List ℕ) (pair : Pair l l′) where
 
     -- (a) If the second accepts: what the first says
     pub second-accepts : (mode : Mode) (ns : Nodes) (q : ℕ) → reading l′ name type s words bytes ≡ accepted mode ns q
-        → reading l name type s words bytes ≡ saysLess mode (firstBare (outermost newOf [] ns)) (replaced newOf ns) q
+        → reading l name type s words bytes ≡ saysLess mode (firstBare (outermost (newOf l l′) [] ns)) (replaced (newOf l l′) ns) q
     unfolding payload inMode rootIn
     second-accepts mode ns q e =
         let a = reading-found l′ name type s words bytes mode ns q e in
         let e′ : payload (heldOf l′) P s room ≡ accepted mode ns q = ap (λ (Q : Plan). payload (heldOf l′) Q s room) (sym same-plan) ∙ a .reads in
         let i = payload-found (heldOf l′) P s room mode ns q e′ in
         let f = i .found in
-        let shown = is-shown (bitAt s) mode (heldOf l) (heldOf l′) holds-all (f .is) room [] (8 * length s) q (f .stands) (f .within) (f .slots) (f .bytes) ∙ walk-said newOf [] ns q in
+        let shown = is-shown (bitAt s) mode (heldOf l) (heldOf l′) holds-all (f .is) room [] (8 * length s) q (f .stands) (f .within) (f .slots) (f .bytes) ∙ walk-said (newOf l l′) [] ns q in
         reading-entered l name type s words bytes (enters-first (a .enters))
-        ∙ rw (moded-then s mode (i .mode-byte), shown) (said-reply (padding s) mode (firstBare (outermost newOf [] ns)) (replaced newOf ns) q (padded-then s q (f .within) (i .pads)))
+        ∙ rw (moded-then s mode (i .mode-byte), shown) (said-reply (padding s) mode (firstBare (outermost (newOf l l′) [] ns)) (replaced (newOf l l′) ns) q (padded-then s q (f .within) (i .pads)))
 
     -- (b) If only the first accepts: the second refuses while an element that the first shows as a Blank is still open, or for lack of output room
     pub only-first-accepts : (mode : Mode) (ns : Nodes) (q n p : ℕ) (ρ : Path) → reading l name type s words bytes ≡ accepted mode ns q → reading l′ name type s words bytes ≡ declined n p ρ
-        → Excuse newOf [] ns n p ρ
+        → Excuse (newOf l l′) [] ns n p ρ
     unfolding payload inMode rootIn replied padded
     only-first-accepts mode ns q n p ρ e e′ =
         let a = reading-found l name type s words bytes mode ns q e in
@@ -113,7 +111,7 @@ module _ (l l′ : List ℕ) (pair : Pair l l′) where
         (is-followed (bitAt s) (bit-lt s) mode (heldOf l) (heldOf l′) holds-all (f .is) room [] (8 * length s) q (f .stands) (f .within))
         (padded-then s q (f .within) (i .pads)) (rw (moded-then s mode (i .mode-byte)) at read-on)
       where
-        go : (o : Answer) → Follows newOf [] ns q o → padding s q ≡ true → replied (padding s) mode o ≡ declined n p ρ → Excuse newOf [] ns n p ρ
+        go : (o : Answer) → Follows (newOf l l′) [] ns q o → padding s q ≡ true → replied (padding s) mode o ≡ declined n p ρ → Excuse (newOf l l′) [] ns n p ρ
         go (given ms k) f h e = absurd (let y = rw (f, h) at e in let z : _≡_ {A = ℕ} 0 1 = cc in omega arith)
         go (refused m k π) f h e =
             let x : m ≡ n = cc in

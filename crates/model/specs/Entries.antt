@@ -1,12 +1,11 @@
 -- The entries taken apart: a table that is right, a root that is known, then the payload; and for the writing the mode, the list's shape,
 -- then the walk and the room.
-use Prim.Native.Nat.{ℕ, zero, suc, _+_, _-_, _*_, _/_, _%_, _<_, _≤_, min}
-use mathlib.Core.Path.{_≡_, refl, sym, ap, _∙_}
+use Prim.Native.Nat.{ℕ, zero, suc, _+_, _*_, _/_, _%_, _<_, _≤_, min}
+use mathlib.Core.Path.{_≡_, refl, ap, _∙_}
 use mathlib.Core.Bool.{Bool, true, false, cond}
 use mathlib.Core.List.{List, [], _∷_, map}
 use native.Mathlib.Omega.{arith}
-use native.Mathlib.Decide.{decLe}
-use borrow.Author.Tests.{le-leb, lt-leb, leb-true, eq-eqb, eqb-true}
+use borrow.Author.Tests.{le-leb, leb-true, eq-eqb, eqb-true}
 use lib.Dec.{eqb, leb}
 use lib.ListN.{length, getD}
 use Rattle.wire.specs.Res.{Res, got, fault, guard, atMost, Ensures, gives, stops, under, under-then}
@@ -14,12 +13,11 @@ use Rattle.table.specs.First.{Verdict}
 use Rattle.table.specs.First.Verdict.{right, wrong}
 use Rattle.table.specs.Valid.{verdict}
 use Rattle.table.specs.Rows.{tableOf, heldOf}
-use Rattle.model.specs.Model.{Event, Plan, Nodes, Path, rooted}
+use Rattle.model.specs.Model.{Event, Plan, Nodes, rooted}
 use Rattle.model.specs.Items.{Mode}
-use Rattle.model.specs.Read.{Room}
 use Rattle.model.specs.Write.{Bare, bare, Out, write}
 use Rattle.model.specs.Pack.{pack}
-use Rattle.model.specs.Whole.{modeByte, modeNumber, Reply, accepted, declined, payload, asked, roomOf, afterAsked, afterVerdict, reading, eventWords, Made, made, unmade, eventAt, eventsFrom, roomed, spent, modeAsked, shaped, written, orUnmade, verdictMade, writing}
+use Rattle.model.specs.Whole.{modeByte, modeNumber, accepted, payload, asked, roomOf, afterAsked, afterVerdict, reading, eventWords, Made, made, unmade, eventAt, eventsFrom, roomed, spent, modeAsked, shaped, written, orUnmade, verdictMade, writing}
 
 -- 1 and 2 do not apply
 pub record Entered (l : List ℕ) (name type : ℕ) : Type 0 where

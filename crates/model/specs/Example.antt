@@ -1,5 +1,5 @@
 -- Document 01's cases marked P, mended as READINGS says, and others beside them: one table under one statement, computed from the definitions.
-use Prim.Native.Nat.{ℕ, zero, suc, _+_, _-_, _*_, _/_, _%_, _^_}
+use Prim.Native.Nat.{ℕ, zero, suc, _^_}
 use mathlib.Core.Path.{_≡_, refl}
 use mathlib.Core.List.{List, [], _∷_, _++_, map}
 use lib.ListN.{length, replicate}
@@ -25,7 +25,7 @@ use Rattle.model.specs.Items
 use Rattle.model.specs.Items.{Mode}
 use Rattle.model.specs.Read
 use Rattle.model.specs.Write
-use Rattle.model.specs.Write.{Bare, bare}
+use Rattle.model.specs.Write.{bare}
 use Rattle.model.specs.Pack
 use Rattle.model.specs.Whole
 use Rattle.model.specs.Whole.{Reply, accepted, declined, Made, made, unmade, reading, writing, eventWords}

@@ -1,5 +1,5 @@
 -- A reading gives no more events and text bytes than there is room for, wherever it begins; and after each part of code's answer.
-use Prim.Native.Nat.{ℕ, zero, suc, _+_, _-_, _≤_, _<_}
+use Prim.Native.Nat.{ℕ, _-_, _≤_, _<_}
 use mathlib.Core.Path.{_≡_, refl}
 use mathlib.Core.List.{List, [], _∷_}
 use mathlib.Core.Bool.{Bool, true, false}
@@ -8,7 +8,7 @@ use borrow.Author.Tests.{ltb-true, leb-true}
 use lib.Dec.{ltb, leb}
 use lib.ListN.{length}
 use Rattle.wire.specs.Res.{Res, got, fault}
-use Rattle.model.specs.Model.{Event, event, eventOf, Plan, Mark, Nodes, Path, Answer, slotsOf, bytesOf}
+use Rattle.model.specs.Model.{Event, event, eventOf, Plan, Mark, Path, Answer, slotsOf, bytesOf}
 use Rattle.model.specs.Model.Plan.{done, deep, item, element}
 use Rattle.model.specs.Model.Answer.{given, refused}
 use Rattle.model.specs.Items.{Mode, Head, headAt, itemAt}

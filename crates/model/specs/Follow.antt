@@ -1,19 +1,18 @@
 -- Demand 3, second half, along the reading: where the first gives a tree, the second comes to the same place or has an excuse.
-use Prim.Native.Nat.{ℕ, _+_, _-_, _≤_, _<_}
-use mathlib.Core.Path.{_≡_, refl, sym, ap, _∙_}
+use Prim.Native.Nat.{ℕ, _+_, _≤_}
+use mathlib.Core.Path.{_≡_, refl, ap, _∙_}
 use mathlib.Core.List.{List, [], _∷_, _++_, reverse, reverse-cons, reverse-append}
 use mathlib.Core.Bool.{Bool, true, false}
 use native.Mathlib.Omega.{arith}
 use borrow.Author.Tests.{eq-eqb, eqb-true}
 use lib.Dec.{ltb}
 use lib.ListN.{length, length-append}
-use Rattle.wire.specs.Res.{Res, got}
 use Rattle.wire.specs.BitLaws.{At, at-left, at-right}
 use Rattle.wire.specs.Lawful.{Binary}
 use Rattle.model.specs.Model.{Event, event, eventOf, Plan, Mark, Nodes, Path, Answer, _then_}
 use Rattle.model.specs.Model.Nodes.{none, leaf, node}
 use Rattle.model.specs.Model.Answer.{given, refused}
-use Rattle.model.specs.Items.{Mode, Length, free, long, coded, Measures, Head, itemAt, headAt}
+use Rattle.model.specs.Items.{Mode, Length, free, long, coded, Measures}
 use Rattle.model.specs.ItemLaws.{item-reads, headOf, stopOf, stop-in, head-reads}
 use Rattle.model.specs.Grammar.{opens, Is, nothing, an-item, an-element, a-blank}
 use Rattle.model.specs.Read.{Room, less, lessOne, onto, after, code, kept, stored, met, ended, closed, Into, entered, mark, bare, sized, opened, elementAt, read}

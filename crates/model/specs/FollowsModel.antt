@@ -1,27 +1,26 @@
 -- What is so by the grammar follows the content models and occurrence bounds of the table: row by row, by the rows still allowed open.
-use Prim.Native.Nat.{ℕ, zero, suc, _+_, _-_, _<_, _≤_, _^_, min}
-use mathlib.Core.Path.{_≡_, refl, sym, ap, subst, _∙_}
+use Prim.Native.Nat.{ℕ, zero, suc, _+_, _<_, _≤_}
+use mathlib.Core.Path.{_≡_, refl}
 use mathlib.Core.Bool.{Bool, true, false, cond}
-use mathlib.Core.List.{List, [], _∷_, _++_, append-nil}
+use mathlib.Core.List.{List, [], _∷_, _++_}
 use native.Mathlib.Omega.{arith}
-use borrow.Author.Tests.{ltb-true, ltb-false, eqb-true, eqb-false, leb-true, leb-false}
+use borrow.Author.Tests.{ltb-false, eqb-true, eqb-false}
 use lib.Dec.{ltb, leb, eqb}
 use lib.ListN.{length}
 use Rattle.table.specs.Rows.{Row, Attribute, Table}
 use Rattle.table.specs.Rows as rows
-use Rattle.value.specs.Code.{Code, choice, five, some, shifted, less, Fits}
-use Rattle.value.specs.Simple.{Simple, plain, simpleOf, SimpleIs, timesCode, unboundedCode, boundedCode, nothing as no-code}
-use Rattle.model.specs.Model.{event, end, Item, eventOf, Plan, Nodes, events, flagOf, value, maybe, attribute, contents, within, due, plan}
+use Rattle.value.specs.Code.{choice, some, Fits}
+use Rattle.value.specs.Simple.{Simple, simpleOf, SimpleIs, timesCode, unboundedCode, boundedCode, nothing as no-code}
+use Rattle.model.specs.Model.{event, eventOf, Plan, Nodes, events, flagOf, value, maybe, attribute, contents, within, due, plan}
 use Rattle.model.specs.Model as model
-use Rattle.model.specs.Model.Plan.{done, deep}
-use Rattle.model.specs.Model.Item.{required, optional, valued, picked, counted}
-use Rattle.model.specs.Model.Nodes.{none, leaf, node}
-use Rattle.model.specs.Items.{Mode, Form, simply, formOf, FormIs, is-present, is-simple, ItemIs, Length, coded}
+use Rattle.model.specs.Model.Plan.{done}
+use Rattle.model.specs.Model.Item.{valued, counted}
+use Rattle.model.specs.Items.{Mode, Form, simply, formOf, FormIs, is-present, is-simple, ItemIs, coded}
 use Rattle.model.specs.ItemLaws.{same-type}
 use Rattle.model.specs.ItemOut.{form-fits, optional-value, picked-value}
 use Rattle.model.specs.Grammar.{Is, an-item, an-element, a-blank}
 use Rattle.model.specs.Trees.{events-then}
-use Rattle.model.specs.Join.{join, plan-join, attributes-join}
+use Rattle.model.specs.Join.{plan-join, attributes-join}
 use Rattle.model.specs.Parts.{is-split, done-none, no-deep}
 use Rattle.model.specs.Content.{ValueOf, Part, row, children, repeats, inside, attributes, content, Model}
 

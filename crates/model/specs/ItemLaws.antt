@@ -1,14 +1,14 @@
 -- The laws of items and heads: what is read is so, what is so is read with its exact bits, no bit past the wall is looked at, and each
 -- follows from the same law of its codes.
-use Prim.Native.Nat.{ℕ, zero, suc, _+_, _-_, _<_, _≤_, _^_}
-use mathlib.Core.Path.{_≡_, refl, sym, ap, _∙_}
-use mathlib.Core.List.{List, [], _∷_, _++_}
+use Prim.Native.Nat.{ℕ, zero, suc, _+_, _-_, _<_, _≤_}
+use mathlib.Core.Path.{_≡_, refl}
+use mathlib.Core.List.{List, [], _++_}
 use native.Mathlib.Omega.{arith}
-use lib.ListN.{length, length-append}
-use Rattle.wire.specs.Res.{Res, got, fault, _>>=_, _>>_, atMost, Ensures, gives, bind, under, then, under-then}
+use lib.ListN.{length-append}
+use Rattle.wire.specs.Res.{got, Ensures, gives, bind, under, then, under-then}
 use Rattle.wire.specs.BitLaws.{At, at-none, at-both, at-left, at-right, at-same}
 use Rattle.wire.specs.Lawful.{Binary, bind-same}
-use Rattle.value.specs.Code.{Code, choice, Fits, bitsOf, codeAt}
+use Rattle.value.specs.Code.{Fits, bitsOf}
 use Rattle.value.specs.CodeLaws.{code-lawful}
 use Rattle.value.specs.SimpleLaws.{simple-found, simple-reads, simple-below}
 use Rattle.model.specs.Model.{Item}

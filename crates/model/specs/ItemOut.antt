@@ -1,23 +1,22 @@
 -- The writing of an item's value: what is written may stand there, and what may stand is written.
-use Prim.Native.Nat.{ℕ, zero, suc, _+_, _-_, _<_, _≤_, _^_, min}
-use mathlib.Core.Path.{_≡_, refl, sym, ap, subst, _∙_}
-use mathlib.Core.Bool.{Bool, true, false}
+use Prim.Native.Nat.{ℕ, _<_}
+use mathlib.Core.Path.{_≡_, refl, sym, subst, _∙_}
 use mathlib.Core.List.{List, [], _∷_, _++_}
 use native.Mathlib.Omega.{arith}
 use lib.ListN.{length, take, drop, length-append, length-take, take-append-drop}
 use lib.Seq.{take-at, drop-at}
-use Rattle.wire.specs.Res.{Res, got, fault, _>>=_, _>>_, guard, atMost, Ensures, gives, stops, bind, tested, under, then, tested-then, under-then}
+use Rattle.wire.specs.Res.{got, Ensures, gives, bind, tested, under, then, tested-then, under-then}
 use Rattle.utf8.specs.Text.{textFault}
 use Rattle.utf8.specs.Rfc as rfc
 use Rattle.utf8.specs.Exact.{none-fault}
 use Rattle.value.specs.Code.{Code, choice, Fits, bitsOf, fits, codeOut}
 use Rattle.value.specs.CodeLaws.{fits-true, true-fits}
-use Rattle.value.specs.Simple.{Simple, plain, text, count, bytes, Octets, unless, SimpleIs, a-code, a-text}
+use Rattle.value.specs.Simple.{Simple, plain, text, count, bytes, Octets, SimpleIs, a-code, a-text}
 use Rattle.value.specs.SimpleLaws.{passes, passes-then}
 use Rattle.model.specs.Model.{Item, eventOf}
 use Rattle.model.specs.Model.Item.{required, optional, valued, picked, counted}
 use Rattle.model.specs.Items.{Form, present, simply, formOf, FormIs, is-present, is-simple, ItemIs}
-use Rattle.model.specs.Write.{Bare, bare, wordOf, asItem, simpleOut, formOut, itemOut}
+use Rattle.model.specs.Write.{Bare, bare, wordOf, simpleOut, formOut, itemOut}
 
 -- a text of RFC 3629 is of octets
 octets-append : (c l : List ℕ) → Octets c → Octets l → Octets (c ++ l)

@@ -3,10 +3,10 @@
 use Prim.Native.Nat.{ℕ, zero, suc, _+_, _-_, _^_}
 use mathlib.Core.Path.{_≡_}
 use mathlib.Core.Bool.{Bool, true, false}
-use mathlib.Core.List.{List, [], _∷_, _++_}
-use Rattle.wire.specs.Res.{Res, got, fault, _>>=_, _>>_, atMost}
+use mathlib.Core.List.{List, [], _++_}
+use Rattle.wire.specs.Res.{Res, got, _>>=_, _>>_, atMost}
 use Rattle.value.specs.Code.{Code, choice, five, Fits, bitsOf, codeAt}
-use Rattle.value.specs.Simple.{Simple, plain, text, timesCode, simpleOf, simpleAt, SimpleIs}
+use Rattle.value.specs.Simple.{Simple, plain, timesCode, simpleOf, simpleAt, SimpleIs}
 use Rattle.model.specs.Model.{Item}
 use Rattle.model.specs.Model.Item.{required, valued, picked, counted}
 

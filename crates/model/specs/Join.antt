@@ -5,8 +5,8 @@ use mathlib.Core.List.{List, [], _∷_}
 use mathlib.Core.Bool.{Bool, true, false}
 use native.Mathlib.Omega.{arith}
 use Rattle.wire.specs.Res.{Res, got, fault}
-use Rattle.table.specs.Rows.{Row, Content, Attribute, Table}
-use Rattle.model.specs.Model.{Item, eventOf, Plan, Nodes, Path, Answer, slotsOf, bytesOf, _then_, value, maybe, attribute, attributes, contents, rows, within, due, plan}
+use Rattle.table.specs.Rows.{Row, Attribute, Table}
+use Rattle.model.specs.Model.{eventOf, Plan, Nodes, Path, Answer, slotsOf, bytesOf, _then_, value, maybe, attribute, attributes, rows, due, plan}
 use Rattle.model.specs.Model.Plan.{done, deep, item, element}
 use Rattle.model.specs.Model.Item.{optional, picked, counted}
 use Rattle.model.specs.Model.Nodes.{none}

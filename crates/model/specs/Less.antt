@@ -2,9 +2,9 @@
 -- each of them replaced by one Blank of the same bit count, its texts left out; and the first of them that has no length.
 use Prim.Native.Nat.{ℕ, _+_}
 use mathlib.Core.List.{List, [], _∷_, _++_}
-use mathlib.Core.Bool.{Bool, true, false, cond}
+use mathlib.Core.Bool.{Bool, false, cond}
 use mathlib.Core.Option.{Option, none, some}
-use Rattle.model.specs.Model.{Event, event, Mark, Nodes, Path, Answer, bitsOf}
+use Rattle.model.specs.Model.{event, Mark, Nodes, Path, Answer, bitsOf}
 use Rattle.model.specs.Model.Nodes.{leaf, node}
 use Rattle.model.specs.Model.Answer.{given, refused}
 

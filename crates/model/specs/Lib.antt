@@ -36,3 +36,12 @@ pub mod Content
 pub mod FollowsModel
 pub mod Blanks
 pub mod Reader
+pub mod Unseen
+pub mod UnseenPayload
+pub mod Own
+pub mod EntryWays
+pub mod Buffers
+pub mod Flat
+pub mod ReadWays
+pub mod WriteWays
+pub mod Demand3Lists

@@ -1,9 +1,9 @@
 -- UNAMBIGUOUS and EXTENSION: no bits have two readings by the grammar, whatever number of rows each needs; and an accepted reading stays the
 -- same where other bits follow, the wall lies farther, there is more room, or the path is another.
-use Prim.Native.Nat.{ℕ, zero, suc, _+_, _-_, _<_, _≤_, max}
+use Prim.Native.Nat.{ℕ, zero, suc, _+_, _<_, _≤_, max}
 use mathlib.Core.Path.{_≡_, refl, sym, ap₂, _∙_}
 use mathlib.Core.Bool.{Bool, true, false}
-use mathlib.Core.List.{List, [], _∷_, _++_}
+use mathlib.Core.List.{List, [], _∷_}
 use native.Mathlib.Omega.{arith}
 use lib.ListN.{length}
 use Rattle.wire.specs.Bits.{Has}
@@ -17,7 +17,7 @@ use Rattle.model.specs.Model.Answer.{given}
 use Rattle.model.specs.Items.{Mode}
 use Rattle.model.specs.Grammar.{Is, nothing, an-item, an-element, a-blank}
 use Rattle.model.specs.Read.{Room, read}
-use Rattle.model.specs.Sound.{Found, read-found}
+use Rattle.model.specs.Sound.{read-found}
 use Rattle.model.specs.Complete.{is-read}
 
 -- bits at one place, of one length, are the same

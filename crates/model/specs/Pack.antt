@@ -1,5 +1,5 @@
 -- Bits packed into bytes, the last byte filled up with zeros.
-use Prim.Native.Nat.{ℕ, zero, suc, _+_, _/_}
+use Prim.Native.Nat.{ℕ, _+_, _/_}
 use mathlib.Core.List.{List}
 use lib.ListN.{length}
 use Rattle.wire.specs.Bits.{source}

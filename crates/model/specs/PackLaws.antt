@@ -5,7 +5,7 @@ use mathlib.Core.List.{List, [], _∷_}
 use native.Mathlib.Nat.{add-zero, div-div-eq-div-mul}
 use native.Mathlib.Omega.{arith}
 use native.Mathlib.Decide.{decLt}
-use lib.ListN.{length, getD, List·getD-eq-default}
+use lib.ListN.{length, List·getD-eq-default}
 use Rattle.wire.specs.Bits.{bitAt, num, Has, source}
 use Rattle.wire.specs.Lawful.{Binary}
 use Rattle.value.specs.Simple.{bytesAt, Octets}
@@ -42,7 +42,7 @@ top x s (suc w) h k =
     let z : 0 + w ≡ w = omega arith in
     rw (top x s w h (omega arith), z, bit-first x s w (omega arith), e, c, half-out x (7 - w)) (omega arith)
 
-byte-num : (x : ℕ) (s : List ℕ) → x < 256 → num (bitAt (x ∷ s)) 0 8 ≡ x
+pub byte-num : (x : ℕ) (s : List ℕ) → x < 256 → num (bitAt (x ∷ s)) 0 8 ≡ x
 byte-num x s h = top x s 8 h (omega arith) ∙ omega arith
 
 num-div : (b : ℕ → ℕ) → Binary b → (at w k : ℕ) → num b at (w + k) / 2 ^ k ≡ num b at w
@@ -53,7 +53,7 @@ num-div b bit at w (suc k) =
     let s : w + suc k ≡ suc (w + k) = omega arith in
     rw (half-in (num b at (w + suc k)) k, s, e) (num-div b bit at w k)
 
-num-moved : (b c : ℕ → ℕ) (at to n : ℕ) → ((j : ℕ) → j < n → b (at + j) ≡ c (to + j)) → num b at n ≡ num c to n
+pub num-moved : (b c : ℕ → ℕ) (at to n : ℕ) → ((j : ℕ) → j < n → b (at + j) ≡ c (to + j)) → num b at n ≡ num c to n
 unfolding num
 num-moved b c at to zero f = refl
 num-moved b c at to (suc n) f = rw (num-moved b c at to n (λ j h. f j (omega arith)), f n (omega arith))

@@ -1,8 +1,8 @@
 -- Whole payloads: mode byte, root, padding. What is read of a payload is so, and what is so is read; the bytes of a payload are those of its bits.
-use Prim.Native.Nat.{ℕ, zero, suc, _+_, _-_, _*_, _/_, _<_, _≤_, min}
+use Prim.Native.Nat.{ℕ, zero, suc, _+_, _-_, _*_, _/_, _<_, _≤_}
 use mathlib.Core.Path.{_≡_, refl, sym, ap, ap₂, _∙_}
 use mathlib.Core.Bool.{Bool, true, false, cond}
-use mathlib.Core.List.{List, [], _∷_, reverse}
+use mathlib.Core.List.{List, [], _∷_}
 use native.Mathlib.Omega.{arith}
 use native.Mathlib.Decide.{decLt, ℕ-discrete}
 use borrow.Author.Tests.{eq-eqb, ne-eqb, eqb-true, ltb-true, lt-ltb}
@@ -13,7 +13,7 @@ use Rattle.wire.specs.Bits.{bitAt, source}
 use Rattle.wire.specs.BitLaws.{bit-lt}
 use Rattle.value.specs.Simple.{bytesAt, Octets}
 use Rattle.value.specs.SimpleLaws.{bytes-length}
-use Rattle.model.specs.Model.{Plan, Nodes, Path, Answer, slotsOf, bytesOf, bitsOf}
+use Rattle.model.specs.Model.{Plan, Nodes, Answer, slotsOf, bytesOf, bitsOf}
 use Rattle.model.specs.Model.Answer.{given, refused}
 use Rattle.model.specs.Items.{Mode}
 use Rattle.model.specs.Grammar.{Is}

@@ -1,11 +1,11 @@
 -- No Blank: of a list, of a tree. Each says the other; and where every type is held there is none.
-use Prim.Native.Nat.{ℕ, _+_}
-use mathlib.Core.Path.{_≡_, refl}
+use Prim.Native.Nat.{ℕ}
+use mathlib.Core.Path.{_≡_}
 use mathlib.Core.Bool.{Bool, true}
 use mathlib.Core.List.{List, [], _∷_, _++_}
 use native.Mathlib.Omega.{arith}
 use lib.ListN.{length}
-use Rattle.model.specs.Model.{Event, event, end, start, Item, eventOf, Plan, Nodes, events}
+use Rattle.model.specs.Model.{Event, end, Item, eventOf, Plan, Nodes, events}
 use Rattle.model.specs.Model.Item.{required, optional, valued, picked, counted}
 use Rattle.model.specs.Model.Nodes.{none, leaf, node}
 use Rattle.model.specs.Items.{Mode}

@@ -5,7 +5,7 @@ use mathlib.Core.Bool.{Bool, true, false}
 use lib.Dec.{ltb, leb, eqb}
 use lib.ListN.{length}
 use Rattle.wire.specs.Res.{Res, got, fault}
-use Rattle.model.specs.Model.{Event, event, Item, eventOf, Plan, Mark, Nodes, _then_, slotsOf, bytesOf, Path, Answer}
+use Rattle.model.specs.Model.{Event, event, eventOf, Plan, Mark, Nodes, _then_, slotsOf, bytesOf, Path, Answer}
 use Rattle.model.specs.Model.Plan.{done, deep, item, element}
 use Rattle.model.specs.Model.Nodes.{none, leaf, node}
 use Rattle.model.specs.Model.Answer.{given, refused}

@@ -1,20 +1,17 @@
 -- READER, of the entry `reading`, over words and bytes: it gives a list exactly when the grammar has it and rows, walls and room suffice; the list
 -- follows the content models, its Blanks stand where they should, and its bits add up.
-use Prim.Native.Nat.{ℕ, zero, suc, _+_, _-_, _*_, _/_, _<_, _≤_, min}
-use mathlib.Core.Path.{_≡_, refl, sym, ap, _∙_}
-use mathlib.Core.List.{List, [], _∷_}
+use Prim.Native.Nat.{ℕ, _+_, _*_, _≤_}
+use mathlib.Core.Path.{_≡_, _∙_}
+use mathlib.Core.List.{List}
 use native.Mathlib.Omega.{arith}
 use lib.ListN.{length}
-use Rattle.wire.specs.Bits.{bitAt}
 use Rattle.table.specs.Rows.{Row, tableOf, heldOf}
-use Rattle.model.specs.Model.{Event, Nodes, events, texts}
+use Rattle.model.specs.Model.{Nodes, events, texts}
 use Rattle.model.specs.Items.{Mode}
-use Rattle.model.specs.Grammar.{Is}
 use Rattle.model.specs.Trees.{total, slots-length, bytes-length}
 use Rattle.model.specs.Content.{row, Model}
 use Rattle.model.specs.FollowsModel.{row-model}
 use Rattle.model.specs.Blanks.{Exact, is-exact}
-use Rattle.model.specs.One.{unambiguous}
 use Rattle.model.specs.Payload.{PayloadIs, payload-found, payload-reads}
 use Rattle.model.specs.Whole.{accepted, roomOf, reading}
 use Rattle.model.specs.Entries.{Entered, planOf, reading-entered, reading-found}

@@ -1,6 +1,6 @@
 -- READER SOUND (`read-is`): what is read is so by the grammar, stands there, and is within the wall and the room; a refusal's place is
 -- within the wall, and its path goes on from the path.
-use Prim.Native.Nat.{ℕ, zero, suc, _+_, _-_, _<_, _≤_}
+use Prim.Native.Nat.{ℕ, zero, suc, _+_, _-_, _≤_}
 use mathlib.Core.Path.{_≡_, refl, sym, _∙_}
 use mathlib.Core.Bool.{Bool, true, false}
 use mathlib.Core.List.{List, [], _∷_, _++_, append-assoc}
@@ -11,12 +11,12 @@ use lib.ListN.{length}
 use Rattle.wire.specs.Res.{Res, got, fault, Ensures}
 use Rattle.wire.specs.BitLaws.{At, at-none, at-both}
 use Rattle.wire.specs.Lawful.{Binary}
-use Rattle.model.specs.Model.{Event, Item, Plan, Nodes, Path, Answer, slotsOf, bytesOf, _then_}
+use Rattle.model.specs.Model.{Event, Plan, Nodes, Path, Answer, slotsOf, bytesOf, _then_}
 use Rattle.model.specs.Model.Plan.{done, deep, item, element}
 use Rattle.model.specs.Model.Nodes.{none, leaf}
 use Rattle.model.specs.Model.Answer.{given, refused}
-use Rattle.model.specs.Items.{Mode, Length, free, long, coded, Measures, Head, itemAt, headAt}
-use Rattle.model.specs.ItemLaws.{FoundItem, FoundHead, FindsHead, item-found, head-found}
+use Rattle.model.specs.Items.{Mode, Length, free, long, coded, Measures, Head}
+use Rattle.model.specs.ItemLaws.{FoundHead, FindsHead, item-found, head-found}
 use Rattle.model.specs.Trees.{slots-then, bytes-then}
 use Rattle.model.specs.Grammar.{Bits, Is, nothing, an-item, an-element, a-blank}
 use Rattle.model.specs.Read.{Room, less, lessOne, onto, after, code, kept, stored, met, ended, closed, Into, entered, mark, bare, sized, opened, elementAt, read}

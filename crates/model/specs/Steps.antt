@@ -1,23 +1,23 @@
 -- The reading as the code goes it: one function for a particle row, for rounds, for an attribute, for attributes, for a value, for content and
 -- for what is inside an element; and what each is at each of its cases. A proof of code cites these laws and never sees a plan.
 use Prim.Native.Nat.{ℕ, zero, suc, _+_, _-_}
-use mathlib.Core.Path.{_≡_, refl, sym, ap, _∙_}
+use mathlib.Core.Path.{_≡_, refl, _∙_}
 use mathlib.Core.List.{List, [], _∷_}
 use mathlib.Core.Bool.{Bool, true, false}
 use native.Mathlib.Omega.{arith}
-use Rattle.wire.specs.Res.{Res, got, fault}
+use Rattle.wire.specs.Res.{got}
 use Rattle.table.specs.Rows.{Row, Content, Attribute, Table, attributeOf, attributesFrom}
 use Rattle.table.specs.Rows.Content.{empty, simple, particles}
 use Rattle.value.specs.Simple.{simpleOf, timesCode, simpleAt, plain}
-use Rattle.value.specs.Code.{Code, choice}
-use Rattle.model.specs.Model.{event, eventOf, Item, Plan, Nodes, Path, Answer, value, maybe, attribute, attributes, contents, rows, within, due, plan}
-use Rattle.model.specs.Model.Plan.{done, item}
+use Rattle.value.specs.Code.{choice}
+use Rattle.model.specs.Model.{event, eventOf, Plan, Path, Answer, value, maybe, attribute, attributes, contents, rows, within, due, plan}
+use Rattle.model.specs.Model.Plan.{done}
 use Rattle.model.specs.Model.Item.{required, optional, valued, picked, counted}
 use Rattle.model.specs.Model.Nodes.{none}
 use Rattle.model.specs.Model.Answer.{given, refused}
-use Rattle.model.specs.Items.{Mode, flag, formOf, formAt, itemAt, headAt}
-use Rattle.model.specs.Read.{Room, less, onto, after, code, stored, opened, elementAt, read}
-use Rattle.model.specs.Join.{after-none, after-done, join, attribute-join, attributes-join, plan-join, read-join}
+use Rattle.model.specs.Items.{Mode, formOf, formAt, itemAt, headAt}
+use Rattle.model.specs.Read.{Room, after, code, stored, opened, elementAt, read}
+use Rattle.model.specs.Join.{after-done, attribute-join, attributes-join, plan-join, read-join}
 
 -- which code each item has
 module _ (b : ℕ → ℕ) (wall at : ℕ) where

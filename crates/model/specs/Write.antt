@@ -1,16 +1,16 @@
 -- The writing of a plan: from events without their fourth words, and texts, the bits, with the events and the texts left
 -- over. A refusal says how many events were then left, the one at fault among them: the event's index is the number of all less that.
 -- Document 01's order: none left is 18, before 6 (`deep`, `taken`); 6 (`deep`); 19, 18 (`taken`); 9 (`elementOut`); 20, 23, 16 (`itemOut`).
-use Prim.Native.Nat.{ℕ, zero, suc, _+_, min}
+use Prim.Native.Nat.{ℕ, zero, suc, min}
 use mathlib.Core.Bool.{Bool, true, false, cond}
 use mathlib.Core.List.{List, [], _∷_, _++_}
 use lib.ListN.{length, take, drop}
 use lib.Dec.{eqb}
-use Rattle.wire.specs.Res.{Res, got, fault, _>>=_, _>>_, guard, atMost}
-use Rattle.value.specs.Code.{bitsOf, fits, codeOut}
+use Rattle.wire.specs.Res.{Res, got, fault, _>>=_, _>>_, atMost}
+use Rattle.value.specs.Code.{bitsOf, codeOut}
 use Rattle.value.specs.Simple.{Simple, plain, text, count, bytes, unless}
 use Rattle.utf8.specs.Text.{textFault}
-use Rattle.model.specs.Model.{Event, event, end, Item, eventOf, Plan}
+use Rattle.model.specs.Model.{Event, end, Item, eventOf, Plan}
 use Rattle.model.specs.Model.Plan.{done, deep, item, element}
 use Rattle.model.specs.Model.Item.{required, optional, valued, picked, counted}
 use Rattle.model.specs.Items.{Mode, flag, lengths, Form, present, simply, formOf, Length, free, long}

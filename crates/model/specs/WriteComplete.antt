@@ -1,16 +1,15 @@
 -- WRITER COMPLETE (`is-written`): what is so by the grammar, and has no Blank, is written, as the same bits.
-use Prim.Native.Nat.{ℕ, _+_, _-_}
+use Prim.Native.Nat.{ℕ}
 use mathlib.Core.Path.{_≡_, refl, sym, ap}
 use mathlib.Core.Bool.{Bool, true}
-use mathlib.Core.List.{List, [], _∷_, _++_}
+use mathlib.Core.List.{List, _∷_, _++_}
 use native.Mathlib.Omega.{arith}
 use lib.ListN.{length}
 use Rattle.model.specs.Model.{event, end, eventOf, Plan, Nodes, flagOf}
-use Rattle.model.specs.Model.Nodes.{none, leaf, node}
 use Rattle.model.specs.Items.{Mode, Length, free, long, coded, Measures, HeadIs, no-head, flag-off, flag-on, head-on}
 use Rattle.model.specs.ItemLaws.{same-type}
 use Rattle.model.specs.Grammar.{Is, nothing, an-item, an-element, a-blank}
-use Rattle.model.specs.Write.{Bare, bare, Out, wrote, put, along, wordOf, asItem, flagIn, asStart, lengthOf, headOut, sealed, allowed, elementOut, write}
+use Rattle.model.specs.Write.{Bare, bare, Out, wrote, asItem, flagIn, asStart, lengthOf, headOut, elementOut, write}
 use Rattle.model.specs.Lists.{lists, spells}
 use Rattle.model.specs.ItemOut.{item-out, bare-event, word-back}
 use Rattle.model.specs.Plain.{Plain}

@@ -1,20 +1,20 @@
 -- WRITER SOUND (`write-is`): what is written, in fewer than 2 ^ 32 bits, is so by the grammar: the tree of the events taken, with their true
 -- bits, at whatever place.
-use Prim.Native.Nat.{ℕ, zero, suc, _+_, _-_, _<_, _^_}
+use Prim.Native.Nat.{ℕ, zero, suc, _+_, _<_, _^_}
 use mathlib.Core.Path.{_≡_, refl, sym, ap, ap₂, _∙_}
 use mathlib.Core.Bool.{Bool}
 use mathlib.Core.List.{List, [], _∷_, _++_}
 use native.Mathlib.Omega.{arith}
 use lib.ListN.{length, length-append}
 use Rattle.value.specs.Code.{Fits}
-use Rattle.model.specs.Model.{end, Item, eventOf, Plan, Nodes, flagOf}
+use Rattle.model.specs.Model.{end, eventOf, Plan, Nodes, flagOf}
 use Rattle.model.specs.Model.Plan.{done, deep, item, element}
 use Rattle.model.specs.Model.Nodes.{none, leaf, node}
-use Rattle.model.specs.Items.{Mode, lengths, coded, Measures, HeadIs, no-head, flag-off, flag-on, head-on}
+use Rattle.model.specs.Items.{Mode, coded, Measures, HeadIs, no-head, flag-off, flag-on, head-on}
 use Rattle.model.specs.Grammar.{opens, Is, nothing, an-item, an-element}
-use Rattle.model.specs.Write.{Bare, bare, Out, put, along, taken, wordOf, asItem, flagIn, asStart, itemOut, lengthOf, headOut, sealed, tooDeep, allowed, elementOut, write}
+use Rattle.model.specs.Write.{Bare, bare, Out, wordOf, asItem, flagIn, asStart, itemOut, lengthOf, headOut, tooDeep, elementOut, write}
 use Rattle.model.specs.Lists.{lists, spells}
-use Rattle.model.specs.ItemOut.{ItemWritten, item-written, bare-event}
+use Rattle.model.specs.ItemOut.{item-written, bare-event}
 use Rattle.model.specs.Plain.{Plain, item-plain}
 use Rattle.model.specs.OutLaws.{Says, gives, stops, taken-says, coded-says, put-says, along-says, allowed-says, sealed-says, says-more}
 

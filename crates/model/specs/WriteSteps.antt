@@ -1,12 +1,12 @@
 -- The writing as the code goes it, one function for a particle row, for rows one after another, for an attribute, a value, content, what is inside
 -- an element; and what each is at each case. A proof of code cites these laws and never sees a plan.
 use Prim.Native.Nat.{ℕ, zero, suc, _+_}
-use mathlib.Core.Path.{_≡_, refl, sym, ap, _∙_}
+use mathlib.Core.Path.{_≡_, refl, sym, _∙_}
 use mathlib.Core.Bool.{Bool, true, false}
-use mathlib.Core.List.{List, [], _∷_, _++_}
+use mathlib.Core.List.{List, [], _∷_}
 use native.Mathlib.Omega.{arith}
 use lib.ListN.{length}
-use Rattle.wire.specs.Res.{Res, got, fault}
+use Rattle.wire.specs.Res.{got}
 use Rattle.table.specs.Rows.{Row, Content, Attribute, Table, attributeOf, attributesFrom}
 use Rattle.table.specs.Rows.Content.{empty, simple, particles}
 use Rattle.value.specs.Code.{choice}
@@ -15,7 +15,7 @@ use Rattle.model.specs.Model.{Item, Plan, value, maybe, attribute, attri
 use Rattle.model.specs.Model.Plan.{done, deep, item, element}
 use Rattle.model.specs.Model.Item.{required, optional, valued, picked, counted}
 use Rattle.model.specs.Items.{Mode, formOf}
-use Rattle.model.specs.Write.{Bare, Out, wrote, refused, put, along, taken, wordOf, asItem, simpleOut, formOut, itemOut, coded, tooDeep, elementOut, write}
+use Rattle.model.specs.Write.{Bare, Out, wrote, put, along, taken, wordOf, asItem, simpleOut, formOut, itemOut, coded, tooDeep, elementOut, write}
 use Rattle.model.specs.OutLaws.{put-none, along-put, along-along, along-done, taken-along, coded-along}
 use Rattle.model.specs.Join.{join, plan-join, attribute-join, attributes-join}
 

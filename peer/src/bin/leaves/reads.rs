@@ -224,7 +224,7 @@ fn within(rng: &mut Rng, span: u32) -> u32 {
         1 => span,
         2 => span.wrapping_add(1),
         3 => edge_word(rng),
-        _ => (u64::from(rng.word()) * (u64::from(span) + 1) >> 32) as u32,
+        _ => ((u64::from(rng.word()) * (u64::from(span) + 1)) >> 32) as u32,
     }
 }
 

@@ -80,7 +80,10 @@ fn near(rng: &mut Rng, least: u32, most: u32) -> u32 {
         2 => least.wrapping_sub(1),
         3 => most.wrapping_add(1),
         4 => edge_word(rng),
-        _ => least.wrapping_add((u64::from(rng.word()) * (u64::from(most.wrapping_sub(least)) + 1) >> 32) as u32),
+        _ => {
+            let span = u64::from(most.wrapping_sub(least)) + 1;
+            least.wrapping_add(((u64::from(rng.word()) * span) >> 32) as u32)
+        }
     }
 }
 

@@ -1,0 +1,35 @@
+-- Each event's words are a function of its own bits and its row; an absent attribute has no Value.
+use Prim.Native.Nat.{ℕ}
+use mathlib.Core.Path.{_≡_, ap}
+use mathlib.Core.List.{List, _∷_}
+use native.Mathlib.Omega.{arith}
+use lib.ListN.{length}
+use Rattle.wire.specs.Bits.{source}
+use Rattle.wire.specs.BitLaws.{At}
+use Rattle.table.specs.Rows.{Attribute, Table}
+use Rattle.model.specs.Model.{Event, event, Item, eventOf}
+use Rattle.model.specs.Items.{ItemIs}
+use Rattle.model.specs.ItemLaws.{item-reads}
+use Rattle.model.specs.PackLaws.{each-has}
+use Rattle.model.specs.Content.{attributes, Model}
+
+own : (w : List ℕ) → At (source w) 0 w (length w)
+own w = record { there = each-has (source w) 0 w (λ i h. ap (source w) (omega arith)); next = omega arith }
+
+-- an item: the same row and the same bits give the same value and the same texts, so the same event
+pub record SameItem (i : Item) (w : List ℕ) (v v′ : ℕ) (ts ts′ : List ℕ) : Type 0 where
+  pub values : v ≡ v′
+  pub texts : ts ≡ ts′
+  pub events : eventOf i v (length w) ≡ eventOf i v′ (length w)
+
+pub item-own : (i : Item) (w : List ℕ) {v v′ : ℕ} {ts ts′ : List ℕ} → ItemIs i v ts w → ItemIs i v′ ts′ w → SameItem i w v v′ ts ts′
+item-own i w {v} {v′} {ts} {ts′} h k =
+    let a = item-reads (source w) i {wall = length w} h (own w) (omega arith) in
+    let b = item-reads (source w) i {wall = length w} k (own w) (omega arith) in
+    let z : _≡_ {A = ℕ × List ℕ × ℕ} (v, ts, length w) (v′, ts′, length w) = cc in
+    let e : v ≡ v′ = ap (λ (r : ℕ × List ℕ × ℕ). r .0) z in
+    record { values = e; texts = ap (λ (r : ℕ × List ℕ × ℕ). r .1) z; events = ap (λ (x : ℕ). eventOf i x (length w)) e }
+
+-- an absent attribute has no Value: after its event come the events of the attributes after it
+pub absent-no-value : {T : Table} {a : Attribute} {l : List Attribute} {n : ℕ} {L : List Event} → Model T (attributes (a ∷ l)) (event 2 (a .name) 0 n ∷ L) → Model T (attributes l) L
+absent-no-value (Model.absent e m) = m

@@ -1,0 +1,11 @@
+pub mod Paths
+pub mod PathLaws
+pub mod Out
+pub mod Laws
+pub mod StoreWays
+pub mod ValueWays
+pub mod AttributeWays
+pub mod Heads
+pub mod HeadWays
+pub mod Ends
+pub mod Bytes

@@ -1,0 +1,26 @@
+-- `number_of` is the mode's number, case by case.
+use borrow.Author.Needs.{needs}
+use Rattle.reader.specs.Answers.{number-ways}
+use Rattle.reader.proofs.number_of.Statement.{statement}
+use Rattle.reader.proofs.number_of.Tie as tie
+
+enum-told : tie.Need-enum-told
+enum-told c = search needs
+
+enum-told-2 : tie.Need-enum-told-2
+enum-told-2 c = search needs
+
+enum-told-3 : tie.Need-enum-told-3
+enum-told-3 c = search needs
+
+returns : tie.Need-returns
+returns c = search (needs, number-ways)
+
+returns-2 : tie.Need-returns-2
+returns-2 c = search (needs, number-ways)
+
+returns-3 : tie.Need-returns-3
+returns-3 c = search (needs, number-ways)
+
+pub number-of-spec : {M : Type 1} → statement M
+number-of-spec = tie.close (tie.spec enum-told enum-told-2 enum-told-3 returns returns-2 returns-3)

@@ -1,0 +1,63 @@
+-- `read` answers as `reading` says, on every input. Each answer is a way of specs/Root.
+use borrow.Author.Needs.{needs}
+use Rattle.reader.specs.Root.{entry-ways, verdict-right, zeros-cleared}
+use Rattle.reader.proofs.read.Statement.{statement}
+use Rattle.reader.proofs.read.Tie as tie
+
+both-requires : tie.Need-both-requires
+both-requires c κs = search needs
+
+check-requires : tie.Need-check-requires
+check-requires c κs = search needs
+
+enum-known-v : tie.Need-enum-known-v
+enum-known-v c = search needs
+
+nowhere-requires : tie.Need-nowhere-requires
+nowhere-requires c κs = search needs
+
+refused-requires : tie.Need-refused-requires
+refused-requires c κs = search needs
+
+enum-told : tie.Need-enum-told
+enum-told c = search needs
+
+checked-requires : tie.Need-checked-requires
+checked-requires c κs =
+    (search (verdict-right, c .before .before .before .before .check .ensures, c .before .before .enum-told .given .1), zeros-cleared (c .before .before .before .before .before .before .before .before .before .before .before .before .before .before .before .before .args .events .now) _ (c .before .before .before .before .before .before .before .before .before .both .ensures .0), zeros-cleared (c .before .before .before .before .before .before .before .before .before .before .before .before .before .before .before .before .args .texts .now) _ (c .before .before .before .before .before .before .before .before .before .both .ensures .1))
+
+same-length : tie.Need-same-length
+same-length c = search needs
+
+same-length-2 : tie.Need-same-length-2
+same-length-2 c = search needs
+
+returns : tie.Need-returns
+returns c = search (needs, entry-ways)
+
+same-length-3 : tie.Need-same-length-3
+same-length-3 c = search needs
+
+same-length-4 : tie.Need-same-length-4
+same-length-4 c = search needs
+
+returns-2 : tie.Need-returns-2
+returns-2 c = search (needs, entry-ways)
+
+pub read-spec : {M : Type 1} → statement M
+read-spec =
+    tie.close
+    (tie.spec
+    both-requires
+    check-requires
+    enum-known-v
+    nowhere-requires
+    refused-requires
+    enum-told
+    checked-requires
+    same-length
+    same-length-2
+    returns
+    same-length-3
+    same-length-4
+    returns-2)

@@ -1,0 +1,106 @@
+-- `root` answers what the reading comes to after the mode byte: accepted, refused, or 17. Each answer is a way of specs/Root.
+use native.Mathlib.Omega.{arith}
+use borrow.Author.Needs.{needs}
+use Rattle.reader.specs.Root.{root-ways, payload-short, root-given, root-refused, root-left}
+use Rattle.reader.proofs.root.Statement.{statement}
+use Rattle.reader.proofs.root.Tie as tie
+
+mul-t23 : tie.Need-mul-t23
+mul-t23 c = omega (arith, payload-short _ _ (c .before .before .before .before .pre .1))
+
+cast-t24 : tie.Need-cast-t24
+cast-t24 c = omega (arith, payload-short _ _ (c .before .before .before .before .pre .1))
+
+nowhere-requires : tie.Need-nowhere-requires
+nowhere-requires c κs = search needs
+
+element-requires : tie.Need-element-requires
+element-requires c κs = search (needs, root-ways)
+
+enum-known-s : tie.Need-enum-known-s
+enum-known-s c = search needs
+
+cast-place : tie.Need-cast-place
+cast-place c = search needs
+
+both-requires : tie.Need-both-requires
+both-requires c κs = search needs
+
+refused-requires : tie.Need-refused-requires
+refused-requires c κs = search needs
+
+enum-known-s-2 : tie.Need-enum-known-s-2
+enum-known-s-2 c = search needs
+
+padding-requires : tie.Need-padding-requires
+padding-requires c κs = search (needs, root-ways)
+
+accepted-requires : tie.Need-accepted-requires
+accepted-requires c κs = search (needs, root-ways)
+
+same-length : tie.Need-same-length
+same-length c = search needs
+
+same-length-2 : tie.Need-same-length-2
+same-length-2 c = search needs
+
+returns : tie.Need-returns
+returns c =
+    search (root-given, c .before .before .before .before .before .before .before .before .before .before .before .before .before .before .before .before .before .before .before .before .pre .0, c .before .before .before .before .before .before .before .before .before .before .before .before .before .before .before .before .before .before .before .before .pre .1, c .before .before .before .before .before .before .before .before .before .before .before .before .before .before .before .before .before .before .before .before .pre .2, c .before .before .before .before .before .before .before .before .before .before .before .before .before .before .before .before .before .before .before .before .pre .3, c .before .before .before .before .before .before .before .before .before .before .before .before .before .before .before .nowhere .ensures, c .before .before .before .before .before .before .before .before .before .before .before .before .element .ensures, c .before .before .before .before .before .s2 .given .1, c .before .before .padding .ensures, c .before .if1 .taken, c .accepted .ensures)
+
+cast-place-2 : tie.Need-cast-place-2
+cast-place-2 c = search needs
+
+both-requires-2 : tie.Need-both-requires-2
+both-requires-2 c κs = search needs
+
+refused-requires-2 : tie.Need-refused-requires-2
+refused-requires-2 c κs = search needs
+
+same-length-3 : tie.Need-same-length-3
+same-length-3 c = search needs
+
+same-length-4 : tie.Need-same-length-4
+same-length-4 c = search needs
+
+returns-2 : tie.Need-returns-2
+returns-2 c =
+    search (root-refused, c .before .before .before .before .before .before .before .before .before .before .before .before .before .before .before .before .before .before .before .before .before .before .before .before .before .pre .0, c .before .before .before .before .before .before .before .before .before .before .before .before .before .before .before .before .before .before .before .before .before .before .before .before .before .pre .1, c .before .before .before .before .before .before .before .before .before .before .before .before .before .before .before .before .before .before .before .before .before .before .before .before .before .pre .2, c .before .before .before .before .before .before .before .before .before .before .before .before .before .before .before .before .before .before .before .before .before .before .before .before .before .pre .3, c .before .before .before .before .before .before .before .before .before .before .before .before .before .before .before .before .before .before .before .before .nowhere .ensures, c .before .before .before .before .before .before .before .before .before .before .before .before .before .before .before .before .before .element .ensures, c .before .before .before .before .before .before .before .before .before .before .before .before .before .before .before .before .before .element .kept .1 .1 .0, c .before .before .before .before .before .before .before .before .before .before .before .before .before .before .before .before .before .element .kept .1 .1 .1 .0, c .before .before .before .before .before .before .before .before .before .before .s .given .1, c .before .before .before .before .before .both .ensures .0, c .before .before .before .before .before .both .ensures .1, c .refused .ensures)
+
+same-length-5 : tie.Need-same-length-5
+same-length-5 c = search needs
+
+same-length-6 : tie.Need-same-length-6
+same-length-6 c = search needs
+
+returns-3 : tie.Need-returns-3
+returns-3 c =
+    search (root-left, c .before .before .before .before .before .before .before .before .before .before .before .before .before .before .before .before .before .before .before .before .before .before .before .before .before .before .before .before .pre .0, c .before .before .before .before .before .before .before .before .before .before .before .before .before .before .before .before .before .before .before .before .before .before .before .before .before .before .before .before .pre .1, c .before .before .before .before .before .before .before .before .before .before .before .before .before .before .before .before .before .before .before .before .before .before .before .before .before .before .before .before .pre .2, c .before .before .before .before .before .before .before .before .before .before .before .before .before .before .before .before .before .before .before .before .before .before .before .before .before .before .before .before .pre .3, c .before .before .before .before .before .before .before .before .before .before .before .before .before .before .before .before .before .before .before .before .before .before .before .nowhere .ensures, c .before .before .before .before .before .before .before .before .before .before .before .before .before .before .before .before .before .before .before .before .element .ensures, c .before .before .before .before .before .before .before .before .before .before .before .before .before .before .before .before .before .before .before .before .element .kept .1 .1 .0, c .before .before .before .before .before .before .before .before .before .before .before .before .before .before .before .before .before .before .before .before .element .kept .1 .1 .1 .0, c .before .before .before .before .before .before .before .before .before .before .before .before .before .s2 .given .1, c .before .before .before .before .before .before .before .before .before .before .padding .ensures, c .before .before .before .before .before .before .before .before .before .if1 .left, c .before .before .before .before .before .both2 .ensures .0, c .before .before .before .before .before .both2 .ensures .1, c .refused2 .ensures)
+
+pub root-spec : {M : Type 1} → statement M
+root-spec =
+    tie.close
+    (tie.spec
+    mul-t23
+    cast-t24
+    nowhere-requires
+    element-requires
+    enum-known-s
+    cast-place
+    both-requires
+    refused-requires
+    enum-known-s-2
+    padding-requires
+    accepted-requires
+    same-length
+    same-length-2
+    returns
+    cast-place-2
+    both-requires-2
+    refused-requires-2
+    same-length-3
+    same-length-4
+    returns-2
+    same-length-5
+    same-length-6
+    returns-3)

@@ -1,0 +1,9 @@
+pub mod Zeros
+pub mod Rest
+pub mod Front
+pub mod Meaning
+pub mod Strides
+pub mod Asked
+pub mod Ways
+pub mod Answers
+pub mod Root

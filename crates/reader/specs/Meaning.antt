@@ -1,0 +1,77 @@
+-- What each function of the cycle means, by the reading's steps in crate model, and what it asks.
+use Prim.Native.Nat.{ℕ, zero, suc, _+_, _-_, _*_, _<_, _≤_}
+use mathlib.Core.Path.{_≡_}
+use mathlib.Core.List.{List}
+use mathlib.Core.Bool.{Bool}
+use lib.Dec.{ltb}
+use lib.ListN.{length}
+use Rattle.wire.specs.Bits.{bitAt}
+use Rattle.table.specs.First.Verdict.{right}
+use Rattle.table.specs.Valid.{verdict}
+use Rattle.table.specs.Rows.{tableOf, heldOf}
+use Rattle.model.specs.Model.{event, Answer}
+use Rattle.model.specs.Model.Item.{picked, counted}
+use Rattle.model.specs.Items.{itemAt, headAt}
+use Rattle.model.specs.Read.{Room, after, code, stored, entered, opened, mark}
+use Rattle.model.specs.Steps.{particleAt, roundsAt, contentAt, insideAt}
+use Rattle.parts.specs.Heads.{modeIs}
+use Rattle.parts.specs.Out.{roomOf, view, outcome}
+use Rattle.parts.specs.Paths.{namesOf}
+use Rattle.parts.specs.declared.Cursor.{Cursor}
+use Rattle.parts.specs.declared.Mode.{Mode}
+use Rattle.parts.specs.declared.Path.{Path}
+use Rattle.parts.specs.declared.Walk.{Walk}
+
+-- by the room that is left, the path, the wall and the place
+abbrev pub Meaning : Type 0
+Meaning = Room → List ℕ → ℕ → ℕ → Answer
+
+-- a function walks as its meaning says, from the cursor on; where it goes on, with the path that it was given
+abbrev pub Walks : Meaning → ℕ → Cursor → Path → List ℕ → List ℕ → Walk → List ℕ → List ℕ → Type 0
+Walks f wall c path E T w E′ T′ = view w E′ T′ ≡ outcome (f (roomOf E T c) (namesOf path) wall (c .at .0)) c (namesOf path) E T
+
+-- what is asked: the table is right, the wall is in the payload, and the path has a place for each row that may still be opened
+pub record Ready (t s : List ℕ) (wall n depth : ℕ) : Type 0 where
+  pub valid : verdict t ≡ right
+  pub walls : wall ≤ 8 * length s
+  pub places : n + depth ≤ 64
+
+-- the row that is j steps of k past the row i
+unfoldable pub stride : ℕ → ℕ → ℕ → ℕ
+stride i k zero = i
+stride i k (suc j) = stride (i + k) k j
+
+-- n such rows are rows of a table of P
+pub record Reaches (P i k n : ℕ) : Type 0 where
+  pub small : k < 2
+  pub row : (j : ℕ) → j < n → stride i k j < P
+
+module _ (t s : List ℕ) (mode : Mode) where
+  abbrev pub b : ℕ → ℕ
+  b = bitAt s
+
+  unfoldable pub particle· : ℕ → ℕ → Meaning
+  particle· d i r π wall at = particleAt b (modeIs mode) (heldOf t) (tableOf t) d (tableOf t .row i) r π wall at
+
+  unfoldable pub rounds· : ℕ → ℕ → ℕ → ℕ → Meaning
+  rounds· d i k n r π wall at = roundsAt b (modeIs mode) (heldOf t) (tableOf t) d n (λ j. tableOf t .row (stride i k j)) r π wall at
+
+  unfoldable pub content· : ℕ → ℕ → Meaning
+  content· d ty r π wall at = contentAt b (modeIs mode) (heldOf t) (tableOf t) d (tableOf t .content ty) r π wall at
+
+  unfoldable pub inside· : ℕ → ℕ → Meaning
+  inside· d ty r π wall at = insideAt b (modeIs mode) (heldOf t) (tableOf t) d ty r π wall at
+
+  unfoldable pub enter· : ℕ → ℕ → ℕ → Bool → ℕ → Meaning
+  enter· d name ty coded body r π wall at = entered (ltb 0 (r .slots)) (inside· d) (mark name ty coded at body) r π wall body
+
+  unfoldable pub element· : ℕ → ℕ → ℕ → Meaning
+  element· d name ty r π wall at = code (headAt (modeIs mode) b ty wall at) π at (opened (heldOf t) (inside· d) name r π wall at)
+
+  unfoldable pub choose· : ℕ → ℕ → ℕ → Meaning
+  choose· d first n r π wall at =
+      code (itemAt (picked n) b wall at) π at (λ (v, ts, q). after r (stored r π at (event 4 v 0 (q - at)) ts q) (λ u p. particle· d (first + v) u π wall p))
+
+  unfoldable pub occur· : ℕ → ℕ → ℕ → ℕ → Meaning
+  occur· d child least most r π wall at =
+      code (itemAt (counted least most) b wall at) π at (λ (v, ts, q). after r (stored r π at (event 5 v 0 (q - at)) ts q) (λ u p. rounds· d child 0 v u π wall p))

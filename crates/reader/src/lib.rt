@@ -1,0 +1,195 @@
+// The reader: a payload, by a schema table, into events and texts.
+mod clear; // clear.rt: lent buffers made zero
+mod cycle; // cycle.rt: elements, what is inside them, particle rows
+mod front; // front.rt: the mode byte
+mod rest; // rest.rt: what is left after the root
+
+use clear::both;
+use cycle::element;
+use front::Found;
+use front::mode_of;
+use parts::Cursor;
+use parts::Mode;
+use parts::Path;
+use parts::Step;
+use rest::padding;
+use table::Verdict;
+use table::check;
+use table::rows::types;
+use wire::Bits;
+use wire::Bytes;
+ghost use mathlib.Core.Path.{_≡_};
+ghost use Prim.Native.Nat.{_<_};
+ghost use lib.ListN.{length};
+ghost use Rattle.wire.specs.Res.{got};
+ghost use Rattle.table.specs.First.Verdict.{right};
+ghost use Rattle.table.specs.Valid.{verdict};
+ghost use Rattle.model.specs.Entries.{Entered};
+ghost use Rattle.model.specs.Whole.{modeNumber, modeOf, declines, reading};
+ghost use Rattle.parts.specs.Heads.{modeIs};
+ghost use Rattle.reader.specs.Answers.{pathIs, answerIs, told, Replies};
+ghost use Rattle.reader.specs.Root.{Zeros};
+
+// The whole answer. On acceptance number and place are 0 and the path is empty; on a refusal all but number, place and path is 0.
+pub struct Answer {
+    pub number: u32,
+    pub place: usize,
+    pub mode: u32,
+    pub events: u32,
+    pub text: Bytes,
+    pub bits: Bits,
+    pub path: Path,
+}
+
+// No open element.
+fn nowhere() -> Path
+    ensures { λ r. ⌜ r .count ≡ 0 ⌝ }
+{
+    Path {
+        names: [0u16; 64],
+        count: 0,
+    }
+}
+
+fn refused(number: u32, place: usize, path: Path) -> Answer
+    ensures { λ r. ⌜ answerIs r ≡ declines number place (pathIs path) ⌝ }
+{
+    Answer {
+        number,
+        place,
+        mode: 0,
+        events: 0,
+        text: Bytes(0),
+        bits: Bits(0),
+        path,
+    }
+}
+
+// The mode as document 01's number.
+fn number_of(mode: Mode) -> u32
+    ensures { λ r. ⌜ r ≡ modeNumber (modeIs mode) ⌝ }
+{
+    match mode {
+        Mode::Never => 0,
+        Mode::Optional => 1,
+        Mode::Always => 2,
+    }
+}
+
+fn accepted(mode: Mode, c: Cursor, path: Path) -> Answer
+    requires { ⌜ c .used < 4294967296 ⌝ }
+    ensures { λ r. ⌜ answerIs r ≡ told mode c path ⌝ }
+{
+    let number = number_of(mode);
+    let text = Bytes(c.used as u32);
+    let bits = c.at;
+    Answer {
+        number: 0,
+        place: 0,
+        mode: number,
+        events: c.count,
+        text,
+        bits,
+        path,
+    }
+}
+
+// The root at bit 8, into buffers that are zero; then what is left after it.
+fn root(
+    table: &[u32],
+    payload: &[u8],
+    events: &mut [u32],
+    texts: &mut [u8],
+    mode: Mode,
+    name: u32,
+    t: u32,
+) -> Answer
+    requires { ⌜ (Entered (now table) name t) × (modeOf (now payload) ≡ got (modeIs mode)) × Zeros (now events) × Zeros (now texts) ⌝ }
+    ensures { λ r. ⌜ Replies (reading (now (table .entry)) name t (now (payload .entry)) (length (now (events .entry))) (length (now (texts .entry)))) (length (now (events .entry))) (length (now (texts .entry))) r (now (events .exit)) (now (texts .exit)) ⌝ }
+{
+    let wall = Bits((8 * payload.len()) as u32);
+    let start = Bits(8);
+    let c = Cursor {
+        at: start,
+        count: 0,
+        used: 0,
+    };
+    let path = nowhere();
+    let w = element(
+        table,
+        payload,
+        events,
+        texts,
+        mode,
+        63,
+        wall,
+        c,
+        path,
+        name,
+        t,
+    );
+    let s = w.step;
+    let p = w.path;
+    match s {
+        Step::Refuse(n, at) => {
+            let place = at.0 as usize;
+            both(events, texts);
+            refused(n, place, p)
+        }
+        Step::Go(d) => {
+            let at = d.at;
+            let ok = padding(payload, at);
+            if ok {
+                return accepted(mode, d, p);
+            }
+            let place = at.0 as usize;
+            both(events, texts);
+            refused(17, place, p)
+        }
+    }
+}
+
+// A payload by a table that is right, into buffers that are zero.
+fn checked(
+    table: &[u32],
+    root_name: u32,
+    root_type: u32,
+    payload: &[u8],
+    events: &mut [u32],
+    texts: &mut [u8],
+) -> Answer
+    requires { ⌜ (verdict (now table) ≡ right) × Zeros (now events) × Zeros (now texts) ⌝ }
+    ensures { λ r. ⌜ Replies (reading (now (table .entry)) «root_name» «root_type» (now (payload .entry)) (length (now (events .entry))) (length (now (texts .entry)))) (length (now (events .entry))) (length (now (texts .entry))) r (now (events .exit)) (now (texts .exit)) ⌝ }
+{
+    let known = types(table);
+    if known <= root_type {
+        return refused(2, 0, nowhere());
+    }
+    if 65535 < root_name {
+        return refused(2, 0, nowhere());
+    }
+    let f = mode_of(payload);
+    match f {
+        Found::Refuse(n) => refused(n, 0, nowhere()),
+        Found::Is(mode) => root(table, payload, events, texts, mode, root_name, root_type),
+    }
+}
+
+// THE READER: a payload whose root has a name and a type of the table. It asks nothing of what it is given.
+pub fn read(
+    table: &[u32],
+    root_name: u32,
+    root_type: u32,
+    payload: &[u8],
+    events: &mut [u32],
+    texts: &mut [u8],
+) -> Answer
+    ensures { λ r. ⌜ Replies (reading (now (table .entry)) «root_name» «root_type» (now (payload .entry)) (length (now (events .entry))) (length (now (texts .entry)))) (length (now (events .entry))) (length (now (texts .entry))) r (now (events .exit)) (now (texts .exit)) ⌝ }
+{
+    both(events, texts);
+    let v = check(table);
+    match v {
+        Verdict::Wrong(i) => refused(1, i, nowhere()),
+        Verdict::Right => checked(table, root_name, root_type, payload, events, texts),
+    }
+}
