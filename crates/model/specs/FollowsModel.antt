@@ -1,5 +1,5 @@
 -- What is so by the grammar follows the content models and occurrence bounds of the table: row by row, by the rows still allowed open.
-use Prim.Native.Nat.{ℕ, zero, suc, _+_, _<_, _≤_}
+use Prim.Native.Nat.{ℕ, zero, suc, _+_, _<_, _≤_, min}
 use mathlib.Core.Path.{_≡_, refl}
 use mathlib.Core.Bool.{Bool, true, false, cond}
 use mathlib.Core.List.{List, [], _∷_, _++_}
@@ -50,18 +50,18 @@ no-count v f = omega arith
 
 pub times-within : (least most v : ℕ) → Fits (timesCode least most) v → (least ≤ v) × (v ≤ most) × (least < 65536 → v < 65536)
 unfolding timesCode
-times-within least most v f = go (ltb most least) (ltb 65536 most) (eqb most 65536) refl refl refl f
+times-within least most v f = go (ltb (min most 65535) least) (ltb 65536 most) (eqb most 65536) refl refl refl f
   where
-    go : (a b c : Bool) → ltb most least ≡ a → ltb 65536 most ≡ b → eqb most 65536 ≡ c
+    go : (a b c : Bool) → ltb (min most 65535) least ≡ a → ltb 65536 most ≡ b → eqb most 65536 ≡ c
         → Fits (cond a no-code (cond b no-code (cond c (unboundedCode least) (boundedCode least most)))) v → (least ≤ v) × (v ≤ most) × (least < 65536 → v < 65536)
     go true b c x y z f = absurd (no-count v f)
     go false true c x y z f = absurd (no-count v f)
     go false false true x y z f =
         let e = eqb-true most 65536 z in
-        let g = unbounded-within least v (omega (arith, ltb-false most least x)) f in
+        let g = unbounded-within least v (omega (arith, ltb-false (min most 65535) least x)) f in
         (g .0, omega arith, g .2)
     go false false false x y z f =
-        let h = ltb-false most least x in
+        let h : least ≤ most = omega (arith, ltb-false (min most 65535) least x) in
         let k = ltb-false 65536 most y in
         let n = eqb-false most 65536 z in
         let g = bounded-within least most v h k f in

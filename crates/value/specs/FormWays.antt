@@ -1,6 +1,8 @@
 -- Each way through the functions that choose a code.
-use Prim.Native.Nat.{ℕ, zero, suc, _+_, _-_, _^_, _<_, _≤_}
+use Prim.Native.Nat.{ℕ, zero, suc, _+_, _-_, _^_, _<_, _≤_, min}
 use mathlib.Core.Path.{_≡_, refl, sym, ap, _∙_}
+use mathlib.Core.Bool.{false}
+use lib.Dec.{ltb}
 use native.Mathlib.Omega.{arith}
 use borrow.Author.Tests.{le-leb, lt-leb, lt-ltb, le-ltb, eq-eqb, ne-eqb}
 use Rattle.signed.specs.Words.{Gap, under, by, gapOf}
@@ -62,23 +64,30 @@ pub ruleset bound-ways = (bound-flag, bound-some, bound-from)
 module _ (least most : ℕ) where
   pub times-crossed : most < least → codeIs (cv.Plain (iv.Choice 0)) ≡ timesCode least most
   unfolding timesCode codeIs innerIs
-  times-crossed h = sym (rw (lt-ltb _ _ h))
+  times-crossed h = sym (rw (lt-ltb (min most 65535) least (omega arith)))
 
-  module _ (h : least ≤ most) where
+  pub times-from : 65535 < least → codeIs (cv.Plain (iv.Choice 0)) ≡ timesCode least most
+  unfolding timesCode codeIs innerIs
+  times-from h = sym (rw (lt-ltb (min most 65535) least (omega arith)))
+
+  module _ (h : least ≤ most) (l : least ≤ 65535) where
+    least-in : ltb (min most 65535) least ≡ false
+    least-in = le-ltb (min most 65535) least (omega arith)
+
     pub times-over : 65536 < most → codeIs (cv.Plain (iv.Choice 0)) ≡ timesCode least most
     unfolding timesCode codeIs innerIs
-    times-over k = sym (rw (le-ltb _ _ h, lt-ltb _ _ k))
+    times-over k = sym (rw (least-in, lt-ltb _ _ k))
 
     module _ (k : most ≤ 65536) where
       pub times-open : (r : codeT.Code) → most ≡ 65536 → codeIs r ≡ unboundedCode least → codeIs r ≡ timesCode least most
       unfolding timesCode
-      times-open r z e = e ∙ sym (rw (le-ltb _ _ h, le-ltb _ _ k, eq-eqb _ _ z))
+      times-open r z e = e ∙ sym (rw (least-in, le-ltb _ _ k, eq-eqb _ _ z))
 
       pub times-bounded : (r : codeT.Code) → (most ≡ 65536 → ⊥) → codeIs r ≡ boundedCode least most → codeIs r ≡ timesCode least most
       unfolding timesCode
-      times-bounded r z e = e ∙ sym (rw (le-ltb _ _ h, le-ltb _ _ k, ne-eqb _ _ z))
+      times-bounded r z e = e ∙ sym (rw (least-in, le-ltb _ _ k, ne-eqb _ _ z))
 
-pub ruleset times-ways = (times-crossed, times-over, times-open, times-bounded)
+pub ruleset times-ways = (times-crossed, times-from, times-over, times-open, times-bounded)
 
 -- a kind as the tests tell it
 module _ (kind b c : ℕ) where

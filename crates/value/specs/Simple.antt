@@ -1,5 +1,5 @@
 -- Which code a row of the table asks for: ranges (001, 8.5.4.2.1), occurrences (8.5.2.4), the simple kinds of document 01; and texts.
-use Prim.Native.Nat.{ℕ, zero, suc, _+_, _-_, _*_, _^_, _<_}
+use Prim.Native.Nat.{ℕ, zero, suc, _+_, _-_, _*_, _^_, _<_, min}
 use mathlib.Core.Path.{_≡_}
 use mathlib.Core.Bool.{cond}
 use mathlib.Core.List.{List, [], _∷_, _++_}
@@ -32,9 +32,9 @@ unfoldable pub boundedCode : ℕ → ℕ → Code
 boundedCode zero most = cond (leb most 1) (choice (most + 1)) (some (choice (most + 1)))
 boundedCode (suc k) most = shifted (suc k) (choice (most - suc k + 1))
 
--- 65,536 is unbounded; a row with most under least, or over that, lets no count come
+-- 65,536 is unbounded; a row with least over most or over 65,535, or with most over 65,536, lets no count come
 unfoldable pub timesCode : ℕ → ℕ → Code
-timesCode least most = cond (ltb most least) nothing (cond (ltb 65536 most) nothing (cond (eqb most 65536) (unboundedCode least) (boundedCode least most)))
+timesCode least most = cond (ltb (min most 65535) least) nothing (cond (ltb 65536 most) nothing (cond (eqb most 65536) (unboundedCode least) (boundedCode least most)))
 
 -- a number, or a text
 pub data Simple : Type 0 where

@@ -61,6 +61,9 @@ pub fn times(least: u32, most: u32) -> Code
     if most < least {
         return Code::Plain(Inner::Choice(0));
     }
+    if 65535 < least {
+        return Code::Plain(Inner::Choice(0));
+    }
     if 65536 < most {
         return Code::Plain(Inner::Choice(0));
     }

@@ -1,0 +1,55 @@
+-- An event that is like, and its value, sized and noted.
+use Rattle.notes.specs.LeafWays.{coded-ways, coded-go}
+use borrow.Author.Needs.{needs}
+use Rattle.notes.proofs.leaves.coded.Statement.{statement}
+use Rattle.notes.proofs.leaves.coded.Tie as tie
+
+unlike-requires : tie.Need-unlike-requires
+unlike-requires c κs = search (needs, coded-ways)
+
+returns : tie.Need-returns
+returns c = search (needs, coded-ways)
+
+size-requires : tie.Need-size-requires
+size-requires c κs = search (needs, coded-ways)
+
+enum-known-e : tie.Need-enum-known-e
+enum-known-e c = search needs
+
+enum-known-n : tie.Need-enum-known-n
+enum-known-n c = search needs
+
+number-requires : tie.Need-number-requires
+number-requires c κs = search (needs, coded-ways)
+
+keep-requires : tie.Need-keep-requires
+keep-requires c κs = search (needs, coded-ways)
+
+add-bits : tie.Need-add-bits
+add-bits c = search (needs, coded-ways)
+
+add-t22 : tie.Need-add-t22
+add-t22 c = search (needs, coded-ways)
+
+returns-2 : tie.Need-returns-2
+returns-2 c = search (needs, coded-ways)
+
+returns-3 : tie.Need-returns-3
+returns-3 c =
+    search (coded-go, c .before .before .before .before .before .before .before .before .before .before .before .before .before .pre, c .before .before .before .before .before .before .before .before .before .before .unlike .ensures, c .before .before .before .before .before .before .before .before .before .if1 .left, c .before .before .before .before .before .before .before .before .size .ensures .0, c .before .before .before .before .before .before .before .before .size .ensures .1, c .before .before .before .before .before .before .n .given .1, c .before .before .before .before .number .ensures, c .before .before .keep .ensures)
+
+pub coded-spec : {M : Type 1} → statement M
+coded-spec =
+    tie.close
+    (tie.spec
+    unlike-requires
+    returns
+    size-requires
+    enum-known-e
+    enum-known-n
+    number-requires
+    keep-requires
+    add-bits
+    add-t22
+    returns-2
+    returns-3)

@@ -1,0 +1,28 @@
+-- An event that is like is noted as nothing.
+use Rattle.notes.specs.LeafWays.{mark-ways, mark-go}
+use borrow.Author.Needs.{needs}
+use Rattle.notes.proofs.leaves.mark.Statement.{statement}
+use Rattle.notes.proofs.leaves.mark.Tie as tie
+
+unlike-requires : tie.Need-unlike-requires
+unlike-requires c κs = search (needs, mark-ways)
+
+returns : tie.Need-returns
+returns c = search (needs, mark-ways)
+
+just-requires : tie.Need-just-requires
+just-requires c κs = search (needs, mark-ways)
+
+keep-requires : tie.Need-keep-requires
+keep-requires c κs = search (needs, mark-ways)
+
+add-t16 : tie.Need-add-t16
+add-t16 c = search (needs, mark-ways)
+
+returns-2 : tie.Need-returns-2
+returns-2 c =
+    search (mark-go, c .before .before .before .before .before .before .before .pre, c .before .before .before .before .unlike .ensures, c .before .before .before .if1 .left, c .before .before .just .ensures, c .keep .ensures)
+
+pub mark-spec : {M : Type 1} → statement M
+mark-spec =
+    tie.close (tie.spec unlike-requires returns just-requires keep-requires add-t16 returns-2)

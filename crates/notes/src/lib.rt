@@ -1,0 +1,35 @@
+// Notes: what is to be written for each event, two pieces of bits each; the leaves that judge an event and note it; the pen that writes notes down.
+pub mod codes; // codes.rt: the note of a code
+pub mod leaves; // leaves.rt: one event judged and noted
+pub mod pen; // pen.rt: notes into a lent buffer
+
+// Bits to be written: up to 32 bits of x; width 33: the vluimsbf5 of x; width 34 + n: n bytes of the texts from byte x on.
+pub struct Piece {
+    pub width: u32,
+    pub x: u32,
+}
+
+// What is to be written for one event.
+pub struct Note {
+    pub one: Piece,
+    pub two: Piece,
+}
+
+// An element's head, and how many bits that is.
+pub struct Head {
+    pub note: Note,
+    pub bits: u32,
+}
+
+// Where a walk over the list is: the next event, the text bytes used, the bits of what was noted.
+pub struct Cursor {
+    pub event: usize,
+    pub used: usize,
+    pub bits: u32,
+}
+
+// Where the walk goes on; or number and event of a refusal.
+pub enum Step {
+    Go(Cursor),
+    Refuse(u32, usize),
+}
