@@ -1,11 +1,19 @@
-//! Links the proved leaves into `leaves` alone: every other target is built without them.
+//! Links the proved leaves into `leaves` alone and the proved C calls into `calls` alone: every other target is built
+//! without them. `HOST_ARCHIVE` names another archive of the C calls.
 
 fn main() {
     println!("cargo:rerun-if-changed=build.rs");
-    if std::env::var_os("CARGO_FEATURE_PROVED").is_none() {
-        return;
+    println!("cargo:rerun-if-env-changed=HOST_ARCHIVE");
+    let built = concat!(env!("CARGO_MANIFEST_DIR"), "/../target/staticlib");
+    if std::env::var_os("CARGO_FEATURE_PROVED").is_some() {
+        link("leaves", &format!("{built}/libprobe.a"));
     }
-    let archive = concat!(env!("CARGO_MANIFEST_DIR"), "/../target/staticlib/libprobe.a");
+    if std::env::var_os("CARGO_FEATURE_HOST").is_some() {
+        link("calls", &std::env::var("HOST_ARCHIVE").unwrap_or(format!("{built}/libhost.a")));
+    }
+}
+
+fn link(target: &str, archive: &str) {
     println!("cargo:rerun-if-changed={archive}");
-    println!("cargo:rustc-link-arg-bin=leaves={archive}");
+    println!("cargo:rustc-link-arg-bin={target}={archive}");
 }

@@ -246,6 +246,11 @@ fn spans(words: &[u32], root: (u32, u32), list: &[[u32; 4]]) -> Vec<Span> {
     walk.spans
 }
 
+/// The types of the elements of a list that its table has, the root's first.
+pub fn element_types(words: &[u32], root: (u32, u32), list: &[[u32; 4]]) -> Vec<usize> {
+    spans(words, root, list).iter().map(|span| span.of_type).collect()
+}
+
 struct SpanWalk<'a> {
     table: table::Table<'a>,
     list: &'a [[u32; 4]],
@@ -326,17 +331,50 @@ impl SpanWalk<'_> {
     }
 }
 
+/// What a pair of readings shows of demand 3.
+#[derive(Clone, Copy, Debug, PartialEq, Eq)]
+pub enum Pair {
+    /// Both accept, and something was newly held.
+    Blanked,
+    /// The second accepts, the first refuses with 9.
+    FirstRefuses,
+    /// The first accepts, the second refuses inside a Blank.
+    SecondRefuses,
+    /// The first accepts, the second lacks room.
+    SecondLacksRoom,
+    /// Neither accepts, or both give the same.
+    Neither,
+}
+
 /// Demand 3, for one payload, root and room under two valid tables alike but for held marks, where the second holds
 /// all that the first holds.
 pub fn two_tables(tally: &mut Tally, first_table: &[u32], second_call: &ReadCall<'_>) -> Result<(), String> {
-    let second_table = second_call.table;
     let first_call = ReadCall { table: first_table, ..second_call.clone() };
     let first = read(tally, &first_call)?;
     let second = read(tally, second_call)?;
+    let count = match judge_pair(first_table, second_call.table, second_call.root, &first, &second)? {
+        Pair::Blanked => &mut tally.both,
+        Pair::FirstRefuses => &mut tally.first_refuses,
+        Pair::SecondRefuses => &mut tally.second_refuses,
+        Pair::SecondLacksRoom => &mut tally.second_lacks_room,
+        Pair::Neither => &mut tally.neither,
+    };
+    *count += 1;
+    Ok(())
+}
+
+/// Demand 3 of two readings of one payload, whoever made them.
+pub fn judge_pair(
+    first_table: &[u32],
+    second_table: &[u32],
+    root: (u32, u32),
+    first: &Outcome,
+    second: &Outcome,
+) -> Result<Pair, String> {
     let held = |words: &[u32], of_type: usize| words[table::HEADER + table::TYPE_ROW * of_type] == 1;
     match (first.answer.is_accepted(), second.answer.is_accepted()) {
         (_, true) => {
-            let all = spans(second_table, second_call.root, &second.list());
+            let all = spans(second_table, root, &second.list());
             let mut outermost: Vec<&Span> = vec![];
             for span in &all {
                 let newly = held(second_table, span.of_type) && !held(first_table, span.of_type);
@@ -350,19 +388,19 @@ pub fn two_tables(tally: &mut Tally, first_table: &[u32], second_call: &ReadCall
                 Some(span) => {
                     model::Reading::Refused { number: number::NOT_HELD, place: span.place, path: span.path.clone() }
                 }
-                None => with_blanks(&second, &outermost),
+                None => with_blanks(second, &outermost),
             };
-            let got = reading_of(&first);
+            let got = reading_of(first);
             demand(got == expected, || format!("demand 3: the first gives {got:?}, and should {expected:?}"))?;
-            match (bare.is_some(), outermost.is_empty()) {
-                (true, _) => tally.first_refuses += 1,
-                (false, false) => tally.both += 1,
-                (false, true) => tally.neither += 1,
-            }
+            Ok(match (bare.is_some(), outermost.is_empty()) {
+                (true, _) => Pair::FirstRefuses,
+                (false, false) => Pair::Blanked,
+                (false, true) => Pair::Neither,
+            })
         }
         (true, false) => {
             let refused = &second.answer;
-            let all = spans(first_table, first_call.root, &first.list());
+            let all = spans(first_table, root, &first.list());
             // The refusal lies in a Blank of the first when the second's open path leads into that very element.
             let inside = all.iter().any(|span| {
                 let mut open = span.path.clone();
@@ -373,17 +411,15 @@ pub fn two_tables(tally: &mut Tally, first_table: &[u32], second_call: &ReadCall
                     && (span.place..=span.place + span.bits).contains(&place)
             });
             if inside {
-                tally.second_refuses += 1;
-            } else {
-                demand([number::EVENT_ROOM, number::TEXT_ROOM].contains(&refused.number), || {
-                    format!("demand 3: the second refuses outside of every Blank: {refused:?}")
-                })?;
-                tally.second_lacks_room += 1;
+                return Ok(Pair::SecondRefuses);
             }
+            demand([number::EVENT_ROOM, number::TEXT_ROOM].contains(&refused.number), || {
+                format!("demand 3: the second refuses outside of every Blank: {refused:?}")
+            })?;
+            Ok(Pair::SecondLacksRoom)
         }
-        (false, false) => tally.neither += 1,
+        (false, false) => Ok(Pair::Neither),
     }
-    Ok(())
 }
 
 /// The second's reading with each of these elements replaced by one Blank, and its texts left out.

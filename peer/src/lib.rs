@@ -6,6 +6,7 @@
 
 pub mod answer;
 pub mod bits;
+pub mod calls;
 pub mod cases;
 pub mod code_cases;
 pub mod codes;

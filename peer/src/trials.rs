@@ -42,7 +42,7 @@ pub fn trial(tally: &mut Tally, seed: u64) -> (usize, Result<(), String>) {
 }
 
 /// A table that has lists, and a sample of them.
-fn table_and_sample(rng: &mut Rng, quirk: usize) -> (Vec<u32>, gen::Sample) {
+pub(crate) fn table_and_sample(rng: &mut Rng, quirk: usize) -> (Vec<u32>, gen::Sample) {
     loop {
         let table = gen::table(rng);
         if let Some(sample) = gen::sample(rng, &table, quirk) {

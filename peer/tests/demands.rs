@@ -1,6 +1,10 @@
 //! A short run of the seeded trials, so that `cargo test` alone notices a violated demand.
 
-use peer::demands::Tally;
+mod common;
+
+use common::{worked_table, WORKED_PAYLOAD};
+use peer::answer::{refusal, Answer, Path};
+use peer::demands::{self, judge_pair, Outcome, Pair, ReadCall, Tally};
 use peer::trials::{trial, KINDS};
 
 #[test]
@@ -14,4 +18,42 @@ fn the_demands_hold_for_some_thousand_seeds() {
     }
     assert!(!kinds.contains(&0), "{kinds:?}");
     assert!(tally.read[0] > 0 && tally.written[0] > 0 && tally.blanks > 0);
+}
+
+#[test]
+fn demand_3_judges_answers_that_nobody_should_give() {
+    let second_table = worked_table();
+    let mut first_table = second_table.clone();
+    first_table[4 + 7 * 3] = 0;
+    let read = |table: &[u32]| {
+        let call = ReadCall { table, root: (10, 0), payload: &WORKED_PAYLOAD, event_words: 400, text_room: 40 };
+        demands::read(&mut Tally::default(), &call).unwrap()
+    };
+    let (first, second) = (read(&first_table), read(&second_table));
+    let judge = |first: &Outcome, second: &Outcome| judge_pair(&first_table, &second_table, (10, 0), first, second);
+    assert_eq!(judge(&first, &second), Ok(Pair::Blanked));
+
+    let blank = first.list().iter().position(|event| event[0] == 7).unwrap();
+    let mut short = first.clone();
+    short.events[4 * blank + 3] -= 1;
+    assert!(judge(&short, &second).is_err(), "a Blank one bit short");
+    let mut kept = first.clone();
+    kept.texts[..second.answer.text].copy_from_slice(second.text());
+    kept.answer.text = second.answer.text;
+    assert!(judge(&kept, &second).is_err(), "the blanked element's text kept");
+    assert!(judge(&second, &second).is_err(), "nothing blanked");
+    let refuses = |number, place, path: &[u32]| {
+        let mut open = Path::empty();
+        path.iter().for_each(|&name| open.push(name));
+        Outcome { answer: Answer::refused(refusal(number, place), open), events: vec![], texts: vec![] }
+    };
+    assert!(judge(&refuses(9, 18, &[10]), &second).is_err(), "refused in spite of its length");
+
+    let place = 8 + first.list()[..blank].iter().map(|event| event[3] as usize).sum::<usize>();
+    let inside = refuses(16, place + 5, &[10, 11]);
+    assert_eq!(judge(&first, &inside), Ok(Pair::SecondRefuses));
+    assert_eq!(judge(&first, &refuses(7, place, &[10])), Ok(Pair::SecondLacksRoom));
+    assert!(judge(&first, &refuses(16, place + 5, &[10])).is_err(), "refused where no Blank is open");
+    assert!(judge(&first, &refuses(16, 8, &[10, 11])).is_err(), "refused before the Blank");
+    assert!(judge(&first, &refuses(16, 67, &[10, 11])).is_err(), "refused behind the Blank");
 }

@@ -1,0 +1,17 @@
+-- A count is an event noted.
+use Rattle.writer.specs.SimpleWays.{counted-way}
+use borrow.Author.Needs.{needs}
+use Rattle.writer.proofs.simple.count.Statement.{statement}
+use Rattle.writer.proofs.simple.count.Tie as tie
+
+times-requires : tie.Need-times-requires
+times-requires c κs = search (needs, counted-way)
+
+coded-requires : tie.Need-coded-requires
+coded-requires c κs = search (needs, counted-way)
+
+returns : tie.Need-returns
+returns c = search (needs, counted-way)
+
+pub count-spec : {M : Type 1} → statement M
+count-spec = tie.close (tie.spec times-requires coded-requires returns)

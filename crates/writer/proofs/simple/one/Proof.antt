@@ -1,0 +1,24 @@
+-- By the row's mark.
+use Rattle.writer.specs.SimpleWays.{one-ways}
+use borrow.Author.Needs.{needs}
+use Rattle.writer.proofs.simple.one.Statement.{statement}
+use Rattle.writer.proofs.simple.one.Tie as tie
+
+attribute-requires : tie.Need-attribute-requires
+attribute-requires c κs = search (needs, one-ways)
+
+required-requires : tie.Need-required-requires
+required-requires c κs = search (needs, one-ways)
+
+returns : tie.Need-returns
+returns c = search (needs, one-ways)
+
+optional-requires : tie.Need-optional-requires
+optional-requires c κs = search (needs, one-ways)
+
+returns-2 : tie.Need-returns-2
+returns-2 c = search (needs, one-ways)
+
+pub one-spec : {M : Type 1} → statement M
+one-spec =
+    tie.close (tie.spec attribute-requires required-requires returns optional-requires returns-2)

@@ -1,0 +1,55 @@
+-- The flag, then the value or nothing.
+use Rattle.writer.specs.SimpleWays.{optional-ways, optional-absent}
+use borrow.Author.Needs.{needs}
+use Rattle.writer.proofs.simple.optional.Statement.{statement}
+use Rattle.writer.proofs.simple.optional.Tie as tie
+
+mul-word : tie.Need-mul-word
+mul-word c = search (needs, optional-ways)
+
+add-word : tie.Need-add-word
+add-word c = search (needs, optional-ways)
+
+word-requires : tie.Need-word-requires
+word-requires c κs = search (needs, optional-ways)
+
+flag-requires : tie.Need-flag-requires
+flag-requires c κs = search (needs, optional-ways)
+
+coded-requires : tie.Need-coded-requires
+coded-requires c κs = search (needs, optional-ways)
+
+enum-known-r : tie.Need-enum-known-r
+enum-known-r c = search needs
+
+enum-told : tie.Need-enum-told
+enum-told c = search needs
+
+returns : tie.Need-returns
+returns c = search (needs, optional-ways)
+
+returns-2 : tie.Need-returns-2
+returns-2 c =
+    search (optional-absent, c .before .before .before .before .before .before .before .word .ensures, c .before .before .before .before .before .before .flag .ensures, c .before .before .before .before .coded .ensures, c .before .before .r .given .1, c .if1 .taken)
+
+value-requires : tie.Need-value-requires
+value-requires c κs = search (needs, optional-ways)
+
+returns-3 : tie.Need-returns-3
+returns-3 c = search (needs, optional-ways)
+
+pub optional-spec : {M : Type 1} → statement M
+optional-spec =
+    tie.close
+    (tie.spec
+    mul-word
+    add-word
+    word-requires
+    flag-requires
+    coded-requires
+    enum-known-r
+    enum-told
+    returns
+    returns-2
+    value-requires
+    returns-3)

@@ -1,0 +1,14 @@
+-- A branch is an event noted.
+use Rattle.writer.specs.SimpleWays.{picked-way}
+use borrow.Author.Needs.{needs}
+use Rattle.writer.proofs.simple.pick.Statement.{statement}
+use Rattle.writer.proofs.simple.pick.Tie as tie
+
+coded-requires : tie.Need-coded-requires
+coded-requires c κs = search (needs, picked-way)
+
+returns : tie.Need-returns
+returns c = search (needs, picked-way)
+
+pub pick-spec : {M : Type 1} → statement M
+pick-spec = tie.close (tie.spec coded-requires returns)

@@ -1,0 +1,27 @@
+-- The mark, then the value.
+use Rattle.writer.specs.SimpleWays.{required-ways}
+use borrow.Author.Needs.{needs}
+use Rattle.writer.proofs.simple.required.Statement.{statement}
+use Rattle.writer.proofs.simple.required.Tie as tie
+
+mark-requires : tie.Need-mark-requires
+mark-requires c κs = search (needs, required-ways)
+
+enum-known-r : tie.Need-enum-known-r
+enum-known-r c = search needs
+
+enum-told : tie.Need-enum-told
+enum-told c = search needs
+
+returns : tie.Need-returns
+returns c = search (needs, required-ways)
+
+value-requires : tie.Need-value-requires
+value-requires c κs = search (needs, required-ways)
+
+returns-2 : tie.Need-returns-2
+returns-2 c = search (needs, required-ways)
+
+pub required-spec : {M : Type 1} → statement M
+required-spec =
+    tie.close (tie.spec mark-requires enum-known-r enum-told returns value-requires returns-2)

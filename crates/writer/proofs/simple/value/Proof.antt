@@ -1,0 +1,50 @@
+-- A value is an event noted, as number or text.
+use Rattle.writer.specs.SimpleWays.{value-ways}
+use borrow.Author.Needs.{needs}
+use Rattle.writer.proofs.simple.value.Statement.{statement}
+use Rattle.writer.proofs.simple.value.Tie as tie
+
+mul-word : tie.Need-mul-word
+mul-word c = search (needs, value-ways)
+
+add-word : tie.Need-add-word
+add-word c = search (needs, value-ways)
+
+word-requires : tie.Need-word-requires
+word-requires c κs = search (needs, value-ways)
+
+simple-requires : tie.Need-simple-requires
+simple-requires c κs = search (needs, value-ways)
+
+enum-known-code : tie.Need-enum-known-code
+enum-known-code c = search needs
+
+coded-requires : tie.Need-coded-requires
+coded-requires c κs = search (needs, value-ways)
+
+enum-told : tie.Need-enum-told
+enum-told c = search needs
+
+text-value-requires : tie.Need-text-value-requires
+text-value-requires c κs = search (needs, value-ways)
+
+returns : tie.Need-returns
+returns c = search (needs, value-ways)
+
+returns-2 : tie.Need-returns-2
+returns-2 c = search (needs, value-ways)
+
+pub value-spec : {M : Type 1} → statement M
+value-spec =
+    tie.close
+    (tie.spec
+    mul-word
+    add-word
+    word-requires
+    simple-requires
+    enum-known-code
+    coded-requires
+    enum-told
+    text-value-requires
+    returns
+    returns-2)

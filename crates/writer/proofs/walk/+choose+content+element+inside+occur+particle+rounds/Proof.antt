@@ -1,0 +1,1221 @@
+-- The cycle: each need by the ways of its function; the measure is the rows still allowed open.
+use Prim.Native.Nat.{ℕ, _<_, _≤_, _+_, _-_, _*_}
+use mathlib.Core.Path.{_≡_, refl}
+use native.Mathlib.Omega.{arith}
+use borrow.Author.Needs.{needs}
+use Rattle.notes.specs.Walk.{eventsAt, textsAt, Ready}
+use Rattle.writer.specs.Meaning.{rounds·}
+use Rattle.writer.specs.Leads.{Leads}
+use Rattle.writer.specs.WalkWays.{choose-ways, content-ways, element-ways, inside-ways, occur-ways, particle-ways, rounds-ways, leftR, row-type, row-sequence, row-choice, row-child, element-unheld, element-stop, element-sealing, element-kept, element-go}
+use borrow.Fn.Kinds.{In}
+use borrow.Fn.PlainCycle.{Measures, is, falls, and}
+use Rattle.writer.proofs.walk.choose.Reads as choose
+use Rattle.writer.proofs.walk.choose.Kinds as choose-kinds
+use Rattle.writer.proofs.walk.+choose+content+element+inside+occur+particle+rounds.Lts-choose as choose-lts
+use Rattle.writer.proofs.walk.content.Reads as content
+use Rattle.writer.proofs.walk.content.Kinds as content-kinds
+use Rattle.writer.proofs.walk.+choose+content+element+inside+occur+particle+rounds.Lts-content as content-lts
+use Rattle.writer.proofs.walk.element.Reads as element
+use Rattle.writer.proofs.walk.element.Kinds as element-kinds
+use Rattle.writer.proofs.walk.+choose+content+element+inside+occur+particle+rounds.Lts-element as element-lts
+use Rattle.writer.proofs.walk.inside.Reads as inside
+use Rattle.writer.proofs.walk.inside.Kinds as inside-kinds
+use Rattle.writer.proofs.walk.+choose+content+element+inside+occur+particle+rounds.Lts-inside as inside-lts
+use Rattle.writer.proofs.walk.occur.Reads as occur
+use Rattle.writer.proofs.walk.occur.Kinds as occur-kinds
+use Rattle.writer.proofs.walk.+choose+content+element+inside+occur+particle+rounds.Lts-occur as occur-lts
+use Rattle.writer.proofs.walk.particle.Reads as particle
+use Rattle.writer.proofs.walk.particle.Kinds as particle-kinds
+use Rattle.writer.proofs.walk.+choose+content+element+inside+occur+particle+rounds.Lts-particle as particle-lts
+use Rattle.writer.proofs.walk.rounds.Reads as rounds
+use Rattle.writer.proofs.walk.rounds.Kinds as rounds-kinds
+use Rattle.writer.proofs.walk.+choose+content+element+inside+occur+particle+rounds.Lts-rounds as rounds-lts
+use Rattle.notes.proofs.leaves.close.Reads as close-reads
+use Rattle.notes.proofs.leaves.unlike.Reads as unlike-reads
+use Rattle.table.proofs.rows.content.Reads as content-reads
+use Rattle.table.proofs.rows.held.Reads as held-reads
+use Rattle.table.proofs.rows.particle.Reads as particle-reads
+use Rattle.table.proofs.rows.span.Reads as span-reads
+use Rattle.table.proofs.rows.word.Reads as word-reads
+use Rattle.writer.proofs.simple.all.Reads as all-reads
+use Rattle.writer.proofs.simple.count.Reads as count-reads
+use Rattle.writer.proofs.simple.pick.Reads as pick-reads
+use Rattle.writer.proofs.simple.value.Reads as value-reads
+use Rattle.writer.proofs.walk.flag_in.Reads as flag-in-reads
+use Rattle.writer.proofs.walk.too_deep.Reads as too-deep-reads
+use Rattle.writer.proofs.walk.+choose+content+element+inside+occur+particle+rounds.{
+  statement,
+}
+use Rattle.writer.proofs.walk.+choose+content+element+inside+occur+particle+rounds.Tie.{
+  close,
+}
+
+abbrev μ-choose : Measures 4 choose-kinds.ps ℕ
+μ-choose κs a = 8 * (a .1 .1 .1 .1 .1 .1 .1 .0) + 1
+
+abbrev μ-content : Measures 4 content-kinds.ps ℕ
+μ-content κs a = 8 * (a .1 .1 .1 .1 .1 .1 .0) + 1
+
+abbrev μ-element : Measures 4 element-kinds.ps ℕ
+μ-element κs a = 8 * (a .1 .1 .1 .1 .1 .1 .1 .0) + 3
+
+abbrev μ-inside : Measures 4 inside-kinds.ps ℕ
+μ-inside κs a = 8 * (a .1 .1 .1 .1 .1 .1 .0) + 2
+
+abbrev μ-occur : Measures 4 occur-kinds.ps ℕ
+μ-occur κs a = 8 * (a .1 .1 .1 .1 .1 .1 .1 .1 .0) + 2
+
+abbrev μ-particle : Measures 4 particle-kinds.ps ℕ
+μ-particle κs a = 8 * (a .1 .1 .1 .1 .1 .1 .0) + 0
+
+abbrev μ-rounds : Measures 4 rounds-kinds.ps ℕ
+μ-rounds κs a = 8 * (a .1 .1 .1 .1 .1 .1 .1 .1 .0) + 1
+
+abbrev choose-at : ℕ → In 4 choose-kinds.ps
+choose-at t = and 4 choose-kinds.ps (is 4 choose-kinds.ps μ-choose t) choose.Pre
+
+abbrev choose-below : ℕ → In 4 choose-kinds.ps
+choose-below t = and 4 choose-kinds.ps (falls 4 choose-kinds.ps _<_ μ-choose t) choose.Pre
+
+abbrev content-at : ℕ → In 4 content-kinds.ps
+content-at t = and 4 content-kinds.ps (is 4 content-kinds.ps μ-content t) content.Pre
+
+abbrev content-below : ℕ → In 4 content-kinds.ps
+content-below t = and 4 content-kinds.ps (falls 4 content-kinds.ps _<_ μ-content t) content.Pre
+
+abbrev element-at : ℕ → In 4 element-kinds.ps
+element-at t = and 4 element-kinds.ps (is 4 element-kinds.ps μ-element t) element.Pre
+
+abbrev element-below : ℕ → In 4 element-kinds.ps
+element-below t = and 4 element-kinds.ps (falls 4 element-kinds.ps _<_ μ-element t) element.Pre
+
+abbrev inside-at : ℕ → In 4 inside-kinds.ps
+inside-at t = and 4 inside-kinds.ps (is 4 inside-kinds.ps μ-inside t) inside.Pre
+
+abbrev inside-below : ℕ → In 4 inside-kinds.ps
+inside-below t = and 4 inside-kinds.ps (falls 4 inside-kinds.ps _<_ μ-inside t) inside.Pre
+
+abbrev occur-at : ℕ → In 4 occur-kinds.ps
+occur-at t = and 4 occur-kinds.ps (is 4 occur-kinds.ps μ-occur t) occur.Pre
+
+abbrev occur-below : ℕ → In 4 occur-kinds.ps
+occur-below t = and 4 occur-kinds.ps (falls 4 occur-kinds.ps _<_ μ-occur t) occur.Pre
+
+abbrev particle-at : ℕ → In 4 particle-kinds.ps
+particle-at t = and 4 particle-kinds.ps (is 4 particle-kinds.ps μ-particle t) particle.Pre
+
+abbrev particle-below : ℕ → In 4 particle-kinds.ps
+particle-below t =
+    and 4 particle-kinds.ps (falls 4 particle-kinds.ps _<_ μ-particle t) particle.Pre
+
+abbrev rounds-at : ℕ → In 4 rounds-kinds.ps
+rounds-at t = and 4 rounds-kinds.ps (is 4 rounds-kinds.ps μ-rounds t) rounds.Pre
+
+abbrev rounds-below : ℕ → In 4 rounds-kinds.ps
+rounds-below t = and 4 rounds-kinds.ps (falls 4 rounds-kinds.ps _<_ μ-rounds t) rounds.Pre
+
+choose-mul-word : (t : ℕ) → choose-lts.Need-mul-word (
+  word-reads.Asked,
+  word-reads.Learnt,
+  pick-reads.Asked,
+  pick-reads.Learnt,
+  particle-below t,
+  particle.Post,
+) (choose-at t) choose.Post
+choose-mul-word t c = search (needs, choose-ways)
+
+choose-add-word : (t : ℕ) → choose-lts.Need-add-word (
+  word-reads.Asked,
+  word-reads.Learnt,
+  pick-reads.Asked,
+  pick-reads.Learnt,
+  particle-below t,
+  particle.Post,
+) (choose-at t) choose.Post
+choose-add-word t c = search (needs, choose-ways)
+
+choose-word-requires : (t : ℕ) → choose-lts.Need-word-requires (
+  word-reads.Asked,
+  word-reads.Learnt,
+  pick-reads.Asked,
+  pick-reads.Learnt,
+  particle-below t,
+  particle.Post,
+) (choose-at t) choose.Post
+choose-word-requires t c κs = search (needs, choose-ways)
+
+choose-pick-requires : (t : ℕ) → choose-lts.Need-pick-requires (
+  word-reads.Asked,
+  word-reads.Learnt,
+  pick-reads.Asked,
+  pick-reads.Learnt,
+  particle-below t,
+  particle.Post,
+) (choose-at t) choose.Post
+choose-pick-requires t c κs = search (needs, choose-ways)
+
+choose-enum-known-r : (t : ℕ) → choose-lts.Need-enum-known-r (
+  word-reads.Asked,
+  word-reads.Learnt,
+  pick-reads.Asked,
+  pick-reads.Learnt,
+  particle-below t,
+  particle.Post,
+) (choose-at t) choose.Post
+choose-enum-known-r t c = search needs
+
+choose-enum-told : (t : ℕ) → choose-lts.Need-enum-told (
+  word-reads.Asked,
+  word-reads.Learnt,
+  pick-reads.Asked,
+  pick-reads.Learnt,
+  particle-below t,
+  particle.Post,
+) (choose-at t) choose.Post
+choose-enum-told t c = search needs
+
+choose-returns : (t : ℕ) → choose-lts.Need-returns (
+  word-reads.Asked,
+  word-reads.Learnt,
+  pick-reads.Asked,
+  pick-reads.Learnt,
+  particle-below t,
+  particle.Post,
+) (choose-at t) choose.Post
+choose-returns t c = search (needs, choose-ways)
+
+choose-add-particle : (t : ℕ) → choose-lts.Need-add-particle (
+  word-reads.Asked,
+  word-reads.Learnt,
+  pick-reads.Asked,
+  pick-reads.Learnt,
+  particle-below t,
+  particle.Post,
+) (choose-at t) choose.Post
+choose-add-particle t c = search (needs, choose-ways)
+
+choose-particle-requires : (t : ℕ) → choose-lts.Need-particle-requires (
+  word-reads.Asked,
+  word-reads.Learnt,
+  pick-reads.Asked,
+  pick-reads.Learnt,
+  particle-below t,
+  particle.Post,
+) (choose-at t) choose.Post
+choose-particle-requires t c κs = search (needs, choose-ways)
+
+choose-returns-2 : (t : ℕ) → choose-lts.Need-returns-2 (
+  word-reads.Asked,
+  word-reads.Learnt,
+  pick-reads.Asked,
+  pick-reads.Learnt,
+  particle-below t,
+  particle.Post,
+) (choose-at t) choose.Post
+choose-returns-2 t c = search (needs, choose-ways)
+
+content-content-requires : (t : ℕ) → content-lts.Need-content-requires (
+  content-reads.Asked,
+  content-reads.Learnt,
+  value-reads.Asked,
+  value-reads.Learnt,
+  particle-below t,
+  particle.Post,
+) (content-at t) content.Post
+content-content-requires t c κs = search (needs, content-ways)
+
+content-enum-told : (t : ℕ) → content-lts.Need-enum-told (
+  content-reads.Asked,
+  content-reads.Learnt,
+  value-reads.Asked,
+  value-reads.Learnt,
+  particle-below t,
+  particle.Post,
+) (content-at t) content.Post
+content-enum-told t c = search needs
+
+content-enum-known-k : (t : ℕ) → content-lts.Need-enum-known-k (
+  content-reads.Asked,
+  content-reads.Learnt,
+  value-reads.Asked,
+  value-reads.Learnt,
+  particle-below t,
+  particle.Post,
+) (content-at t) content.Post
+content-enum-known-k t c = search needs
+
+content-value-requires : (t : ℕ) → content-lts.Need-value-requires (
+  content-reads.Asked,
+  content-reads.Learnt,
+  value-reads.Asked,
+  value-reads.Learnt,
+  particle-below t,
+  particle.Post,
+) (content-at t) content.Post
+content-value-requires t c κs = search (needs, content-ways)
+
+content-enum-known-i : (t : ℕ) → content-lts.Need-enum-known-i (
+  content-reads.Asked,
+  content-reads.Learnt,
+  value-reads.Asked,
+  value-reads.Learnt,
+  particle-below t,
+  particle.Post,
+) (content-at t) content.Post
+content-enum-known-i t c = search needs
+
+content-particle-requires : (t : ℕ) → content-lts.Need-particle-requires (
+  content-reads.Asked,
+  content-reads.Learnt,
+  value-reads.Asked,
+  value-reads.Learnt,
+  particle-below t,
+  particle.Post,
+) (content-at t) content.Post
+content-particle-requires t c κs = search (needs, content-ways)
+
+content-returns : (t : ℕ) → content-lts.Need-returns (
+  content-reads.Asked,
+  content-reads.Learnt,
+  value-reads.Asked,
+  value-reads.Learnt,
+  particle-below t,
+  particle.Post,
+) (content-at t) content.Post
+content-returns t c = search (needs, content-ways)
+
+content-returns-2 : (t : ℕ) → content-lts.Need-returns-2 (
+  content-reads.Asked,
+  content-reads.Learnt,
+  value-reads.Asked,
+  value-reads.Learnt,
+  particle-below t,
+  particle.Post,
+) (content-at t) content.Post
+content-returns-2 t c = search (needs, content-ways)
+
+content-returns-3 : (t : ℕ) → content-lts.Need-returns-3 (
+  content-reads.Asked,
+  content-reads.Learnt,
+  value-reads.Asked,
+  value-reads.Learnt,
+  particle-below t,
+  particle.Post,
+) (content-at t) content.Post
+content-returns-3 t c = search (needs, content-ways)
+
+element-mul-word : (t : ℕ) → element-lts.Need-mul-word (
+  word-reads.Asked,
+  word-reads.Learnt,
+  flag-in-reads.Asked,
+  flag-in-reads.Learnt,
+  unlike-reads.Asked,
+  unlike-reads.Learnt,
+  held-reads.Asked,
+  held-reads.Learnt,
+  inside-below t,
+  inside.Post,
+  close-reads.Asked,
+  close-reads.Learnt,
+) (element-at t) element.Post
+element-mul-word t c = search (needs, element-ways)
+
+element-add-word : (t : ℕ) → element-lts.Need-add-word (
+  word-reads.Asked,
+  word-reads.Learnt,
+  flag-in-reads.Asked,
+  flag-in-reads.Learnt,
+  unlike-reads.Asked,
+  unlike-reads.Learnt,
+  held-reads.Asked,
+  held-reads.Learnt,
+  inside-below t,
+  inside.Post,
+  close-reads.Asked,
+  close-reads.Learnt,
+) (element-at t) element.Post
+element-add-word t c = search (needs, element-ways)
+
+element-word-requires : (t : ℕ) → element-lts.Need-word-requires (
+  word-reads.Asked,
+  word-reads.Learnt,
+  flag-in-reads.Asked,
+  flag-in-reads.Learnt,
+  unlike-reads.Asked,
+  unlike-reads.Learnt,
+  held-reads.Asked,
+  held-reads.Learnt,
+  inside-below t,
+  inside.Post,
+  close-reads.Asked,
+  close-reads.Learnt,
+) (element-at t) element.Post
+element-word-requires t c κs = search (needs, element-ways)
+
+element-flag-in-requires : (t : ℕ) → element-lts.Need-flag-in-requires (
+  word-reads.Asked,
+  word-reads.Learnt,
+  flag-in-reads.Asked,
+  flag-in-reads.Learnt,
+  unlike-reads.Asked,
+  unlike-reads.Learnt,
+  held-reads.Asked,
+  held-reads.Learnt,
+  inside-below t,
+  inside.Post,
+  close-reads.Asked,
+  close-reads.Learnt,
+) (element-at t) element.Post
+element-flag-in-requires t c κs = search (needs, element-ways)
+
+element-unlike-requires : (t : ℕ) → element-lts.Need-unlike-requires (
+  word-reads.Asked,
+  word-reads.Learnt,
+  flag-in-reads.Asked,
+  flag-in-reads.Learnt,
+  unlike-reads.Asked,
+  unlike-reads.Learnt,
+  held-reads.Asked,
+  held-reads.Learnt,
+  inside-below t,
+  inside.Post,
+  close-reads.Asked,
+  close-reads.Learnt,
+) (element-at t) element.Post
+element-unlike-requires t c κs = search (needs, element-ways)
+
+element-returns : (t : ℕ) → element-lts.Need-returns (
+  word-reads.Asked,
+  word-reads.Learnt,
+  flag-in-reads.Asked,
+  flag-in-reads.Learnt,
+  unlike-reads.Asked,
+  unlike-reads.Learnt,
+  held-reads.Asked,
+  held-reads.Learnt,
+  inside-below t,
+  inside.Post,
+  close-reads.Asked,
+  close-reads.Learnt,
+) (element-at t) element.Post
+element-returns t c = search (needs, element-ways)
+
+element-held-requires : (t : ℕ) → element-lts.Need-held-requires (
+  word-reads.Asked,
+  word-reads.Learnt,
+  flag-in-reads.Asked,
+  flag-in-reads.Learnt,
+  unlike-reads.Asked,
+  unlike-reads.Learnt,
+  held-reads.Asked,
+  held-reads.Learnt,
+  inside-below t,
+  inside.Post,
+  close-reads.Asked,
+  close-reads.Learnt,
+) (element-at t) element.Post
+element-held-requires t c κs = search (needs, element-ways)
+
+element-returns-2 : (t : ℕ) → element-lts.Need-returns-2 (
+  word-reads.Asked,
+  word-reads.Learnt,
+  flag-in-reads.Asked,
+  flag-in-reads.Learnt,
+  unlike-reads.Asked,
+  unlike-reads.Learnt,
+  held-reads.Asked,
+  held-reads.Learnt,
+  inside-below t,
+  inside.Post,
+  close-reads.Asked,
+  close-reads.Learnt,
+) (element-at t) element.Post
+element-returns-2 t c = search (element-unheld, c .before .before .before .before .before .before .before .before .before .pre .1 .0, c .before .before .before .before .before .word .ensures, c .before .before .before .before .flag-in .ensures, c .before .before .before .unlike .ensures, c .before .before .if1 .left, c .before .held .ensures, c .if2 .taken)
+
+element-add-t18 : (t : ℕ) → element-lts.Need-add-t18 (
+  word-reads.Asked,
+  word-reads.Learnt,
+  flag-in-reads.Asked,
+  flag-in-reads.Learnt,
+  unlike-reads.Asked,
+  unlike-reads.Learnt,
+  held-reads.Asked,
+  held-reads.Learnt,
+  inside-below t,
+  inside.Post,
+  close-reads.Asked,
+  close-reads.Learnt,
+) (element-at t) element.Post
+element-add-t18 t c = search (needs, element-ways)
+
+element-inside-requires : (t : ℕ) → element-lts.Need-inside-requires (
+  word-reads.Asked,
+  word-reads.Learnt,
+  flag-in-reads.Asked,
+  flag-in-reads.Learnt,
+  unlike-reads.Asked,
+  unlike-reads.Learnt,
+  held-reads.Asked,
+  held-reads.Learnt,
+  inside-below t,
+  inside.Post,
+  close-reads.Asked,
+  close-reads.Learnt,
+) (element-at t) element.Post
+element-inside-requires t c κs = search (needs, element-ways)
+
+element-enum-known-r : (t : ℕ) → element-lts.Need-enum-known-r (
+  word-reads.Asked,
+  word-reads.Learnt,
+  flag-in-reads.Asked,
+  flag-in-reads.Learnt,
+  unlike-reads.Asked,
+  unlike-reads.Learnt,
+  held-reads.Asked,
+  held-reads.Learnt,
+  inside-below t,
+  inside.Post,
+  close-reads.Asked,
+  close-reads.Learnt,
+) (element-at t) element.Post
+element-enum-known-r t c = search needs
+
+element-enum-told : (t : ℕ) → element-lts.Need-enum-told (
+  word-reads.Asked,
+  word-reads.Learnt,
+  flag-in-reads.Asked,
+  flag-in-reads.Learnt,
+  unlike-reads.Asked,
+  unlike-reads.Learnt,
+  held-reads.Asked,
+  held-reads.Learnt,
+  inside-below t,
+  inside.Post,
+  close-reads.Asked,
+  close-reads.Learnt,
+) (element-at t) element.Post
+element-enum-told t c = search needs
+
+element-returns-3 : (t : ℕ) → element-lts.Need-returns-3 (
+  word-reads.Asked,
+  word-reads.Learnt,
+  flag-in-reads.Asked,
+  flag-in-reads.Learnt,
+  unlike-reads.Asked,
+  unlike-reads.Learnt,
+  held-reads.Asked,
+  held-reads.Learnt,
+  inside-below t,
+  inside.Post,
+  close-reads.Asked,
+  close-reads.Learnt,
+) (element-at t) element.Post
+element-returns-3 t c = search (element-stop, c .before .before .before .before .before .before .before .before .before .before .before .before .before .pre .1 .0, c .before .before .before .before .before .before .before .before .before .word .ensures, c .before .before .before .before .before .before .before .before .flag-in .ensures, c .before .before .before .before .before .before .before .unlike .ensures, c .before .before .before .before .before .before .if1 .left, c .before .before .before .before .before .held .ensures, c .before .before .before .before .if2 .left, c .before .before .inside .ensures, c .enum-told .given .1)
+
+element-close-requires : (t : ℕ) → element-lts.Need-close-requires (
+  word-reads.Asked,
+  word-reads.Learnt,
+  flag-in-reads.Asked,
+  flag-in-reads.Learnt,
+  unlike-reads.Asked,
+  unlike-reads.Learnt,
+  held-reads.Asked,
+  held-reads.Learnt,
+  inside-below t,
+  inside.Post,
+  close-reads.Asked,
+  close-reads.Learnt,
+) (element-at t) element.Post
+element-close-requires t c κs = (search (element-kept, c .before .before .before .before .inside .ensures, c .before .before .r .given .1, c .before .before .before .before .before .before .before .before .before .before .before .before .before .before .before .pre .1 .0), search (element-sealing, c .before .before .before .before .inside .ensures, c .before .before .r .given .1))
+
+element-returns-4 : (t : ℕ) → element-lts.Need-returns-4 (
+  word-reads.Asked,
+  word-reads.Learnt,
+  flag-in-reads.Asked,
+  flag-in-reads.Learnt,
+  unlike-reads.Asked,
+  unlike-reads.Learnt,
+  held-reads.Asked,
+  held-reads.Learnt,
+  inside-below t,
+  inside.Post,
+  close-reads.Asked,
+  close-reads.Learnt,
+) (element-at t) element.Post
+element-returns-4 t c = search (element-go, c .before .before .before .before .before .before .before .before .before .before .before .before .before .before .before .before .pre .1 .0, c .before .before .before .before .before .before .before .before .before .before .before .before .word .ensures, c .before .before .before .before .before .before .before .before .before .before .before .flag-in .ensures, c .before .before .before .before .before .before .before .before .before .before .unlike .ensures, c .before .before .before .before .before .before .before .before .before .if1 .left, c .before .before .before .before .before .before .before .before .held .ensures, c .before .before .before .before .before .before .before .if2 .left, c .before .before .before .before .before .inside .ensures, c .before .before .before .r .given .1, c .close .ensures)
+
+inside-span-requires : (t : ℕ) → inside-lts.Need-span-requires (
+  span-reads.Asked,
+  span-reads.Learnt,
+  all-reads.Asked,
+  all-reads.Learnt,
+  content-below t,
+  content.Post,
+) (inside-at t) inside.Post
+inside-span-requires t c κs = search (needs, inside-ways)
+
+inside-all-requires : (t : ℕ) → inside-lts.Need-all-requires (
+  span-reads.Asked,
+  span-reads.Learnt,
+  all-reads.Asked,
+  all-reads.Learnt,
+  content-below t,
+  content.Post,
+) (inside-at t) inside.Post
+inside-all-requires t c κs = search (needs, inside-ways)
+
+inside-enum-known-r : (t : ℕ) → inside-lts.Need-enum-known-r (
+  span-reads.Asked,
+  span-reads.Learnt,
+  all-reads.Asked,
+  all-reads.Learnt,
+  content-below t,
+  content.Post,
+) (inside-at t) inside.Post
+inside-enum-known-r t c = search needs
+
+inside-enum-told : (t : ℕ) → inside-lts.Need-enum-told (
+  span-reads.Asked,
+  span-reads.Learnt,
+  all-reads.Asked,
+  all-reads.Learnt,
+  content-below t,
+  content.Post,
+) (inside-at t) inside.Post
+inside-enum-told t c = search needs
+
+inside-returns : (t : ℕ) → inside-lts.Need-returns (
+  span-reads.Asked,
+  span-reads.Learnt,
+  all-reads.Asked,
+  all-reads.Learnt,
+  content-below t,
+  content.Post,
+) (inside-at t) inside.Post
+inside-returns t c = search (needs, inside-ways)
+
+inside-content-requires : (t : ℕ) → inside-lts.Need-content-requires (
+  span-reads.Asked,
+  span-reads.Learnt,
+  all-reads.Asked,
+  all-reads.Learnt,
+  content-below t,
+  content.Post,
+) (inside-at t) inside.Post
+inside-content-requires t c κs = search (needs, inside-ways)
+
+inside-returns-2 : (t : ℕ) → inside-lts.Need-returns-2 (
+  span-reads.Asked,
+  span-reads.Learnt,
+  all-reads.Asked,
+  all-reads.Learnt,
+  content-below t,
+  content.Post,
+) (inside-at t) inside.Post
+inside-returns-2 t c = search (needs, inside-ways)
+
+occur-mul-word : (t : ℕ) → occur-lts.Need-mul-word (
+  word-reads.Asked,
+  word-reads.Learnt,
+  count-reads.Asked,
+  count-reads.Learnt,
+  rounds-below t,
+  rounds.Post,
+) (occur-at t) occur.Post
+occur-mul-word t c = search (needs, occur-ways)
+
+occur-add-word : (t : ℕ) → occur-lts.Need-add-word (
+  word-reads.Asked,
+  word-reads.Learnt,
+  count-reads.Asked,
+  count-reads.Learnt,
+  rounds-below t,
+  rounds.Post,
+) (occur-at t) occur.Post
+occur-add-word t c = search (needs, occur-ways)
+
+occur-word-requires : (t : ℕ) → occur-lts.Need-word-requires (
+  word-reads.Asked,
+  word-reads.Learnt,
+  count-reads.Asked,
+  count-reads.Learnt,
+  rounds-below t,
+  rounds.Post,
+) (occur-at t) occur.Post
+occur-word-requires t c κs = search (needs, occur-ways)
+
+occur-count-requires : (t : ℕ) → occur-lts.Need-count-requires (
+  word-reads.Asked,
+  word-reads.Learnt,
+  count-reads.Asked,
+  count-reads.Learnt,
+  rounds-below t,
+  rounds.Post,
+) (occur-at t) occur.Post
+occur-count-requires t c κs = search (needs, occur-ways)
+
+occur-enum-known-r : (t : ℕ) → occur-lts.Need-enum-known-r (
+  word-reads.Asked,
+  word-reads.Learnt,
+  count-reads.Asked,
+  count-reads.Learnt,
+  rounds-below t,
+  rounds.Post,
+) (occur-at t) occur.Post
+occur-enum-known-r t c = search needs
+
+occur-enum-told : (t : ℕ) → occur-lts.Need-enum-told (
+  word-reads.Asked,
+  word-reads.Learnt,
+  count-reads.Asked,
+  count-reads.Learnt,
+  rounds-below t,
+  rounds.Post,
+) (occur-at t) occur.Post
+occur-enum-told t c = search needs
+
+occur-returns : (t : ℕ) → occur-lts.Need-returns (
+  word-reads.Asked,
+  word-reads.Learnt,
+  count-reads.Asked,
+  count-reads.Learnt,
+  rounds-below t,
+  rounds.Post,
+) (occur-at t) occur.Post
+occur-returns t c = search (needs, occur-ways)
+
+occur-rounds-requires : (t : ℕ) → occur-lts.Need-rounds-requires (
+  word-reads.Asked,
+  word-reads.Learnt,
+  count-reads.Asked,
+  count-reads.Learnt,
+  rounds-below t,
+  rounds.Post,
+) (occur-at t) occur.Post
+occur-rounds-requires t c κs = search (needs, occur-ways)
+
+occur-returns-2 : (t : ℕ) → occur-lts.Need-returns-2 (
+  word-reads.Asked,
+  word-reads.Learnt,
+  count-reads.Asked,
+  count-reads.Learnt,
+  rounds-below t,
+  rounds.Post,
+) (occur-at t) occur.Post
+occur-returns-2 t c = search (needs, occur-ways)
+
+particle-too-deep-requires : (t : ℕ) → particle-lts.Need-too-deep-requires (
+  too-deep-reads.Asked,
+  too-deep-reads.Learnt,
+  particle-reads.Asked,
+  particle-reads.Learnt,
+  element-below t,
+  element.Post,
+  rounds-below t,
+  rounds.Post,
+  choose-below t,
+  choose.Post,
+  occur-below t,
+  occur.Post,
+) (particle-at t) particle.Post
+particle-too-deep-requires t c κs = search (needs, particle-ways)
+
+particle-returns : (t : ℕ) → particle-lts.Need-returns (
+  too-deep-reads.Asked,
+  too-deep-reads.Learnt,
+  particle-reads.Asked,
+  particle-reads.Learnt,
+  element-below t,
+  element.Post,
+  rounds-below t,
+  rounds.Post,
+  choose-below t,
+  choose.Post,
+  occur-below t,
+  occur.Post,
+) (particle-at t) particle.Post
+particle-returns t c = search (needs, particle-ways)
+
+particle-sub-d : (t : ℕ) → particle-lts.Need-sub-d (
+  too-deep-reads.Asked,
+  too-deep-reads.Learnt,
+  particle-reads.Asked,
+  particle-reads.Learnt,
+  element-below t,
+  element.Post,
+  rounds-below t,
+  rounds.Post,
+  choose-below t,
+  choose.Post,
+  occur-below t,
+  occur.Post,
+) (particle-at t) particle.Post
+particle-sub-d t c = search (needs, particle-ways)
+
+particle-particle-requires : (t : ℕ) → particle-lts.Need-particle-requires (
+  too-deep-reads.Asked,
+  too-deep-reads.Learnt,
+  particle-reads.Asked,
+  particle-reads.Learnt,
+  element-below t,
+  element.Post,
+  rounds-below t,
+  rounds.Post,
+  choose-below t,
+  choose.Post,
+  occur-below t,
+  occur.Post,
+) (particle-at t) particle.Post
+particle-particle-requires t c κs = search (needs, particle-ways)
+
+particle-enum-known-name : (t : ℕ) → particle-lts.Need-enum-known-name (
+  too-deep-reads.Asked,
+  too-deep-reads.Learnt,
+  particle-reads.Asked,
+  particle-reads.Learnt,
+  element-below t,
+  element.Post,
+  rounds-below t,
+  rounds.Post,
+  choose-below t,
+  choose.Post,
+  occur-below t,
+  occur.Post,
+) (particle-at t) particle.Post
+particle-enum-known-name t c = search needs
+
+particle-element-requires : (t : ℕ) → particle-lts.Need-element-requires (
+  too-deep-reads.Asked,
+  too-deep-reads.Learnt,
+  particle-reads.Asked,
+  particle-reads.Learnt,
+  element-below t,
+  element.Post,
+  rounds-below t,
+  rounds.Post,
+  choose-below t,
+  choose.Post,
+  occur-below t,
+  occur.Post,
+) (particle-at t) particle.Post
+particle-element-requires t c κs = (omega arith, (c .before .before .before .before .before .before .before .before .before .pre .1 .0, c .before .before .before .before .before .before .before .before .before .pre .1 .1, search (row-type, c .before .before .before .before .particle .ensures, c .before .before .before .before .before .before .before .before .before .pre .1 .1, c .before .before .before .before .before .before .before .before .before .pre .1 .2, c .before .before .name .given .1), omega arith))
+
+particle-enum-known-first : (t : ℕ) → particle-lts.Need-enum-known-first (
+  too-deep-reads.Asked,
+  too-deep-reads.Learnt,
+  particle-reads.Asked,
+  particle-reads.Learnt,
+  element-below t,
+  element.Post,
+  rounds-below t,
+  rounds.Post,
+  choose-below t,
+  choose.Post,
+  occur-below t,
+  occur.Post,
+) (particle-at t) particle.Post
+particle-enum-known-first t c = search needs
+
+particle-rounds-requires : (t : ℕ) → particle-lts.Need-rounds-requires (
+  too-deep-reads.Asked,
+  too-deep-reads.Learnt,
+  particle-reads.Asked,
+  particle-reads.Learnt,
+  element-below t,
+  element.Post,
+  rounds-below t,
+  rounds.Post,
+  choose-below t,
+  choose.Post,
+  occur-below t,
+  occur.Post,
+) (particle-at t) particle.Post
+particle-rounds-requires t c κs = (omega arith, (c .before .before .before .before .before .before .before .before .before .pre .1 .0, c .before .before .before .before .before .before .before .before .before .pre .1 .1, search (row-sequence, c .before .before .before .before .particle .ensures, c .before .before .before .before .before .before .before .before .before .pre .1 .1, c .before .before .before .before .before .before .before .before .before .pre .1 .2, c .before .before .first .given .1), omega arith))
+
+particle-enum-known-first-2 : (t : ℕ) → particle-lts.Need-enum-known-first-2 (
+  too-deep-reads.Asked,
+  too-deep-reads.Learnt,
+  particle-reads.Asked,
+  particle-reads.Learnt,
+  element-below t,
+  element.Post,
+  rounds-below t,
+  rounds.Post,
+  choose-below t,
+  choose.Post,
+  occur-below t,
+  occur.Post,
+) (particle-at t) particle.Post
+particle-enum-known-first-2 t c = search needs
+
+particle-choose-requires : (t : ℕ) → particle-lts.Need-choose-requires (
+  too-deep-reads.Asked,
+  too-deep-reads.Learnt,
+  particle-reads.Asked,
+  particle-reads.Learnt,
+  element-below t,
+  element.Post,
+  rounds-below t,
+  rounds.Post,
+  choose-below t,
+  choose.Post,
+  occur-below t,
+  occur.Post,
+) (particle-at t) particle.Post
+particle-choose-requires t c κs = (omega arith, (c .before .before .before .before .before .before .before .before .before .pre .1 .0, c .before .before .before .before .before .before .before .before .before .pre .1 .1, search (row-choice, c .before .before .before .before .particle .ensures, c .before .before .before .before .before .before .before .before .before .pre .1 .1, c .before .before .before .before .before .before .before .before .before .pre .1 .2, c .before .before .first2 .given .1), omega arith))
+
+particle-enum-known-child : (t : ℕ) → particle-lts.Need-enum-known-child (
+  too-deep-reads.Asked,
+  too-deep-reads.Learnt,
+  particle-reads.Asked,
+  particle-reads.Learnt,
+  element-below t,
+  element.Post,
+  rounds-below t,
+  rounds.Post,
+  choose-below t,
+  choose.Post,
+  occur-below t,
+  occur.Post,
+) (particle-at t) particle.Post
+particle-enum-known-child t c = search needs
+
+particle-occur-requires : (t : ℕ) → particle-lts.Need-occur-requires (
+  too-deep-reads.Asked,
+  too-deep-reads.Learnt,
+  particle-reads.Asked,
+  particle-reads.Learnt,
+  element-below t,
+  element.Post,
+  rounds-below t,
+  rounds.Post,
+  choose-below t,
+  choose.Post,
+  occur-below t,
+  occur.Post,
+) (particle-at t) particle.Post
+particle-occur-requires t c κs = (omega arith, (c .before .before .before .before .before .before .before .before .before .pre .1 .0, c .before .before .before .before .before .before .before .before .before .pre .1 .1, search (row-child, c .before .before .before .before .particle .ensures, c .before .before .before .before .before .before .before .before .before .pre .1 .1, c .before .before .before .before .before .before .before .before .before .pre .1 .2, c .before .before .child .given .1), omega arith))
+
+particle-returns-2 : (t : ℕ) → particle-lts.Need-returns-2 (
+  too-deep-reads.Asked,
+  too-deep-reads.Learnt,
+  particle-reads.Asked,
+  particle-reads.Learnt,
+  element-below t,
+  element.Post,
+  rounds-below t,
+  rounds.Post,
+  choose-below t,
+  choose.Post,
+  occur-below t,
+  occur.Post,
+) (particle-at t) particle.Post
+particle-returns-2 t c = search (needs, particle-ways)
+
+particle-returns-3 : (t : ℕ) → particle-lts.Need-returns-3 (
+  too-deep-reads.Asked,
+  too-deep-reads.Learnt,
+  particle-reads.Asked,
+  particle-reads.Learnt,
+  element-below t,
+  element.Post,
+  rounds-below t,
+  rounds.Post,
+  choose-below t,
+  choose.Post,
+  occur-below t,
+  occur.Post,
+) (particle-at t) particle.Post
+particle-returns-3 t c = search (needs, particle-ways)
+
+particle-returns-4 : (t : ℕ) → particle-lts.Need-returns-4 (
+  too-deep-reads.Asked,
+  too-deep-reads.Learnt,
+  particle-reads.Asked,
+  particle-reads.Learnt,
+  element-below t,
+  element.Post,
+  rounds-below t,
+  rounds.Post,
+  choose-below t,
+  choose.Post,
+  occur-below t,
+  occur.Post,
+) (particle-at t) particle.Post
+particle-returns-4 t c = search (needs, particle-ways)
+
+particle-returns-5 : (t : ℕ) → particle-lts.Need-returns-5 (
+  too-deep-reads.Asked,
+  too-deep-reads.Learnt,
+  particle-reads.Asked,
+  particle-reads.Learnt,
+  element-below t,
+  element.Post,
+  rounds-below t,
+  rounds.Post,
+  choose-below t,
+  choose.Post,
+  occur-below t,
+  occur.Post,
+) (particle-at t) particle.Post
+particle-returns-5 t c = search (needs, particle-ways)
+
+abbrev rounds-Inv-loop : rounds-lts.InvT-loop
+rounds-Inv-loop table events texts notes₀ mode first step n depth at₀ i₀ j₀ notes at i j =
+    (j ≤ n) × (Ready events texts notes at) × (i ≡ first + step * j) × Leads events texts (rounds· table mode depth n first step (eventsAt events (at₀ .event)) (textsAt texts (at₀ .used))) at₀ notes₀ (leftR events texts table mode depth n step j i at) at notes
+
+abbrev rounds-μ-loop : rounds-lts.MeasureT-loop
+rounds-μ-loop table events texts notes₀ mode first step n depth at₀ i₀ j₀ notes at i j = n - j
+
+rounds-loop-holds :
+    (t : ℕ) →
+    rounds-lts.Need-loop-holds
+    (particle-below t, particle.Post)
+    (rounds-at t)
+    rounds.Post
+    rounds-Inv-loop
+    rounds-μ-loop
+rounds-loop-holds t c = search (needs, rounds-ways)
+
+rounds-particle-requires : (t : ℕ) → rounds-lts.Need-particle-requires (
+  particle-below t,
+  particle.Post,
+) (rounds-at t) rounds.Post rounds-Inv-loop rounds-μ-loop
+rounds-particle-requires t c κs = search (needs, rounds-ways)
+
+rounds-enum-known-r :
+    (t : ℕ) →
+    rounds-lts.Need-enum-known-r
+    (particle-below t, particle.Post)
+    (rounds-at t)
+    rounds.Post
+    rounds-Inv-loop
+    rounds-μ-loop
+rounds-enum-known-r t c = search needs
+
+rounds-enum-told :
+    (t : ℕ) →
+    rounds-lts.Need-enum-told
+    (particle-below t, particle.Post)
+    (rounds-at t)
+    rounds.Post
+    rounds-Inv-loop
+    rounds-μ-loop
+rounds-enum-told t c = search needs
+
+rounds-returns :
+    (t : ℕ) →
+    rounds-lts.Need-returns
+    (particle-below t, particle.Post)
+    (rounds-at t)
+    rounds.Post
+    rounds-Inv-loop
+    rounds-μ-loop
+rounds-returns t c = search (needs, rounds-ways)
+
+rounds-add-i :
+    (t : ℕ) →
+    rounds-lts.Need-add-i
+    (particle-below t, particle.Post)
+    (rounds-at t)
+    rounds.Post
+    rounds-Inv-loop
+    rounds-μ-loop
+rounds-add-i t c = search (needs, rounds-ways)
+
+rounds-add-j :
+    (t : ℕ) →
+    rounds-lts.Need-add-j
+    (particle-below t, particle.Post)
+    (rounds-at t)
+    rounds.Post
+    rounds-Inv-loop
+    rounds-μ-loop
+rounds-add-j t c = search (needs, rounds-ways)
+
+rounds-loop-less :
+    (t : ℕ) →
+    rounds-lts.Need-loop-less
+    (particle-below t, particle.Post)
+    (rounds-at t)
+    rounds.Post
+    rounds-Inv-loop
+    rounds-μ-loop
+rounds-loop-less t c = search (needs, rounds-ways)
+
+rounds-loop-again :
+    (t : ℕ) →
+    rounds-lts.Need-loop-again
+    (particle-below t, particle.Post)
+    (rounds-at t)
+    rounds.Post
+    rounds-Inv-loop
+    rounds-μ-loop
+rounds-loop-again t c = search (needs, rounds-ways)
+
+rounds-returns-2 :
+    (t : ℕ) →
+    rounds-lts.Need-returns-2
+    (particle-below t, particle.Post)
+    (rounds-at t)
+    rounds.Post
+    rounds-Inv-loop
+    rounds-μ-loop
+rounds-returns-2 t c = search (needs, rounds-ways)
+
+pub +choose+content+element+inside+occur+particle+rounds-spec : {M : Type 1} → statement M
++choose+content+element+inside+occur+particle+rounds-spec =
+    close μ-choose μ-content μ-element μ-inside μ-occur μ-particle μ-rounds (λ t. choose-lts.spec (
+      word-reads.Asked,
+      word-reads.Learnt,
+      pick-reads.Asked,
+      pick-reads.Learnt,
+      particle-below t,
+      particle.Post,
+    )
+    (choose-at t)
+    choose.Post
+    (choose-mul-word t)
+    (choose-add-word t)
+    (choose-word-requires t)
+    (choose-pick-requires t)
+    (choose-enum-known-r t)
+    (choose-enum-told t)
+    (choose-returns t)
+    (choose-add-particle t)
+    (choose-particle-requires t)
+    (choose-returns-2 t))
+    (λ t. content-lts.spec (
+      content-reads.Asked,
+      content-reads.Learnt,
+      value-reads.Asked,
+      value-reads.Learnt,
+      particle-below t,
+      particle.Post,
+    )
+    (content-at t)
+    content.Post
+    (content-content-requires t)
+    (content-enum-told t)
+    (content-enum-known-k t)
+    (content-value-requires t)
+    (content-enum-known-i t)
+    (content-particle-requires t)
+    (content-returns t)
+    (content-returns-2 t)
+    (content-returns-3 t))
+    (λ t. element-lts.spec (
+      word-reads.Asked,
+      word-reads.Learnt,
+      flag-in-reads.Asked,
+      flag-in-reads.Learnt,
+      unlike-reads.Asked,
+      unlike-reads.Learnt,
+      held-reads.Asked,
+      held-reads.Learnt,
+      inside-below t,
+      inside.Post,
+      close-reads.Asked,
+      close-reads.Learnt,
+    )
+    (element-at t)
+    element.Post
+    (element-mul-word t)
+    (element-add-word t)
+    (element-word-requires t)
+    (element-flag-in-requires t)
+    (element-unlike-requires t)
+    (element-returns t)
+    (element-held-requires t)
+    (element-returns-2 t)
+    (element-add-t18 t)
+    (element-inside-requires t)
+    (element-enum-known-r t)
+    (element-enum-told t)
+    (element-returns-3 t)
+    (element-close-requires t)
+    (element-returns-4 t))
+    (λ t. inside-lts.spec (
+      span-reads.Asked,
+      span-reads.Learnt,
+      all-reads.Asked,
+      all-reads.Learnt,
+      content-below t,
+      content.Post,
+    )
+    (inside-at t)
+    inside.Post
+    (inside-span-requires t)
+    (inside-all-requires t)
+    (inside-enum-known-r t)
+    (inside-enum-told t)
+    (inside-returns t)
+    (inside-content-requires t)
+    (inside-returns-2 t))
+    (λ t. occur-lts.spec (
+      word-reads.Asked,
+      word-reads.Learnt,
+      count-reads.Asked,
+      count-reads.Learnt,
+      rounds-below t,
+      rounds.Post,
+    )
+    (occur-at t)
+    occur.Post
+    (occur-mul-word t)
+    (occur-add-word t)
+    (occur-word-requires t)
+    (occur-count-requires t)
+    (occur-enum-known-r t)
+    (occur-enum-told t)
+    (occur-returns t)
+    (occur-rounds-requires t)
+    (occur-returns-2 t))
+    (λ t. particle-lts.spec (
+      too-deep-reads.Asked,
+      too-deep-reads.Learnt,
+      particle-reads.Asked,
+      particle-reads.Learnt,
+      element-below t,
+      element.Post,
+      rounds-below t,
+      rounds.Post,
+      choose-below t,
+      choose.Post,
+      occur-below t,
+      occur.Post,
+    )
+    (particle-at t)
+    particle.Post
+    (particle-too-deep-requires t)
+    (particle-returns t)
+    (particle-sub-d t)
+    (particle-particle-requires t)
+    (particle-enum-known-name t)
+    (particle-element-requires t)
+    (particle-enum-known-first t)
+    (particle-rounds-requires t)
+    (particle-enum-known-first-2 t)
+    (particle-choose-requires t)
+    (particle-enum-known-child t)
+    (particle-occur-requires t)
+    (particle-returns-2 t)
+    (particle-returns-3 t)
+    (particle-returns-4 t)
+    (particle-returns-5 t))
+    λ t. rounds-lts.spec
+    (particle-below t, particle.Post)
+    (rounds-at t)
+    rounds.Post
+    rounds-Inv-loop
+    rounds-μ-loop
+    (rounds-loop-holds t)
+    (rounds-particle-requires t)
+    (rounds-enum-known-r t)
+    (rounds-enum-told t)
+    (rounds-returns t)
+    (rounds-add-i t)
+    (rounds-add-j t)
+    (rounds-loop-less t)
+    (rounds-loop-again t)
+    (rounds-returns-2 t)

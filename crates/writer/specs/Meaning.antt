@@ -1,0 +1,72 @@
+-- One meaning for each function of the walk, by the table's words and the mode as the code has them.
+use Prim.Native.Nat.{ℕ, zero, suc, _+_, _*_, _<_}
+use mathlib.Core.Path.{_≡_}
+use mathlib.Core.Bool.{Bool, true, false, cond}
+use mathlib.Core.List.{List, [], _∷_}
+use lib.Dec.{ltb}
+use Rattle.table.specs.First.Verdict.{right}
+use Rattle.table.specs.Valid.{verdict}
+use Rattle.table.specs.Words.{particlesIn}
+use Rattle.table.specs.Rows.{Attribute, tableOf, heldOf}
+use Rattle.model.specs.Model.Item.{required, optional, valued, picked, counted}
+use Rattle.model.specs.Write.{Bare, Out, wrote, along, flagIn, elementOut}
+use Rattle.model.specs.WriteSteps.{itemThen, particleOut, roundsOut, contentOut, insideOut}
+use Rattle.notes.specs.declared.Step.{Step}
+use Rattle.notes.specs.declared.Step.the-variants.{Refuse}
+use Rattle.notes.specs.Notes.{modeIs}
+use Rattle.notes.specs.Walk.{eventsIn, alone}
+
+-- the value of an attribute that is there, or nothing
+unfoldable pub present : ℕ → (kind b c : ℕ) → List Bare → List ℕ → Out
+present zero k b c N U = wrote [] N U
+present (suc v) k b c N U = alone (valued k b c) N U
+
+unfoldable pub required· : (name kind b c : ℕ) → List Bare → List ℕ → Out
+required· name k b c M X = itemThen (required name) M X (λ v N U. alone (valued k b c) N U)
+
+unfoldable pub optional· : (name kind b c : ℕ) → List Bare → List ℕ → Out
+optional· name k b c M X = itemThen (optional name) M X (λ v N U. present v k b c N U)
+
+unfoldable pub attribute· : Attribute → List Bare → List ℕ → Out
+attribute· a M X = cond (a .must) (required· (a .name) (a .kind) (a .b) (a .c) M X) (optional· (a .name) (a .kind) (a .b) (a .c) M X)
+
+unfoldable pub attributes· : List Attribute → List Bare → List ℕ → Out
+attributes· [] M X = wrote [] M X
+attributes· (a ∷ l) M X = along (attribute· a M X) (λ N U. attributes· l N U)
+
+-- a table without fault; rows within it
+pub record Right (t : List ℕ) : Type 0 where
+  pub is : verdict t ≡ right
+
+pub record Within (t : List ℕ) (first step n : ℕ) : Type 0 where
+  pub each : (j : ℕ) → j < n → first + step * j < particlesIn t
+  pub short : step < 2
+
+unfoldable pub flagFor : ℕ → ℕ → ℕ
+flagFor mode q = flagIn (modeIs mode) q
+
+-- 6, or 18 where no event is left
+unfoldable pub deepAt : List ℕ → ℕ → Step
+deepAt L i = cond (ltb i (eventsIn L)) (Refuse 6 i) (Refuse 18 i)
+
+module _ (t : List ℕ) (mode d : ℕ) where
+  unfoldable pub particle· : ℕ → List Bare → List ℕ → Out
+  particle· i M X = particleOut (modeIs mode) (heldOf t) (tableOf t) d (tableOf t .row i) M X
+
+  unfoldable pub inside· : ℕ → List Bare → List ℕ → Out
+  inside· kind M X = insideOut (modeIs mode) (heldOf t) (tableOf t) d kind M X
+
+  unfoldable pub content· : ℕ → List Bare → List ℕ → Out
+  content· kind M X = contentOut (modeIs mode) (heldOf t) (tableOf t) d (tableOf t .content kind) M X
+
+  unfoldable pub element· : (name kind : ℕ) → List Bare → List ℕ → Out
+  element· name kind M X = elementOut (modeIs mode) (heldOf t) (λ N U. inside· kind N U) name kind M X
+
+  unfoldable pub choose· : (first count : ℕ) → List Bare → List ℕ → Out
+  choose· first count M X = itemThen (picked count) M X (λ v N U. particle· (first + v) N U)
+
+  unfoldable pub rounds· : (n first step : ℕ) → List Bare → List ℕ → Out
+  rounds· n first step M X = roundsOut (modeIs mode) (heldOf t) (tableOf t) d n (λ a. tableOf t .row (first + step * a)) M X
+
+  unfoldable pub occur· : (child least most : ℕ) → List Bare → List ℕ → Out
+  occur· child least most M X = itemThen (counted least most) M X (λ v N U. rounds· v child 0 N U)

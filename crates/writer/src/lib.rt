@@ -1,0 +1,124 @@
+// The writer: a walk over the list of events that judges each and notes its bits, then the pen.
+mod clear; // clear.rt: the lent payload made zero
+mod front; // front.rt: what is judged before the walk, and after it
+mod ink; // ink.rt: the mode byte and the notes, into the payload
+pub mod simple; // simple.rt: values and attributes
+pub mod walk; // walk.rt: the cycle element, content, particle, rounds
+
+use clear::bytes;
+use front::Fault;
+use front::asked;
+use front::settled;
+use ink::draw;
+use notes::Cursor;
+use notes::Step;
+use walk::element;
+use wire::Bits;
+use wire::Bytes;
+ghost use mathlib.Core.Path.{_≡_};
+ghost use mathlib.Core.List.{[]};
+ghost use Prim.Native.Nat.{_≤_};
+ghost use lib.ListN.{length};
+ghost use Rattle.model.specs.Write.{wrote};
+ghost use Rattle.model.specs.Whole.{declines, roomed, spent, writing};
+ghost use Rattle.notes.specs.Notes.{modeIs};
+ghost use Rattle.notes.specs.Walk.{eventsIn, eventsAt, textsAt, between, Ready};
+ghost use Rattle.writer.specs.Answers.{answerIs, says, Writes, origin};
+ghost use Rattle.writer.specs.Ink.{Zeros};
+
+// The whole answer; no path, as no element is open. On a refusal all but number and place is 0.
+pub struct Answer {
+    pub number: u32,
+    pub place: usize,
+    pub mode: u32,
+    pub events: u32,
+    pub text: Bytes,
+    pub bits: Bits,
+}
+
+fn refused(number: u32, place: usize) -> Answer
+    ensures { λ r. ⌜ answerIs r ≡ declines number place [] ⌝ }
+{
+    Answer {
+        number,
+        place,
+        mode: 0,
+        events: 0,
+        text: Bytes(0),
+        bits: Bits(0),
+    }
+}
+
+fn accepted(mode: u32, events: u32, text: u32, bits: u32) -> Answer
+    ensures { λ r. ⌜ answerIs r ≡ says mode events text bits ⌝ }
+{
+    Answer {
+        number: 0,
+        place: 0,
+        mode,
+        events,
+        text: Bytes(text),
+        bits: Bits(bits),
+    }
+}
+
+// After the walk, which came to c: what is left over, the room, and then the bits into a payload that is zero.
+fn finish(
+    events: &[u32],
+    texts: &[u8],
+    notes: &[u32; 8192],
+    mode: u32,
+    c: Cursor,
+    payload: &mut [u8],
+) -> Answer
+    requires { ⌜ (Ready (now events) (now texts) (now notes) c) × (c .bits ≡ length (between (now texts) (now notes) origin c)) × (Zeros (now payload)) × (mode ≤ 2) ⌝ }
+    ensures { λ r. ⌜ Writes (spent (eventsIn (now (events .entry))) (wrote (between (now (texts .entry)) (now (notes .entry)) origin c) (eventsAt (now (events .entry)) (c .event)) (textsAt (now (texts .entry)) (c .used))) (roomed (length (now (payload .entry))) (modeIs mode))) mode (eventsIn (now (events .entry))) (length (now (texts .entry))) (length (now (payload .entry))) r (now (payload .exit)) ⌝ }
+{
+    let f = settled(events, texts, c, payload.len());
+    if let Fault::At(n, p) = f {
+        return refused(n, p);
+    }
+    let n = c.event;
+    draw(payload, mode, texts, notes, n);
+    accepted(mode, n as u32, c.used as u32, 8 + c.bits)
+}
+
+// THE WRITER: a list of events and texts, into a payload whose root has a name and a type of the table. It asks nothing of what it is given.
+pub fn write(
+    table: &[u32],
+    root_name: u32,
+    root_type: u32,
+    mode: u32,
+    events: &[u32],
+    texts: &[u8],
+    payload: &mut [u8],
+) -> Answer
+    ensures { λ r. ⌜ Writes (writing (now (table .entry)) «root_name» «root_type» mode (now (events .entry)) (now (texts .entry)) (length (now (payload .entry)))) mode (eventsIn (now (events .entry))) (length (now (texts .entry))) (length (now (payload .entry))) r (now (payload .exit)) ⌝ }
+{
+    bytes(payload);
+    let f = asked(table, root_name, root_type, mode, events);
+    if let Fault::At(n, p) = f {
+        return refused(n, p);
+    }
+    let mut notes = [0u32; 8192];
+    let start = Cursor {
+        event: 0,
+        used: 0,
+        bits: 0,
+    };
+    let r = element(
+        table,
+        events,
+        texts,
+        &mut notes,
+        mode,
+        root_name,
+        root_type,
+        63,
+        start,
+    );
+    match r {
+        Step::Refuse(n, p) => refused(n, p),
+        Step::Go(c) => finish(events, texts, &notes, mode, c, payload),
+    }
+}

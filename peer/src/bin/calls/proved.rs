@@ -1,0 +1,139 @@
+//! The C calls of target/staticlib/libhost.a, as include/bim.h declares them.
+//!
+//! SAFETY, of every call below: the archive's functions are proved safe for all arguments of their types, with no
+//! `requires`; a slice passes as its pointer and its length, and no two of them overlap.
+
+use peer::calls::Calls;
+use std::cell::Cell;
+
+extern "C" {
+    fn bim_check_table(table: *const u8, table_len: usize, area: *mut u8, area_len: usize) -> u32;
+    fn bim_read(
+        table: *const u8,
+        table_len: usize,
+        root_name: u32,
+        root_type: u32,
+        payload: *const u8,
+        payload_len: usize,
+        events: *mut u8,
+        events_len: usize,
+        texts: *mut u8,
+        texts_len: usize,
+        area: *mut u8,
+        area_len: usize,
+    ) -> u32;
+}
+
+#[cfg(feature = "host_write")]
+extern "C" {
+    fn bim_write(
+        table: *const u8,
+        table_len: usize,
+        root_name: u32,
+        root_type: u32,
+        mode: u32,
+        events: *const u8,
+        events_len: usize,
+        texts: *const u8,
+        texts_len: usize,
+        payload: *mut u8,
+        payload_len: usize,
+        area: *mut u8,
+        area_len: usize,
+    ) -> u32;
+}
+
+/// The proved library.
+#[derive(Default)]
+pub struct Library {
+    /// Whether the next empty slice passes as a null pointer, as C hosts do; every other one does.
+    null: Cell<bool>,
+}
+
+impl Library {
+    fn given(&self, slice: &[u8]) -> *const u8 {
+        if slice.is_empty() && self.null.replace(!self.null.get()) {
+            return std::ptr::null();
+        }
+        slice.as_ptr()
+    }
+
+    fn lent(&self, slice: &mut [u8]) -> *mut u8 {
+        if slice.is_empty() && self.null.replace(!self.null.get()) {
+            return std::ptr::null_mut();
+        }
+        slice.as_mut_ptr()
+    }
+}
+
+impl Calls for Library {
+    fn check_table(&self, table: &[u8], area: &mut [u8]) -> u32 {
+        unsafe { bim_check_table(self.given(table), table.len(), self.lent(area), area.len()) }
+    }
+
+    fn read(
+        &self,
+        table: &[u8],
+        (name, of_type): (u32, u32),
+        payload: &[u8],
+        events: &mut [u8],
+        texts: &mut [u8],
+        area: &mut [u8],
+    ) -> u32 {
+        unsafe {
+            bim_read(
+                self.given(table),
+                table.len(),
+                name,
+                of_type,
+                self.given(payload),
+                payload.len(),
+                self.lent(events),
+                events.len(),
+                self.lent(texts),
+                texts.len(),
+                self.lent(area),
+                area.len(),
+            )
+        }
+    }
+
+    #[cfg(feature = "host_write")]
+    fn write(
+        &self,
+        table: &[u8],
+        (name, of_type): (u32, u32),
+        mode: u32,
+        events: &[u8],
+        texts: &[u8],
+        payload: &mut [u8],
+        area: &mut [u8],
+    ) -> u32 {
+        unsafe {
+            bim_write(
+                self.given(table),
+                table.len(),
+                name,
+                of_type,
+                mode,
+                self.given(events),
+                events.len(),
+                self.given(texts),
+                texts.len(),
+                self.lent(payload),
+                payload.len(),
+                self.lent(area),
+                area.len(),
+            )
+        }
+    }
+
+    #[cfg(not(feature = "host_write"))]
+    fn write(&self, _: &[u8], _: (u32, u32), _: u32, _: &[u8], _: &[u8], _: &mut [u8], _: &mut [u8]) -> u32 {
+        unreachable!("the writer is not linked")
+    }
+
+    fn writes(&self) -> bool {
+        cfg!(feature = "host_write")
+    }
+}

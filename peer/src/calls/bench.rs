@@ -1,0 +1,218 @@
+//! The bench: every call goes through `ask`, into buffers of junk between guards, and is held against the peer.
+
+use super::case::{Call, Case, Left};
+use super::tally::Tally;
+use super::Calls;
+use crate::demands::Pair;
+use crate::rng::Rng;
+use std::hint::black_box;
+
+/// Bytes on both sides of every buffer.
+const GUARD: usize = 32;
+/// What the peer's own buffers hold before a call; the other's hold seeded junk.
+const DIRT: u8 = 0xdd;
+/// The most tries to make a differing case smaller.
+const TRIES: usize = 100_000;
+
+/// The calls on trial, and what they answered so far.
+pub struct Bench<'a> {
+    calls: &'a dyn Calls,
+    tally: Tally,
+    junk: Rng,
+    part: &'static str,
+    cases: u64,
+    /// The seed of the round at hand.
+    round: u64,
+}
+
+impl<'a> Bench<'a> {
+    /// Nothing asked yet.
+    pub fn new(calls: &'a dyn Calls, seed: u64) -> Self {
+        Bench { calls, tally: Tally::default(), junk: Rng::new(!seed), part: "", cases: 0, round: 0 }
+    }
+
+    /// The cases from here on belong to `part`.
+    pub fn begin_part(&mut self, part: &'static str) {
+        (self.part, self.cases) = (part, 0);
+    }
+
+    /// A round of this seed begins.
+    pub fn begin_round(&mut self, seed: u64) {
+        self.round = seed;
+    }
+
+    /// The cases of this part: its calls, or its pairs.
+    pub fn cases(&self) -> u64 {
+        self.cases
+    }
+
+    /// Asks as a part of a case that is counted by itself.
+    pub fn ask_aside(&mut self, kind: &'static str, case: &Case) -> Left {
+        let left = self.ask(kind, case);
+        self.cases -= 1;
+        left
+    }
+
+    /// The differences found.
+    pub fn differing(&self) -> u64 {
+        self.tally.differing
+    }
+
+    /// Whether there is a writer.
+    pub fn writes(&self) -> bool {
+        self.calls.writes()
+    }
+
+    /// Asks both, counts the case as one of `kind` and keeps a difference. Gives what the calls on trial left.
+    pub fn ask(&mut self, kind: &'static str, case: &Case) -> Left {
+        let (got, touched) = self.lent(case);
+        let expected = on_peer(case);
+        self.cases += 1;
+        self.tally.count(self.part, kind, case.call, expected.number);
+        if got != expected || touched.is_some() {
+            let place = format!("{}, {kind}, round {}: {}", self.part, self.round, case.call.name());
+            self.tally.differ(case, || format!("{place}: {}", difference(case, &got, &expected, touched)));
+        }
+        got
+    }
+
+    /// Keeps a violated property.
+    pub fn hold(&mut self, case: &Case, good: bool, what: impl FnOnce() -> String) {
+        if !good {
+            let place = format!("{}, round {}", self.part, self.round);
+            self.tally.differ(case, || format!("{place}: {}\n{}", what(), case.shown()));
+        }
+    }
+
+    /// Counts a pair of tables, and what it showed if it was judged.
+    pub fn count_pair(&mut self, pair: Option<Pair>) {
+        self.cases += 1;
+        if let Some(pair) = pair {
+            self.tally.count_pair(pair);
+        }
+    }
+
+    /// Asks the calls on trial; tells what they touched outside of what is theirs to write.
+    fn lent(&mut self, case: &Case) -> (Left, Option<String>) {
+        let mut inputs: Vec<_> = case.inputs.iter().map(|bytes| Lent::holding(&mut self.junk, bytes)).collect();
+        let mut outputs: Vec<_> = case.rooms.iter().map(|&room| Lent::of_junk(&mut self.junk, room)).collect();
+        let number = {
+            let inputs: Vec<_> = inputs.iter().map(Lent::lent).collect();
+            let mut outputs: Vec<_> = outputs.iter_mut().map(Lent::lent_mut).collect();
+            case.ask(Some(self.calls), &inputs, &mut outputs)
+        };
+        // Whatever the call did, the buffers are looked at again: the compiler may not count on them.
+        black_box((&mut inputs, &mut outputs));
+        let beside = inputs.iter().chain(&outputs).any(|lent| !lent.guards_stand());
+        let given = inputs.iter().zip(&case.inputs).any(|(lent, bytes)| lent.lent() != bytes);
+        let touched = match (beside, given) {
+            (true, _) => Some("bytes beside a buffer changed".to_string()),
+            (_, true) => Some("an input changed".to_string()),
+            _ => None,
+        };
+        (Left { number, outputs: outputs.iter().map(|lent| lent.lent().to_vec()).collect() }, touched)
+    }
+
+    /// Prints all, the smallest differing case made smaller still; true where all is well.
+    pub fn report(&mut self) -> bool {
+        let mut calls = vec![Call::Check, Call::Read];
+        if self.writes() {
+            calls.push(Call::Write);
+        }
+        let good = self.tally.report(&calls);
+        if let Some(case) = self.tally.smallest.take() {
+            let (case, what) = self.shrink(case);
+            println!("SMALLEST: {what}\n{}", case.shown());
+        }
+        good
+    }
+
+    /// The smallest case that still differs, as far as small steps lead, and the difference.
+    fn shrink(&mut self, mut case: Case) -> (Case, String) {
+        let mut tries = TRIES;
+        loop {
+            let smaller = case.smaller().into_iter().find(|smaller| {
+                tries = tries.saturating_sub(1);
+                tries > 0 && self.differs(smaller).is_some()
+            });
+            match smaller {
+                Some(smaller) => case = smaller,
+                None => break,
+            }
+        }
+        let what = self.differs(&case).unwrap_or("no call by itself; a property of several".to_string());
+        (case, what)
+    }
+
+    fn differs(&mut self, case: &Case) -> Option<String> {
+        let (got, touched) = self.lent(case);
+        let expected = on_peer(case);
+        (got != expected || touched.is_some()).then(|| difference(case, &got, &expected, touched))
+    }
+}
+
+/// What the peer leaves.
+fn on_peer(case: &Case) -> Left {
+    let mut outputs: Vec<_> = case.rooms.iter().map(|&room| vec![DIRT; room]).collect();
+    let inputs: Vec<_> = case.inputs.iter().map(Vec::as_slice).collect();
+    let number = case.ask(None, &inputs, &mut outputs.iter_mut().map(Vec::as_mut_slice).collect::<Vec<_>>());
+    Left { number, outputs }
+}
+
+/// Where two answers part.
+fn difference(case: &Case, got: &Left, expected: &Left, touched: Option<String>) -> String {
+    let mut text = format!("number {}, the peer's {}", got.number, expected.number);
+    for ((name, got), expected) in case.call.output_names().iter().zip(&got.outputs).zip(&expected.outputs) {
+        if let Some(at) = (0..got.len()).find(|&at| got[at] != expected[at]) {
+            text += &format!("; {name} from byte {at} of {}: ", got.len());
+            let end = got.len().min(at + 16);
+            text += &format!("{:02x?}, the peer's {:02x?}", &got[at..end], &expected[at..end]);
+        }
+    }
+    if let Some(touched) = touched {
+        text += &format!("; {touched}");
+    }
+    text
+}
+
+/// A buffer between guards, at any address.
+struct Lent {
+    bytes: Vec<u8>,
+    first: usize,
+    room: usize,
+    /// The guards as they should stay.
+    guards: Vec<u8>,
+}
+
+impl Lent {
+    fn of_junk(junk: &mut Rng, room: usize) -> Self {
+        let first = GUARD + junk.below(8);
+        let whole = first + room + GUARD;
+        let mut bytes = Vec::with_capacity(whole + 8);
+        while bytes.len() < whole {
+            bytes.extend(junk.step().to_ne_bytes());
+        }
+        bytes.truncate(whole);
+        let guards = [&bytes[..first], &bytes[first + room..]].concat();
+        Lent { bytes, first, room, guards }
+    }
+
+    fn holding(junk: &mut Rng, given: &[u8]) -> Self {
+        let mut lent = Lent::of_junk(junk, given.len());
+        lent.lent_mut().copy_from_slice(given);
+        lent
+    }
+
+    fn lent(&self) -> &[u8] {
+        &self.bytes[self.first..self.first + self.room]
+    }
+
+    fn lent_mut(&mut self) -> &mut [u8] {
+        &mut self.bytes[self.first..self.first + self.room]
+    }
+
+    fn guards_stand(&self) -> bool {
+        let (before, after) = self.guards.split_at(self.first);
+        self.bytes[..self.first] == *before && self.bytes[self.first + self.room..] == *after
+    }
+}

@@ -1,0 +1,232 @@
+//! One call's input, and what the peer or another answers.
+
+use super::Calls;
+use crate::answer::{refusal, Answer, Path};
+use crate::demands::Outcome;
+use crate::gen::Sample;
+use crate::host;
+
+/// Which call.
+#[derive(Clone, Copy, Debug, PartialEq, Eq)]
+pub enum Call {
+    /// `bim_check_table`.
+    Check,
+    /// `bim_read`.
+    Read,
+    /// `bim_write`.
+    Write,
+}
+
+impl Call {
+    /// The call's C name.
+    pub fn name(self) -> &'static str {
+        ["bim_check_table", "bim_read", "bim_write"][self as usize]
+    }
+
+    /// The numbers that it can answer.
+    pub fn numbers(self) -> &'static [u32] {
+        match self {
+            Call::Check => &[0, 1, 24],
+            Call::Read => &[0, 1, 2, 3, 4, 5, 6, 7, 8, 9, 10, 11, 12, 13, 14, 15, 16, 17, 24],
+            Call::Write => &[0, 1, 2, 6, 9, 16, 18, 19, 20, 21, 22, 23, 24],
+        }
+    }
+
+    /// What it takes, by name.
+    fn input_names(self) -> &'static [&'static str] {
+        match self {
+            Call::Check => &["table"],
+            Call::Read => &["table", "payload"],
+            Call::Write => &["table", "events", "texts"],
+        }
+    }
+
+    /// What it fills, by name.
+    pub fn output_names(self) -> &'static [&'static str] {
+        match self {
+            Call::Check => &["area"],
+            Call::Read => &["events", "texts", "area"],
+            Call::Write => &["payload", "area"],
+        }
+    }
+}
+
+/// A call's input.
+#[derive(Clone, Debug, PartialEq, Eq)]
+pub struct Case {
+    /// Which call.
+    pub call: Call,
+    /// Root name and type.
+    pub root: (u32, u32),
+    /// The mode to write.
+    pub mode: u32,
+    /// The bytes given, in the call's order.
+    pub inputs: Vec<Vec<u8>>,
+    /// The bytes lent for what is written, in the call's order.
+    pub rooms: Vec<usize>,
+}
+
+/// Where the area is the last room.
+pub const AREA: usize = host::AREA_BYTES;
+
+impl Case {
+    /// A table to check.
+    pub fn check(table: Vec<u8>) -> Self {
+        Case { call: Call::Check, root: (0, 0), mode: 0, inputs: vec![table], rooms: vec![AREA] }
+    }
+
+    /// A payload to read.
+    pub fn read(table: &[u32], root: (u32, u32), payload: Vec<u8>, events: usize, texts: usize) -> Self {
+        let inputs = vec![big_endian(table), payload];
+        Case { call: Call::Read, root, mode: 0, inputs, rooms: vec![events, texts, AREA] }
+    }
+
+    /// A sample's payload to read, with the room that its list takes.
+    pub fn read_sample(table: &[u32], sample: &Sample) -> Self {
+        Case::read(table, sample.root, sample.payload(), 16 * sample.events.len(), sample.texts.len())
+    }
+
+    /// A list to write.
+    pub fn write(table: &[u32], root: (u32, u32), mode: u32, list: Vec<u8>, texts: Vec<u8>, room: usize) -> Self {
+        let inputs = vec![big_endian(table), list, texts];
+        Case { call: Call::Write, root, mode, inputs, rooms: vec![room, AREA] }
+    }
+
+    /// A sample's list to write, with the room that its payload takes.
+    pub fn write_sample(table: &[u32], sample: &Sample) -> Self {
+        let list = big_endian(&sample.events.concat());
+        Case::write(table, sample.root, sample.mode, list, sample.texts.clone(), sample.bits.len().div_ceil(8))
+    }
+
+    /// Asks `calls`, or the peer.
+    pub fn ask(&self, calls: Option<&dyn Calls>, inputs: &[&[u8]], outputs: &mut [&mut [u8]]) -> u32 {
+        let (name, of_type) = self.root;
+        match (self.call, inputs, outputs) {
+            (Call::Check, [table], [area]) => match calls {
+                Some(calls) => calls.check_table(table, area),
+                None => host::check_table(table, area),
+            },
+            (Call::Read, [table, payload], [events, texts, area]) => match calls {
+                Some(calls) => calls.read(table, self.root, payload, events, texts, area),
+                None => host::read(table, name, of_type, payload, events, texts, area),
+            },
+            (Call::Write, [table, events, texts], [payload, area]) => match calls {
+                Some(calls) => calls.write(table, self.root, self.mode, events, texts, payload, area),
+                None => host::write(table, name, of_type, self.mode, events, texts, payload, area),
+            },
+            _ => panic!("{self:?} has not the buffers of its call"),
+        }
+    }
+
+    /// The bytes given and lent, those that are not 0 once more: what shrinking makes smaller.
+    pub fn size(&self) -> usize {
+        let given: usize =
+            self.inputs.iter().map(|bytes| bytes.len() + bytes.iter().filter(|&&byte| byte != 0).count()).sum();
+        given + self.rooms.iter().sum::<usize>()
+    }
+
+    /// Smaller inputs, the much smaller ones first.
+    pub fn smaller(&self) -> Vec<Case> {
+        let mut cases = vec![];
+        let mut add = |change: &dyn Fn(&mut Case)| {
+            let mut case = self.clone();
+            change(&mut case);
+            cases.push(case);
+        };
+        for (index, bytes) in self.inputs.iter().enumerate() {
+            for length in shorter(bytes.len()) {
+                add(&|case| case.inputs[index].truncate(length));
+            }
+        }
+        for (index, &room) in self.rooms.iter().enumerate() {
+            for room in shorter(room) {
+                add(&|case| case.rooms[index] = room);
+            }
+        }
+        for (index, bytes) in self.inputs.iter().enumerate() {
+            for (at, _) in bytes.iter().enumerate().filter(|(_, &byte)| byte != 0) {
+                add(&|case| case.inputs[index][at] = 0);
+            }
+        }
+        cases
+    }
+
+    /// The whole input in hex.
+    pub fn shown(&self) -> String {
+        let mut text = format!("{} root {} {} mode {}", self.call.name(), self.root.0, self.root.1, self.mode);
+        for (name, bytes) in self.call.input_names().iter().zip(&self.inputs) {
+            let hex: String = bytes.iter().map(|byte| format!("{byte:02x}")).collect();
+            text += &format!("\n  {name}, {} bytes: {hex}", bytes.len());
+        }
+        for (name, room) in self.call.output_names().iter().zip(&self.rooms) {
+            text += &format!("\n  room for {name}: {room} bytes");
+        }
+        text
+    }
+}
+
+/// Lengths below `length` worth trying.
+fn shorter(length: usize) -> Vec<usize> {
+    let mut lengths =
+        vec![0, length / 2, length.saturating_sub(16), length.saturating_sub(4), length.saturating_sub(1)];
+    lengths.retain(|&shorter| shorter < length);
+    lengths.dedup();
+    lengths
+}
+
+/// Words as 4 big-endian bytes each.
+pub fn big_endian(words: &[u32]) -> Vec<u8> {
+    words.iter().flat_map(|word| word.to_be_bytes()).collect()
+}
+
+/// What a call left: its number and the buffers that it fills.
+#[derive(Clone, Debug, PartialEq, Eq)]
+pub struct Left {
+    /// 0 on acceptance.
+    pub number: u32,
+    /// The buffers, in the call's order.
+    pub outputs: Vec<Vec<u8>>,
+}
+
+impl Left {
+    /// Whether the call was accepted.
+    pub fn is_accepted(&self) -> bool {
+        self.number == 0
+    }
+
+    /// The word of the area at `index`: place, mode, events, text, bits, path count.
+    pub fn word(&self, index: usize) -> usize {
+        match self.outputs.last().and_then(|area| area.get(4 * index..4 * index + 4)) {
+            Some(&[a, b, c, d]) => u32::from_be_bytes([a, b, c, d]) as usize,
+            _ => 0,
+        }
+    }
+
+    /// The events given, as bytes; `None` where they are more than the buffer has.
+    pub fn events(&self) -> Option<&[u8]> {
+        self.outputs[0].get(..16 * self.word(2))
+    }
+
+    /// The text bytes given; `None` where they are more than the buffer has.
+    pub fn texts(&self) -> Option<&[u8]> {
+        self.outputs[1].get(..self.word(3))
+    }
+
+    /// A reading in words; `None` where its counts cannot be.
+    pub fn reading(&self) -> Option<Outcome> {
+        let area = &self.outputs[2];
+        let (events, texts) = (self.events()?, self.texts()?);
+        let names = area.get(24..24 + 2 * self.word(5))?;
+        let mut path = Path::empty();
+        names.chunks_exact(2).for_each(|name| path.push(u32::from(u16::from_be_bytes([name[0], name[1]]))));
+        let answer = Answer {
+            mode: self.word(1) as u32,
+            events: self.word(2),
+            text: self.word(3),
+            bits: self.word(4),
+            ..Answer::refused(refusal(self.number, self.word(0)), path)
+        };
+        let words = events.chunks_exact(4).map(|word| u32::from_be_bytes([word[0], word[1], word[2], word[3]]));
+        Some(Outcome { answer, events: words.collect(), texts: texts.to_vec() })
+    }
+}

@@ -1,0 +1,204 @@
+//! The comparison of the C calls notices every one of these faults in a stand-in, and none in the peer itself.
+
+use peer::calls::{run, Calls};
+use peer::host;
+use std::hint::black_box;
+
+/// Where a stand-in departs from the peer.
+#[derive(Clone, Copy, Debug, PartialEq, Eq)]
+enum Fault {
+    None,
+    /// The area keeps a byte of what stood there.
+    AreaByteLeft,
+    /// A refused reading leaves its events.
+    EventsLeft,
+    /// Bytes past the last whole event stay.
+    OddBytesLeft,
+    /// Text bytes past those given stay.
+    TextsLeft,
+    /// An area of a wrong size leaves the texts.
+    AreaRefusedTextsLeft,
+    /// An area of 153 bytes is taken.
+    LargerArea,
+    /// A table's odd bytes are dropped.
+    RaggedTable,
+    /// A root name over 16 bits wraps.
+    RootWraps,
+    /// A byte before the events changes.
+    BeforeEvents,
+    /// A byte behind the texts changes.
+    BehindTexts,
+    /// The payload changes.
+    InputTouched,
+    /// The path keeps one name too many.
+    PathLonger,
+    /// A Blank is one bit short.
+    BlankShort,
+    /// Texts of a blanked element are kept.
+    BlankTexts,
+    /// What lies behind the payload is read.
+    ReadsOn,
+    /// A refused writing leaves a byte.
+    PayloadByteLeft,
+    /// The fourth word has to be right.
+    FourthWord,
+    /// A payload of the last byte of room is refused.
+    RoomOneShort,
+    /// 19 where a Blank follows the root's End is 18.
+    LateBlank,
+    /// A list over 2,048 events has its place one off.
+    LongListPlace,
+}
+use Fault::*;
+
+struct StandIn(Fault);
+
+fn blank_in(events: &mut [u8]) -> Option<&mut [u8]> {
+    events.chunks_exact_mut(16).find(|event| event[..4] == [0, 0, 0, 7])
+}
+
+/// Reads where a faulty library would. The bench lends every buffer between guards, so that the byte is there.
+fn byte_at(place: *const u8) -> u8 {
+    unsafe { black_box(place).read_volatile() }
+}
+
+/// Writes where a faulty library would.
+fn flip(place: *mut u8) {
+    let place = black_box(place);
+    unsafe { place.write_volatile(place.read_volatile() ^ 1) }
+}
+
+impl Calls for StandIn {
+    fn check_table(&self, table: &[u8], area: &mut [u8]) -> u32 {
+        let table = if self.0 == RaggedTable { &table[..table.len() / 4 * 4] } else { table };
+        if self.0 == LargerArea && area.len() == 153 {
+            area[152] = 0;
+            return host::check_table(table, &mut area[..152]);
+        }
+        let kept = area.get(151).copied();
+        let number = host::check_table(table, area);
+        match kept {
+            Some(byte) if self.0 == AreaByteLeft && number == 1 => area[151] = byte,
+            _ => {}
+        }
+        number
+    }
+
+    fn read(
+        &self,
+        table: &[u8],
+        (mut name, of_type): (u32, u32),
+        payload: &[u8],
+        events: &mut [u8],
+        texts: &mut [u8],
+        area: &mut [u8],
+    ) -> u32 {
+        if self.0 == RootWraps {
+            name &= 0xffff;
+        }
+        let (old_events, old_texts) = (events.to_vec(), texts.to_vec());
+        let mut longer;
+        let mut given = payload;
+        if self.0 == ReadsOn && !payload.is_empty() {
+            longer = payload.to_vec();
+            longer.push(byte_at(payload.as_ptr().wrapping_add(payload.len())));
+            given = &longer;
+        }
+        let number = host::read(table, name, of_type, given, events, texts, area);
+        let whole = old_events.len() / 16 * 16;
+        match self.0 {
+            EventsLeft if number == 11 => events.copy_from_slice(&old_events),
+            OddBytesLeft => events[whole..].copy_from_slice(&old_events[whole..]),
+            TextsLeft if number == 0 => {
+                let used = u32::from_be_bytes(area[12..16].try_into().unwrap()) as usize;
+                texts[used..].copy_from_slice(&old_texts[used..]);
+            }
+            AreaRefusedTextsLeft if number == 24 => texts.copy_from_slice(&old_texts),
+            BeforeEvents => flip(events.as_mut_ptr().wrapping_sub(1)),
+            BehindTexts => flip(texts.as_mut_ptr().wrapping_add(texts.len())),
+            InputTouched if !payload.is_empty() => flip(payload.as_ptr().cast_mut()),
+            PathLonger if number == 17 => area[23] += 1,
+            BlankShort => {
+                if let Some(blank) = blank_in(events) {
+                    blank[15] = blank[15].wrapping_sub(1);
+                }
+            }
+            BlankTexts if number == 0 && blank_in(events).is_some() => {
+                let used = u32::from_be_bytes(area[12..16].try_into().unwrap()) as usize;
+                if let Some(byte) = texts.get_mut(used) {
+                    *byte = b'a';
+                    area[15] = area[15].wrapping_add(1);
+                }
+            }
+            _ => {}
+        }
+        number
+    }
+
+    fn write(
+        &self,
+        table: &[u8],
+        (name, of_type): (u32, u32),
+        mode: u32,
+        events: &[u8],
+        texts: &[u8],
+        payload: &mut [u8],
+        area: &mut [u8],
+    ) -> u32 {
+        if self.0 == RoomOneShort {
+            let most = payload.len().saturating_sub(1);
+            payload[most..].fill(0);
+            return host::write(table, name, of_type, mode, events, texts, &mut payload[..most], area);
+        }
+        let mut number = host::write(table, name, of_type, mode, events, texts, payload, area);
+        match self.0 {
+            PayloadByteLeft if number == 23 && !payload.is_empty() => payload[0] = 0x0f,
+            FourthWord if number == 0 && events.chunks_exact(16).any(|event| event[12] != 0) => {
+                number = 18;
+                payload.fill(0);
+                area.fill(0);
+            }
+            LateBlank if number == 19 && area[..4] == ((events.len() / 16 - 1) as u32).to_be_bytes() => number = 18,
+            LongListPlace if number == 18 && events.len() / 16 > 2048 => area[3] = area[3].wrapping_add(1),
+            _ => {}
+        }
+        number
+    }
+
+    fn writes(&self) -> bool {
+        true
+    }
+}
+
+#[test]
+fn the_peer_itself_has_no_fault() {
+    assert!(run(&StandIn(None), 10_000, 1).report());
+}
+
+#[test]
+fn every_fault_is_noticed() {
+    for fault in [
+        AreaByteLeft,
+        EventsLeft,
+        OddBytesLeft,
+        TextsLeft,
+        AreaRefusedTextsLeft,
+        LargerArea,
+        RaggedTable,
+        RootWraps,
+        BeforeEvents,
+        BehindTexts,
+        InputTouched,
+        PathLonger,
+        BlankShort,
+        BlankTexts,
+        ReadsOn,
+        PayloadByteLeft,
+        FourthWord,
+        RoomOneShort,
+        LateBlank,
+        LongListPlace,
+    ] {
+        assert!(run(&StandIn(fault), 2_500, 1).differing() > 0, "{fault:?}");
+    }
+}
