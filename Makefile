@@ -1,16 +1,19 @@
 # Two commands for everybody (README.md), two for those who work here.
-.PHONY: test run peer fmt
+.PHONY: test run fuzz peer fmt
 
 # The gate: what has to pass before anything is merged.
 test:
 	bash .ci/run
 
-# Builds the proved program `cases` and runs it on the vectors' codes. A line is the refusal's number or 0, the value, the place past it,
-# and one number more: whether the code was the shortest, a text's bytes, or the 8 bytes written.
+# Builds the proved listing program and lists document 01's worked example (mended, docs/WIRE.md).
 run:
 	@mkdir -p target
-	@rt check cases >target/run.log 2>&1 || { cat target/run.log; exit 1; }
-	@target/bin/cases <crates/cases/stdin
+	@rt check list >target/run.log 2>&1 || { cat target/run.log; exit 1; }
+	@target/bin/list <crates/list/stdin
+
+# The proved C calls against the peer, from a new seed, for about 5 million cases.
+fuzz:
+	rt staticlib host >/dev/null && cd peer && cargo build --release --quiet --features host --bin calls && target/release/calls 5000000 $$(date +%s)
 
 # The second, independent implementation: its tests, the demands as properties, and the vectors asked again.
 peer:

@@ -46,7 +46,7 @@ impl<'a> Bench<'a> {
         self.cases
     }
 
-    /// Asks as a part of a case that is counted by itself.
+    /// Asks for the sake of another case, and does not count it among the part's.
     pub fn ask_aside(&mut self, kind: &'static str, case: &Case) -> Left {
         let left = self.ask(kind, case);
         self.cases -= 1;

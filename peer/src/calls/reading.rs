@@ -46,7 +46,7 @@ fn written_back(bench: &mut Bench<'_>, case: &Case, left: &Left) {
     let mut back = Case::write(&[], case.root, left.word(1) as u32, events.to_vec(), texts.to_vec(), 0);
     back.inputs[0].clone_from(&case.inputs[0]);
     back.rooms[0] = case.inputs[1].len();
-    let written = bench.ask("written back", &back);
+    let written = bench.ask_aside("written back", &back);
     let same = written.is_accepted() && written.outputs[0] == case.inputs[1] && written.outputs[1] == left.outputs[2];
     bench.hold(case, same, || format!("demand 2: written back as {written:02x?}"));
 }

@@ -1,0 +1,4 @@
+mod Names
+mod Judging
+mod Checking
+mod Replies

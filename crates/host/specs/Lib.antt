@@ -1,0 +1,7 @@
+pub mod Area
+pub mod AreaLaws
+pub mod Calls
+pub mod CallLaws
+pub mod TableLaws
+pub mod ReadLaws
+pub mod Paths

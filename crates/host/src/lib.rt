@@ -1,0 +1,60 @@
+// The calls for a C host, over bytes: words are 4 big-endian bytes, the answer is a number and an area. include/bim.h declares them.
+mod answers;
+mod area;
+mod reads;
+mod tables;
+
+use answers::tell_answer;
+use area::tell_place;
+use reads::read_bytes;
+use table::Verdict;
+use tables::check_bytes;
+use words::clear;
+ghost use mathlib.Core.Path.{_≡_};
+ghost use mathlib.Core.List.{[], _∷_};
+ghost use lib.ListN.{length};
+ghost use Rattle.host.specs.Calls.{back, checkTable, readCall};
+
+// Judges a table.
+#[no_mangle]
+pub extern "C" fn bim_check_table(table: &[u8], area: &mut [u8]) -> u32
+    ensures { λ r. ⌜ back r (now (area .exit)) [] ≡ checkTable (now (table .entry)) (length (now (area .entry))) ⌝ }
+{
+    if area.len() != 152 {
+        clear(area);
+        return 24;
+    }
+    match check_bytes(table) {
+        Verdict::Right => {
+            tell_place(area, 0);
+            0
+        }
+        Verdict::Wrong(i) => {
+            tell_place(area, i);
+            1
+        }
+    }
+}
+
+// Reads a payload into events and texts.
+#[no_mangle]
+pub extern "C" fn bim_read(
+    table: &[u8],
+    root_name: u32,
+    root_type: u32,
+    payload: &[u8],
+    events: &mut [u8],
+    texts: &mut [u8],
+    area: &mut [u8],
+) -> u32
+    ensures { λ r. ⌜ back r (now (area .exit)) (now (events .exit) ∷ now (texts .exit) ∷ []) ≡ readCall (now (table .entry)) «root_name» «root_type» (now (payload .entry)) (length (now (events .entry))) (length (now (texts .entry))) (length (now (area .entry))) ⌝ }
+{
+    if area.len() != 152 {
+        clear(events);
+        clear(texts);
+        clear(area);
+        return 24;
+    }
+    let a = read_bytes(table, root_name, root_type, payload, events, texts);
+    tell_answer(area, a)
+}

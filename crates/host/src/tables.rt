@@ -1,0 +1,50 @@
+// A table's bytes, judged as words.
+use table::Verdict;
+use table::check;
+use words::load;
+ghost use mathlib.Core.Path.{_≡_};
+ghost use Prim.Native.Nat.{_/_, _≤_};
+ghost use Rattle.table.specs.Views.{verdictIs};
+ghost use Rattle.host.specs.Calls.{tableVerdict};
+ghost use Rattle.host.specs.TableLaws as laws;
+
+// How many words of so many bytes are looked at: all, or four at most where no table has that length.
+pub fn words_lent(bytes: usize) -> usize
+    ensures { λ r. ⌜ (r ≡ laws.wordsLent bytes) × (r ≤ bytes / 4) × (r ≤ 8964) ⌝ }
+{
+    let n = bytes / 4;
+    let over = bytes % 4;
+    if over == 0 {
+        if n <= 8964 {
+            return n;
+        }
+        return 4;
+    }
+    if n < 4 {
+        return n;
+    }
+    4
+}
+
+// A fault at the number of words looked at is one at the number of words given.
+pub fn placed(seen: usize, given: usize, place: usize) -> usize
+    ensures { λ r. ⌜ r ≡ laws.placed seen given place ⌝ }
+{
+    if place == seen {
+        return given;
+    }
+    place
+}
+
+// The check of a table's bytes.
+pub fn check_bytes(t: &[u8]) -> Verdict
+    ensures { λ r. ⌜ verdictIs r ≡ tableVerdict (now (t .entry)) ⌝ }
+{
+    let n = words_lent(t.len());
+    let mut words = [0u32; 8964];
+    load(t, &mut words, n);
+    match check(&words[..n]) {
+        Verdict::Right => Verdict::Right,
+        Verdict::Wrong(i) => Verdict::Wrong(placed(n, t.len() / 4, i)),
+    }
+}
