@@ -13,7 +13,7 @@ run:
 
 # The proved C calls against the peer, from a new seed, for about 5 million cases.
 fuzz:
-	rt staticlib host >/dev/null && cd peer && cargo build --release --quiet --features host --bin calls && target/release/calls 5000000 $$(date +%s)
+	rt staticlib host >/dev/null && cd peer && cargo build --release --quiet --features host_write --bin calls && target/release/calls 5000000 $$(date +%s)
 
 # The second, independent implementation: its tests, the demands as properties, and the vectors asked again.
 peer:

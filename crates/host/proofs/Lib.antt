@@ -2,3 +2,4 @@ mod Names
 mod Judging
 mod Checking
 mod Replies
+mod Lists

@@ -58,12 +58,17 @@ readCall t name type s e x area =
     let r = readBytes t name type s e x in
     lent area (e ∷ x ∷ []) (outcome r) (eventsBack e r ∷ textsLeft x r ∷ [])
 
--- The writing of bytes: after 1, 2 and 22, a list whose bytes are no multiple of 16 is 18 at bytes / 16.
+-- The writing of a list's bytes: where they are no multiple of 16, 18 at bytes / 16, after 1, 2 and 22.
+unfoldable pub unlisted : List ℕ → ℕ → ℕ → ℕ → ℕ → Made
+unlisted l name type mode n =
+    verdictMade (verdict l) (orUnmade (asked (tableOf l .types) name type) (λ u. orUnmade (modeAsked mode) (λ m. unmade 18 n)))
+
+unfoldable pub writeList : List ℕ → ℕ → ℕ → ℕ → List ℕ → List ℕ → ℕ → Made
+writeList l name type mode e x room =
+    cond (eqb (length e % 16) 0) (writing l name type mode (wordsOf e) x room) (unlisted l name type mode (length e / 16))
+
 unfoldable pub writeBytes : List ℕ → ℕ → ℕ → ℕ → List ℕ → List ℕ → ℕ → Made
-writeBytes t name type mode e x room =
-    verdictMade (tableVerdict t)
-    (cond (eqb (length e % 16) 0) (writing (wordsOf t) name type mode (wordsOf e) x room)
-    (orUnmade (asked (tableOf (wordsOf t) .types) name type) (λ u. orUnmade (modeAsked mode) (λ m. unmade 18 (length e / 16)))))
+writeBytes t name type mode e x room = verdictMade (tableVerdict t) (writeList (wordsOf t) name type mode e x room)
 
 -- bim_write: table, root name, root type, mode, events, texts; bytes of the payload and of the area
 unfoldable pub writeCall : List ℕ → ℕ → ℕ → ℕ → List ℕ → List ℕ → ℕ → ℕ → Back

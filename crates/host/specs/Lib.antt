@@ -5,3 +5,4 @@ pub mod CallLaws
 pub mod TableLaws
 pub mod ReadLaws
 pub mod Paths
+pub mod WriteLaws

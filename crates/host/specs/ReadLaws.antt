@@ -25,7 +25,7 @@ abbrev pub placedIn : (seen given : ℕ) → Outcome → Outcome
 placedIn seen given o =
     record { number = o .number; place = placed seen given (o .place); mode = o .mode; events = o .events; text = o .text; bits = o .bits; path = o .path }
 
-placed-in-same : (k : ℕ) (o : Outcome) → placedIn k k o ≡ o
+pub placed-in-same : (k : ℕ) (o : Outcome) → placedIn k k o ≡ o
 placed-in-same k o = λ i. record { number = o .number; place = placed-same k (o .place) i; mode = o .mode; events = o .events; text = o .text; bits = o .bits; path = o .path }
 
 -- all that a call of the reading gives back: the answer, the events as bytes, the texts

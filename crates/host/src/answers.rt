@@ -5,9 +5,10 @@ ghost use mathlib.Core.Path.{_≡_};
 ghost use Prim.Native.Nat.{_≤_};
 ghost use lib.ListN.{length};
 ghost use Rattle.reader.specs.Answers.{answerIs};
+ghost use Rattle.writer.specs.Answers.{answerIs as writtenIs};
 ghost use Rattle.host.specs.Area.{areaOf};
 
-// The area filled; the number is given back.
+// What the reader answered; the number is given back.
 pub fn tell_answer(area: &mut [u8], a: Answer) -> u32
     requires { ⌜ (length (now area) ≡ 152) × (a .path .count ≤ 64) ⌝ }
     ensures { λ r. ⌜ (r ≡ a .number) × (now (area .exit) ≡ areaOf (answerIs a)) ⌝ }
@@ -18,5 +19,17 @@ pub fn tell_answer(area: &mut [u8], a: Answer) -> u32
     let text = a.text.0;
     let bits = a.bits.0;
     tell(area, a.place, a.mode, a.events, text, bits, &names, count);
+    a.number
+}
+
+// What the writer answered, which has no path.
+pub fn tell_written(area: &mut [u8], a: writer::Answer) -> u32
+    requires { ⌜ length (now area) ≡ 152 ⌝ }
+    ensures { λ r. ⌜ (r ≡ a .number) × (now (area .exit) ≡ areaOf (writtenIs a)) ⌝ }
+{
+    let none = [0u16; 64];
+    let text = a.text.0;
+    let bits = a.bits.0;
+    tell(area, a.place, a.mode, a.events, text, bits, &none, 0);
     a.number
 }

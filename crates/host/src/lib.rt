@@ -3,17 +3,20 @@ mod answers;
 mod area;
 mod reads;
 mod tables;
+mod writes;
 
 use answers::tell_answer;
+use answers::tell_written;
 use area::tell_place;
 use reads::read_bytes;
 use table::Verdict;
 use tables::check_bytes;
 use words::clear;
+use writes::write_bytes;
 ghost use mathlib.Core.Path.{_≡_};
 ghost use mathlib.Core.List.{[], _∷_};
 ghost use lib.ListN.{length};
-ghost use Rattle.host.specs.Calls.{back, checkTable, readCall};
+ghost use Rattle.host.specs.Calls.{back, checkTable, readCall, writeCall};
 
 // Judges a table.
 #[no_mangle]
@@ -57,4 +60,27 @@ pub extern "C" fn bim_read(
     }
     let a = read_bytes(table, root_name, root_type, payload, events, texts);
     tell_answer(area, a)
+}
+
+// Writes events and texts as a payload.
+#[no_mangle]
+pub extern "C" fn bim_write(
+    table: &[u8],
+    root_name: u32,
+    root_type: u32,
+    mode: u32,
+    events: &[u8],
+    texts: &[u8],
+    payload: &mut [u8],
+    area: &mut [u8],
+) -> u32
+    ensures { λ r. ⌜ back r (now (area .exit)) (now (payload .exit) ∷ []) ≡ writeCall (now (table .entry)) «root_name» «root_type» mode (now (events .entry)) (now (texts .entry)) (length (now (payload .entry))) (length (now (area .entry))) ⌝ }
+{
+    if area.len() != 152 {
+        clear(payload);
+        clear(area);
+        return 24;
+    }
+    let a = write_bytes(table, root_name, root_type, mode, events, texts, payload);
+    tell_written(area, a)
 }

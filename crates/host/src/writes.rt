@@ -1,0 +1,96 @@
+// A list written over bytes.
+use crate::tables::placed;
+use crate::tables::words_lent;
+use words::load;
+use writer::Answer;
+use writer::write;
+ghost use mathlib.Core.Path.{_≡_};
+ghost use Prim.Native.Nat.{_/_};
+ghost use lib.ListN.{length};
+ghost use Rattle.writer.specs.Answers.{Writes};
+ghost use Rattle.host.specs.Calls.{unlisted, writeList, writeBytes};
+
+// Bytes that are no list: one word is none either, and is refused where they are. The place of 18 is n.
+fn write_none(
+    words: &[u32],
+    root_name: u32,
+    root_type: u32,
+    mode: u32,
+    n: usize,
+    texts: &[u8],
+    payload: &mut [u8],
+) -> Answer
+    ensures { λ r. ⌜ Writes (unlisted (now (words .entry)) «root_name» «root_type» mode n) mode n (length (now (texts .entry))) (length (now (payload .entry))) r (now (payload .exit)) ⌝ }
+{
+    let none = [0u32; 1];
+    let mut a = write(words, root_name, root_type, mode, &none, texts, payload);
+    if a.number == 18 {
+        a.place = n;
+        return a;
+    }
+    a
+}
+
+// A list's bytes, by a table's words.
+fn write_list(
+    words: &[u32],
+    root_name: u32,
+    root_type: u32,
+    mode: u32,
+    events: &[u8],
+    texts: &[u8],
+    payload: &mut [u8],
+) -> Answer
+    ensures { λ r. ⌜ Writes (writeList (now (words .entry)) «root_name» «root_type» mode (now (events .entry)) (now (texts .entry)) (length (now (payload .entry)))) mode (length (now (events .entry)) / 16) (length (now (texts .entry))) (length (now (payload .entry))) r (now (payload .exit)) ⌝ }
+{
+    let size = events.len();
+    let over = size % 16;
+    let n = size / 16;
+    if over != 0 {
+        return write_none(words, root_name, root_type, mode, n, texts, payload);
+    }
+    if 2048 < n {
+        return write_none(words, root_name, root_type, mode, n, texts, payload);
+    }
+    let k = size / 4;
+    let mut list = [0u32; 8192];
+    load(events, &mut list, k);
+    write(
+        words,
+        root_name,
+        root_type,
+        mode,
+        &list[..k],
+        texts,
+        payload,
+    )
+}
+
+// The writing of bytes.
+pub fn write_bytes(
+    table: &[u8],
+    root_name: u32,
+    root_type: u32,
+    mode: u32,
+    events: &[u8],
+    texts: &[u8],
+    payload: &mut [u8],
+) -> Answer
+    ensures { λ r. ⌜ Writes (writeBytes (now (table .entry)) «root_name» «root_type» mode (now (events .entry)) (now (texts .entry)) (length (now (payload .entry)))) mode (length (now (events .entry)) / 16) (length (now (texts .entry))) (length (now (payload .entry))) r (now (payload .exit)) ⌝ }
+{
+    let n = words_lent(table.len());
+    let mut words = [0u32; 8964];
+    load(table, &mut words, n);
+    let mut a = write_list(
+        &words[..n],
+        root_name,
+        root_type,
+        mode,
+        events,
+        texts,
+        payload,
+    );
+    let at = a.place;
+    a.place = placed(n, table.len() / 4, at);
+    a
+}
