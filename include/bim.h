@@ -2,7 +2,7 @@
  *
  * BYTES. A buffer is a pointer and then its length in bytes; a null pointer is fine where the length is 0. Words are 4 bytes, names in
  * the area 2, the most significant byte first. Every buffer is the caller's, before and after a call: nothing is kept, nothing is
- * allocated (a call takes up to about 150 KB of the stack), and no other byte is read or written. Any bytes and any lengths are
+ * allocated (a call takes up to about 300 KB of the stack), and no other byte is read or written. Any bytes and any lengths are
  * answered.
  *
  * THE CALLER'S ONE DUTY: a buffer that a call writes overlaps no other buffer of that call.
