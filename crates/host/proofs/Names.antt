@@ -4,7 +4,7 @@ use mathlib.Core.Path.{_≡_, refl, sym, ap, _∙_}
 use mathlib.Core.List.{List, [], _∷_, _++_, append-nil}
 use native.Mathlib.Omega.{arith}
 use lib.ListN.{length, getD, take, drop, replicate, length-append, length-replicate, getD-replicate, drop-of-length-le, List·getD-eq-default, List·getD-append}
-use lib.Seq.{sets, getD-take, getD-append-add, take-at, length-take-le}
+use lib.Seq.{sets, getD-append-add, take-at}
 use borrow.Rule.Slice.PartMut.{putMid}
 use Rattle.signed.specs.Laws.{ordered}
 use Rattle.reader.specs.Answers.{firstNames}

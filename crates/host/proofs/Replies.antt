@@ -1,6 +1,6 @@
 -- The reading of bytes: what the words and the words lent for events become.
-use Prim.Native.Nat.{ℕ, _+_, _*_, _/_, _≤_, _<_, min}
-use mathlib.Core.Path.{_≡_, refl, sym, ap, subst, _∙_}
+use Prim.Native.Nat.{ℕ, _*_, _/_, _≤_}
+use mathlib.Core.Path.{_≡_, sym, ap, subst, _∙_}
 use mathlib.Core.List.{List, [], _∷_, _++_}
 use native.Mathlib.Omega.{arith}
 use lib.ListN.{length, take, drop, replicate}
@@ -14,7 +14,7 @@ use Rattle.host.specs.Calls.{back, zeros, readBytes, readCall, eventsBac
 use Rattle.host.specs.CallLaws.{unlent, lent-whole}
 use Rattle.host.specs.Paths.{path-most}
 use Rattle.host.specs.TableLaws.{wordsLent, placed, Told, told}
-use Rattle.host.specs.ReadLaws.{slotWords, placedIn, Read, ReadBack, read-lent, events-stored}
+use Rattle.host.specs.ReadLaws.{slotWords, placedIn, ReadBack, read-lent, events-stored}
 
 -- the words lent for events, then as bytes
 pub words-read : (R : Reply) (o : Outcome) (E X B B₁ B₂ : List ℕ) (m x : ℕ) → o ≡ outcome R → E ≡ eventsLeft m R → X ≡ textsLeft x R → length E ≡ m → 4 * m ≤ length B

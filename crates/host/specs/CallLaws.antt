@@ -4,7 +4,7 @@ use mathlib.Core.Path.{_≡_}
 use mathlib.Core.List.{List, map}
 use borrow.Author.Tests.{eq-eqb, ne-eqb}
 use Rattle.model.specs.Whole.{Outcome}
-use Rattle.host.specs.Area.{areaOf, areaBytes}
+use Rattle.host.specs.Area.{areaOf}
 use Rattle.host.specs.Calls.{back, zeros, lent}
 
 pub unlent : (area : ℕ) (sizes : List ℕ) (o : Outcome) (buffers : List (List ℕ)) → (area ≡ 152 → ⊥) → lent area sizes o buffers ≡ back 24 (zeros area) (map zeros sizes)

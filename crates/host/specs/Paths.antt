@@ -1,7 +1,7 @@
 -- No reading has more than 64 elements open: a path fits the area.
 use Prim.Native.Nat.{ℕ, zero, suc, _+_, _-_, _/_, _≤_, _<_}
-use mathlib.Core.Path.{_≡_, refl, sym, ap, subst, _∙_}
-use mathlib.Core.List.{List, [], _∷_, _++_, reverse}
+use mathlib.Core.Path.{_≡_, refl, sym, subst}
+use mathlib.Core.List.{List, [], _∷_}
 use mathlib.Core.Bool.{Bool, true, false}
 use native.Mathlib.Omega.{arith}
 use lib.Dec.{ltb, leb}
@@ -12,11 +12,11 @@ use Rattle.table.specs.First.Verdict.{right, wrong}
 use Rattle.table.specs.Valid.{verdict}
 use Rattle.table.specs.Rows.{Row, Content, Attribute, Table, tableOf, heldOf}
 use Rattle.table.specs.Rows.Content.{empty, simple, particles}
-use Rattle.model.specs.Model.{Plan, Nodes, Mark, Path, Answer, Event, Item, eventOf, value, maybe, attribute, attributes, contents, rows, within, due, plan, rooted, slotsOf}
+use Rattle.model.specs.Model.{Plan, Nodes, Mark, Path, Answer, Event, Item, value, maybe, attribute, attributes, contents, rows, within, due, plan, slotsOf}
 use Rattle.model.specs.Model.Answer.{given, refused}
 use Rattle.model.specs.Items.{Mode, itemAt, Head, headAt}
 use Rattle.model.specs.Read.{Room, onto, after, code, kept, stored, met, ended, closed, Into, entered, bare, sized, opened, elementAt, read, less, lessOne, mark}
-use Rattle.model.specs.Whole.{Reply, reading, outcome, afterVerdict, asked, afterAsked, payload, modeOf, inMode, rootIn, replied, padded, padding, roomOf}
+use Rattle.model.specs.Whole.{Reply, reading, outcome, afterVerdict, afterAsked, payload, modeOf, inMode, rootIn, replied, padded, padding, roomOf}
 use Rattle.words.specs.Bytes.{wordsOf}
 use Rattle.host.specs.Calls.{tableVerdict, readBytes}
 use Rattle.model.specs.Whole.Reply.{accepted, declined}

@@ -1,21 +1,20 @@
 -- The reading of bytes, from the reading of the words that are lent.
-use Prim.Native.Nat.{ℕ, zero, suc, _+_, _-_, _*_, _/_, _≤_, _<_, min}
+use Prim.Native.Nat.{ℕ, zero, suc, _+_, _-_, _*_, _/_, _≤_, min}
 use mathlib.Core.Path.{_≡_, refl, sym, ap, _∙_}
-use mathlib.Core.List.{List, [], _∷_, _++_, append-assoc}
+use mathlib.Core.List.{List, [], _++_, append-assoc}
 use native.Mathlib.Omega.{arith}
-use lib.ListN.{length, take, drop, replicate, length-append, length-replicate, replicate-append-replicate}
+use lib.ListN.{length, take, drop, length-append, length-replicate, replicate-append-replicate}
 use Rattle.table.specs.First.{Verdict}
 use Rattle.table.specs.First.Verdict.{right, wrong}
 use Rattle.table.specs.Valid.{verdict}
 use Rattle.table.specs.Rows.{heldOf, tableOf}
 use Rattle.model.specs.Model.{events, rooted}
-use Rattle.model.specs.Read.{Room}
-use Rattle.model.specs.Whole.{Reply, Outcome, outcome, reading, afterVerdict, afterAsked, asked, payload, roomOf, eventsLeft, textsLeft, eventWords, filled}
+use Rattle.model.specs.Whole.{Reply, Outcome, outcome, reading, afterVerdict, afterAsked, asked, payload, eventsLeft, textsLeft, eventWords, filled}
 use Rattle.model.specs.Whole.Reply.{accepted, declined}
-use Rattle.words.specs.Bytes.{wordsOf, bytesOf, four, spelled}
+use Rattle.words.specs.Bytes.{wordsOf, bytesOf, four}
 use Rattle.words.specs.BytesLaws.{bytes-length, spelled-append, zeros-spelled}
-use Rattle.host.specs.Calls.{zeros, tableVerdict, readBytes, eventsBack}
-use Rattle.host.specs.TableLaws.{placed, placed-same, Told, whole, part, told}
+use Rattle.host.specs.Calls.{zeros, readBytes, eventsBack}
+use Rattle.host.specs.TableLaws.{placed, placed-same, Told, whole, part}
 
 -- the words lent for events: four for each that has room
 abbrev pub slotWords : ℕ → ℕ

@@ -1,10 +1,10 @@
 -- A table whose length is wrong, judged by its first four words: what the calls lend of it to the word functions.
-use Prim.Native.Nat.{ℕ, zero, suc, _+_, _*_, _/_, _%_, _≤_, _<_, min}
+use Prim.Native.Nat.{ℕ, zero, suc, _/_, _%_, _≤_, _<_, min}
 use mathlib.Core.Path.{_≡_, refl, sym, ap, _∙_}
 use mathlib.Core.List.{List, [], _∷_}
 use mathlib.Core.Bool.{Bool, true, false, cond, _&&_, true≢false}
 use native.Mathlib.Omega.{arith}
-use borrow.Author.Tests.{leb-true, leb-false, ne-eqb, eq-eqb, lt-ltb, le-ltb, le-leb, lt-leb, eqb-true, eqb-false}
+use borrow.Author.Tests.{leb-true, leb-false, ne-eqb, eq-eqb, lt-ltb, le-ltb, eqb-true}
 use lib.Dec.{eqb, leb}
 use lib.ListN.{length, take, getD, length-take, List·getD-eq-default}
 use lib.Seq.{take-all}
@@ -13,7 +13,7 @@ use Rattle.table.specs.Words.{sizeOf, wordAt, typesIn, attributesIn, particlesI
 use Rattle.table.specs.First.{Verdict, first, judge, _then_}
 use Rattle.table.specs.First.Verdict.{right, wrong}
 use Rattle.table.specs.FirstLaws.{then-right, then-wrong, right-every, wrong-fails}
-use Rattle.table.specs.Valid.{within, given, headerWords, verdict, verdictFrom}
+use Rattle.table.specs.Valid.{given, headerWords, verdict, verdictFrom}
 use Rattle.words.specs.Bytes.{wordsOf}
 use Rattle.words.specs.BytesLaws.{words-length}
 use Rattle.host.specs.Calls.{tableVerdict}

@@ -1,5 +1,5 @@
 -- The writing of bytes, from the writing of the words that are lent.
-use Prim.Native.Nat.{ℕ, zero, suc, _+_, _-_, _*_, _/_, _%_, _≤_, _<_}
+use Prim.Native.Nat.{ℕ, zero, suc, _/_, _%_, _<_}
 use mathlib.Core.Path.{_≡_, refl, sym, ap, _∙_}
 use mathlib.Core.List.{List, [], _∷_}
 use mathlib.Core.Bool.{Bool, true, false, cond}
@@ -13,11 +13,11 @@ use Rattle.table.specs.First.Verdict.{right, wrong}
 use Rattle.table.specs.Valid.{verdict}
 use Rattle.table.specs.Rows.{tableOf}
 use Rattle.model.specs.Items.{Mode}
-use Rattle.model.specs.Whole.{Made, Outcome, outcomeMade, payloadLeft, writing, verdictMade, orUnmade, asked, modeAsked, shaped}
-use Rattle.model.specs.Whole.Made.{made, unmade}
+use Rattle.model.specs.Whole.{Made, outcomeMade, payloadLeft, writing, verdictMade, orUnmade, asked, modeAsked, shaped}
+use Rattle.model.specs.Whole.Made.{unmade}
 use Rattle.words.specs.Bytes.{wordsOf}
 use Rattle.words.specs.BytesLaws.{words-length}
-use Rattle.host.specs.Calls.{tableVerdict, unlisted, writeList, writeBytes}
+use Rattle.host.specs.Calls.{unlisted, writeList, writeBytes}
 use Rattle.host.specs.TableLaws.{placed, Told, whole, part}
 use Rattle.host.specs.ReadLaws.{placedIn, placed-in-same}
 

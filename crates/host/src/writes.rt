@@ -4,7 +4,6 @@ use crate::tables::words_lent;
 use words::load;
 use writer::Answer;
 use writer::write;
-ghost use mathlib.Core.Path.{_≡_};
 ghost use Prim.Native.Nat.{_/_};
 ghost use lib.ListN.{length};
 ghost use Rattle.writer.specs.Answers.{Writes};

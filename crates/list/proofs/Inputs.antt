@@ -1,5 +1,5 @@
 -- The input taken apart: what the code lends to the reader is what the listing reads.
-use Prim.Native.Nat.{ℕ, _+_, _*_, _-_, _/_, _≤_, _<_, min}
+use Prim.Native.Nat.{ℕ, _+_, _*_, _-_, _≤_, _<_, min}
 use mathlib.Core.Path.{_≡_, refl, sym, ap, subst, _∙_}
 use mathlib.Core.List.{List, []}
 use mathlib.Core.Bool.{Bool, true, false, cond}
@@ -15,7 +15,7 @@ use Rattle.model.specs.Whole.{Reply, reading, afterVerdict}
 use Rattle.model.specs.Whole.Reply.{declined}
 use Rattle.reader.specs.Answers.{Replies}
 use Rattle.reader.specs.declared.Answer.{Answer}
-use Rattle.words.specs.Bytes.{wordFrom, halfFrom, wordsOf}
+use Rattle.words.specs.Bytes.{halfFrom, wordsOf}
 use Rattle.words.specs.BytesLaws.{words-length}
 use Rattle.list.specs.Listing.{countIn, nameAt, typeAt, payloadAt, tableIn, payloadIn, listed, listing}
 

@@ -1,12 +1,12 @@
 -- One more turn of each loop over a buffer.
-use Prim.Native.Nat.{ℕ, zero, suc, _+_, _-_, _*_, _/_, _≤_, _<_}
+use Prim.Native.Nat.{ℕ, _+_, _-_, _*_, _/_, _≤_, _<_}
 use mathlib.Core.Path.{_≡_, refl, sym, ap, _∙_}
-use mathlib.Core.List.{List, [], _∷_, _++_, append-nil}
+use mathlib.Core.List.{List, _++_, append-nil}
 use native.Mathlib.Omega.{arith}
 use native.Mathlib.Numerals.{add-one}
 use borrow.Rule.Slice.PartMut.{putMid, post-is}
-use borrow.Author.Fill.{fill-none, fill-more}
-use lib.ListN.{length, getD, set, take, drop, replicate, length-take, drop-of-length-le}
+use borrow.Author.Fill.{fill-more}
+use lib.ListN.{length, getD, set, take, drop, replicate, drop-of-length-le}
 use lib.Seq.{sets, take-suc, take-suc-set, take-all, length-take-le, drop-length}
 use Rattle.words.specs.Bytes.{wordFrom, wordsOf, spelled}
 use Rattle.words.specs.BytesLaws.{words-length, word-at, spelled-length, spelled-more}

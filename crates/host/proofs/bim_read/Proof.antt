@@ -25,9 +25,10 @@ same-length-3 c = search needs
 
 returns : tie.Need-returns
 returns c =
-    let b = c .before .before .before .before .before .before .before .before .before .before in
-    read-unlent _ _ _ _ (b .before .before .before .before .before .before .before .before .args .events .now) (b .before .before .before .before .before .before .before .before .args .texts .now)
-    (b .before .before .before .before .before .before .before .before .args .area .now) _ _ _ (b .before .before .if1 .taken) (b .clear .ensures)
+    let d = c .before .before .before .before .before .before .before .before .before .before in
+    let e = d .before .before in
+    let a = e .before .before .before .before .before .before .args in
+    read-unlent _ _ _ _ (a .events .now) (a .texts .now) (a .area .now) _ _ _ (e .if1 .taken) (d .clear .ensures)
     (c .before .before .before .before .before .before .clear2 .ensures) (c .before .before .clear3 .ensures)
 
 read-bytes-requires : tie.Need-read-bytes-requires

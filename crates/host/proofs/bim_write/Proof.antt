@@ -18,8 +18,10 @@ same-length-2 c = search needs
 
 returns : tie.Need-returns
 returns c =
-    let a = c .before .before .before .before .before .before .before .before .before .before .before .before .before .before .args in
-    write-unlent _ _ _ _ _ _ (a .payload .now) (a .area .now) _ _ (c .before .before .before .before .before .before .before .before .if1 .taken) (c .before .before .before .before .before .before .clear .ensures) (c .before .before .clear2 .ensures)
+    let d = c .before .before .before .before .before .before in
+    let e = d .before .before in
+    let a = e .before .before .before .before .before .before .args in
+    write-unlent _ _ _ _ _ _ (a .payload .now) (a .area .now) _ _ (e .if1 .taken) (d .clear .ensures) (c .before .before .clear2 .ensures)
 
 write-bytes-requires : tie.Need-write-bytes-requires
 write-bytes-requires c κs = search needs
@@ -35,8 +37,10 @@ same-length-4 c = search needs
 
 returns-2 : tie.Need-returns-2
 returns-2 c =
-    let a = c .before .before .before .before .before .before .before .before .before .before .before .before .before .before .args in
-    write-told _ _ _ _ _ _ (a .payload .now) (a .area .now) _ _ (c .before .before .before .before .before .before .write-bytes .result) _ (c .before .before .before .before .before .before .before .before .if1 .left) (c .before .before .before .before .before .before .write-bytes .ensures) (c .before .before .tell-written .ensures)
+    let d = c .before .before .before .before .before .before in
+    let e = d .before .before in
+    let a = e .before .before .before .before .before .before .args in
+    write-told _ _ _ _ _ _ (a .payload .now) (a .area .now) _ _ (d .write-bytes .result) _ (e .if1 .left) (d .write-bytes .ensures) (c .before .before .tell-written .ensures)
 
 pub bim-write-spec : {M : Type 1} → statement M
 bim-write-spec =

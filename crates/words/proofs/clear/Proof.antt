@@ -1,9 +1,8 @@
 -- `clear`: zeros up to i.
 use Prim.Native.Nat.{_-_, _≤_}
-use mathlib.Core.Path.{_≡_, refl}
+use mathlib.Core.Path.{_≡_}
 use mathlib.Core.List.{_++_}
 use native.Mathlib.Omega.{arith}
-use borrow.Author.Fill.{fill-none}
 use lib.ListN.{length, drop, replicate, length-set}
 use Rattle.words.proofs.Loops.{cleared-more, cleared-all}
 use borrow.Author.Needs.{needs}

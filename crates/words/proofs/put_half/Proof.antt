@@ -1,7 +1,5 @@
 -- The bytes one after another are a run of stores.
-use native.Mathlib.Omega.{arith}
 use native.Mathlib.Numerals.{add-one}
-use lib.ListN.{length-set}
 use borrow.Author.Needs.{needs}
 use Rattle.words.proofs.put_half.Statement.{statement}
 use Rattle.words.proofs.put_half.Tie as tie

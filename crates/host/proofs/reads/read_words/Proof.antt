@@ -1,5 +1,4 @@
 -- `read_words`: the reader's words, then as bytes over zeros.
-use native.Mathlib.Omega.{arith}
 use Rattle.host.proofs.Replies.{words-read}
 use borrow.Author.Needs.{needs}
 use Rattle.host.proofs.reads.read_words.Statement.{statement}
@@ -24,9 +23,13 @@ same-length-3 : tie.Need-same-length-3
 same-length-3 c = search needs
 
 returns : tie.Need-returns
-returns c = let b = c .before .before .before .before .before .before .before in
-    let r = b .before .before .before .before .before .before .read in
-    words-read _ _ _ _ (c .before .before .before .before .before .before .before .before .before .before .before .before .before .before .before .before .before .before .before .before .before .args .events .now) _ _ _ _ (r .ensures .answer) (r .ensures .events-left) (r .ensures .texts-left) (r .kept .1 .1 .1 .1 .0) (c .before .before .before .before .before .before .before .before .before .before .before .before .before .before .before .before .before .before .before .before .before .pre) (b .clear .ensures) (c .before .before .store .ensures)
+returns c =
+    let b = c .before .before .before .before .before .before .before in
+    let d = b .before .before .before .before .before .before in
+    let entry = d .before .before .before .before .before .before .before .before in
+    let r = d .read in
+    words-read _ _ _ _ (entry .args .events .now) _ _ _ _ (r .ensures .answer) (r .ensures .events-left) (r .ensures .texts-left) (r .kept .1 .1 .1 .1 .0)
+    (entry .pre) (b .clear .ensures) (c .before .before .store .ensures)
 
 pub read-words-spec : {M : Type 1} → statement M
 read-words-spec =

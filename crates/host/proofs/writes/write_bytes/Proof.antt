@@ -31,7 +31,10 @@ same-length : tie.Need-same-length
 same-length c = search needs
 
 returns : tie.Need-returns
-returns c = bytes-written _ _ _ _ _ _ _ _ _ _ _ (c .before .before .before .write-list .result) _ _ (c .before .before .before .before .before .before .before .before .before .words-lent .ensures .0) (c .before .before .before .before .before .before .before .load .ensures) (c .before .before .before .write-list .ensures) (c .placed .ensures)
+returns c =
+    let d = c .before .before .before in
+    let e = d .before .before .before .before in
+    bytes-written _ _ _ _ _ _ _ _ _ _ _ (d .write-list .result) _ _ (e .before .before .words-lent .ensures .0) (e .load .ensures) (d .write-list .ensures) (c .placed .ensures)
 
 pub write-bytes-spec : {M : Type 1} → statement M
 write-bytes-spec =

@@ -44,7 +44,10 @@ same-length-3 : tie.Need-same-length-3
 same-length-3 c = search needs
 
 returns-3 : tie.Need-returns-3
-returns-3 c = list-whole _ _ _ _ (c .before .before .before .before .before .before .before .before .before .before .before .before .before .before .args .events .now) _ _ _ _ _ _ _ (c .before .before .before .before .before .before .before .before .before .if1 .left) refl (c .before .before .before .before .before .before .load .ensures) (c .before .before .write .ensures)
+returns-3 c =
+    let d = c .before .before .before .before .before .before in
+    let e = d .before .before .before in
+    list-whole _ _ _ _ (e .before .before .before .before .before .args .events .now) _ _ _ _ _ _ _ (e .if1 .left) refl (d .load .ensures) (c .before .before .write .ensures)
 
 pub write-list-spec : {M : Type 1} → statement M
 write-list-spec =

@@ -15,7 +15,9 @@ same-length-2 : tie.Need-same-length-2
 same-length-2 c = search needs
 
 returns : tie.Need-returns
-returns c = too-short _ _ _ _ _ (c .before .before .before .before .before .before .before .before .before .before .before .args .input .now) (omega arith) (c .before .before .before .before .unread .ensures)
+returns c =
+    let d = c .before .before .before .before in
+    too-short _ _ _ _ _ (d .before .before .before .before .before .before .before .args .input .now) (omega arith) (d .unread .ensures)
 
 word-requires : tie.Need-word-requires
 word-requires c κs = search needs
@@ -33,7 +35,9 @@ same-length-4 : tie.Need-same-length-4
 same-length-4 c = search needs
 
 returns-2 : tie.Need-returns-2
-returns-2 c = too-many _ _ _ _ _ (c .before .before .before .before .before .before .before .before .before .before .before .before .before .args .input .now) (omega arith) (c .before .before .before .before .unread2 .ensures)
+returns-2 c =
+    let d = c .before .before .before .before in
+    too-many _ _ _ _ _ (d .before .before .before .before .before .before .before .before .before .args .input .now) (omega arith) (d .unread2 .ensures)
 
 mul-if3 : tie.Need-mul-if3
 mul-if3 c = search needs
@@ -51,7 +55,9 @@ same-length-6 : tie.Need-same-length-6
 same-length-6 c = search needs
 
 returns-3 : tie.Need-returns-3
-returns-3 c = too-short _ _ _ _ _ (c .before .before .before .before .before .before .before .before .before .before .before .before .before .before .args .input .now) (omega arith) (c .before .before .before .before .unread3 .ensures)
+returns-3 c =
+    let d = c .before .before .before .before in
+    too-short _ _ _ _ _ (d .before .before .before .before .before .before .before .before .before .before .args .input .now) (omega arith) (d .unread3 .ensures)
 
 read-parts-requires : tie.Need-read-parts-requires
 read-parts-requires c κs = search needs
@@ -63,7 +69,10 @@ same-length-8 : tie.Need-same-length-8
 same-length-8 c = search needs
 
 returns-4 : tie.Need-returns-4
-returns-4 c = all-there _ _ _ _ _ (c .before .before .before .before .before .before .before .before .before .before .before .before .before .before .args .input .now) _ (c .before .before .before .before .before .before .before .before .before .word .ensures) (omega arith) (omega arith) (c .before .before .before .before .read-parts .ensures)
+returns-4 c =
+    let d = c .before .before .before .before in
+    let e = d .before .before .before .before .before in
+    all-there _ _ _ _ _ (e .before .before .before .before .before .args .input .now) _ (e .word .ensures) (omega arith) (omega arith) (d .read-parts .ensures)
 
 pub read-input-spec : {M : Type 1} → statement M
 read-input-spec =

@@ -40,8 +40,12 @@ returns : tie.Need-returns
 unfolding eventLine
 returns c = (
   counted _ _ (omega arith),
-  link _ _ _ _ (c .before .before .put .ensures .1) (link _ _ _ _ (c .before .before .before .before .before .before .before .put-after3 .ensures .1) (link _ _ _ _ (c .before .before .before .before .before .before .before .before .before .before .before .before .put-after2 .ensures .1)
-      (link _ _ _ _ (c .before .before .before .before .before .before .before .before .before .before .before .before .before .before .before .before .before .put-after .ensures .1) (c .before .before .before .before .before .before .before .before .before .before .before .before .before .before .before .before .before .before .before .before .before .before .put-number .ensures .1)))),
+  let p = c .before .before in
+      let q = p .before .before .before .before .before in
+      let r = q .before .before .before .before .before in
+      let s = r .before .before .before .before .before in
+      let number = s .before .before .before .before .before .put-number .ensures .1 in
+      link _ _ _ _ (p .put .ensures .1) (link _ _ _ _ (q .put-after3 .ensures .1) (link _ _ _ _ (r .put-after2 .ensures .1) (link _ _ _ _ (s .put-after .ensures .1) number))),
 )
 
 pub event-line-spec : {M : Type 1} → statement M

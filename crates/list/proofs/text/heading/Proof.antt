@@ -35,10 +35,14 @@ same-length c = search needs
 
 returns : tie.Need-returns
 unfolding meaning.heading
-returns c = (
-  counted _ _ (omega arith),
-  link _ _ _ _ (c .before .before .put .ensures .1) (link _ _ _ _ (c .before .before .before .before .before .before .before .put-after3 .ensures .1) (link _ _ _ _ (c .before .before .before .before .before .before .before .before .before .before .before .before .put-after2 .ensures .1) (c .before .before .before .before .before .before .before .before .before .before .before .before .before .before .before .before .before .put-after .ensures .1))),
-)
+returns c =
+    let p = c .before .before in
+    let q = p .before .before .before .before .before in
+    let r = q .before .before .before .before .before in
+    let s = r .before .before .before .before .before in (
+      counted _ _ (omega arith),
+      link _ _ _ _ (p .put .ensures .1) (link _ _ _ _ (q .put-after3 .ensures .1) (link _ _ _ _ (r .put-after2 .ensures .1) (s .put-after .ensures .1))),
+    )
 
 pub heading-spec : {M : Type 1} → statement M
 heading-spec =

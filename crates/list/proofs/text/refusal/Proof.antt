@@ -29,10 +29,13 @@ same-length c = search needs
 
 returns : tie.Need-returns
 unfolding meaning.refusal
-returns c = (
-  counted _ _ (omega arith),
-  link _ _ _ _ (c .before .before .put .ensures .1) (link _ _ _ _ (c .before .before .before .before .before .before .before .put-after2 .ensures .1) (c .before .before .before .before .before .before .before .before .before .before .before .before .put-after .ensures .1)),
-)
+returns c =
+    let p = c .before .before in
+    let q = p .before .before .before .before .before in
+    let r = q .before .before .before .before .before in (
+      counted _ _ (omega arith),
+      link _ _ _ _ (p .put .ensures .1) (link _ _ _ _ (q .put-after2 .ensures .1) (r .put-after .ensures .1)),
+    )
 
 pub refusal-spec : {M : Type 1} → statement M
 refusal-spec =
