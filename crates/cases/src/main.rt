@@ -1,9 +1,14 @@
-// Runs code cases from standard input through the proved leaves, and prints the answer of each on a line.
-// A case is a byte that says what is asked, the number of its bytes, five words, the highest byte first, and the bytes (`ask`).
+// Runs the vectors from standard input through the proved code, and prints the answer of each.
+// A code case is a byte below 32 that says what is asked (`ask`), the number of its bytes, five words, the highest byte first, and the bytes.
+// A payload case is the byte 32, a byte 0, six words (table words, payload bytes, root name, root type, event words and text bytes lent), the table,
+// and the payload (`payload`).
 mod ask;
+mod payload;
 
 use ask::Case;
 use ask::tell;
+use payload::tell_reading;
+ghost use mathlib.Core.Path.{_≡_};
 ghost use Prim.Native.Nat.{_+_, _≤_, _<_};
 ghost use lib.ListN.{length};
 
@@ -13,29 +18,41 @@ fn wide(x: u8) -> u32
     x as u32
 }
 
+// The number of two bytes.
+fn half(s: &[u8], i: usize) -> u32
+    requires { ⌜ i + 2 ≤ length (now s) ⌝ }
+    ensures { λ r. ⌜ r < 65536 ⌝ }
+{
+    wide(s[i]) * 256 + wide(s[i + 1])
+}
+
 // The word of four bytes.
 fn word(s: &[u8], i: usize) -> u32
     requires { ⌜ i + 4 ≤ length (now s) ⌝ }
 {
-    let high = wide(s[i]) * 256 + wide(s[i + 1]);
-    let low = wide(s[i + 2]) * 256 + wide(s[i + 3]);
-    high * 65536 + low
+    half(s, i) * 65536 + half(s, i + 2)
 }
 
-// Tells the case at a place, and answers the place past it; one that is cut off is the last.
-fn one(s: &[u8], at: usize) -> usize
+// Nothing more can be told.
+fn cut_off(s: &[u8]) -> usize
+    ensures { λ r. ⌜ r ≡ length (now (s .entry)) ⌝ }
+{
+    io::write_all(1, b"cut off\n");
+    s.len()
+}
+
+// Tells the code case at a place, and answers the place past it; one that is cut off is the last.
+fn code_case(s: &[u8], at: usize) -> usize
     requires { ⌜ at < length (now s) ⌝ }
     ensures { λ r. ⌜ at < r ⌝ }
 {
     let left = s.len() - at;
     if left < 22 {
-        io::write_all(1, b"cut off\n");
-        return s.len();
+        return cut_off(s);
     }
     let n = wide(s[at + 1]) as usize;
     if left - 22 < n {
-        io::write_all(1, b"cut off\n");
-        return s.len();
+        return cut_off(s);
     }
     let from = at + 22;
     let end = from + n;
@@ -51,6 +68,44 @@ fn one(s: &[u8], at: usize) -> usize
     end
 }
 
+// The payload case at a place, likewise.
+fn payload_case(s: &[u8], at: usize) -> usize
+    requires { ⌜ at < length (now s) ⌝ }
+    ensures { λ r. ⌜ at < r ⌝ }
+{
+    let left = s.len() - at;
+    if left < 26 {
+        return cut_off(s);
+    }
+    let words = word(s, at + 2) as usize;
+    let bytes = word(s, at + 6) as usize;
+    if (left - 26) / 4 < words {
+        return cut_off(s);
+    }
+    let table = at + 26;
+    let from = table + 4 * words;
+    if s.len() - from < bytes {
+        return cut_off(s);
+    }
+    let end = from + bytes;
+    let name = word(s, at + 10);
+    let t = word(s, at + 14);
+    let events = word(s, at + 18) as usize;
+    let texts = word(s, at + 22) as usize;
+    tell_reading(&s[table..from], name, t, &s[from..end], 4 * events, texts);
+    end
+}
+
+fn one(s: &[u8], at: usize) -> usize
+    requires { ⌜ at < length (now s) ⌝ }
+    ensures { λ r. ⌜ at < r ⌝ }
+{
+    if s[at] < 32 {
+        return code_case(s, at);
+    }
+    payload_case(s, at)
+}
+
 fn every(s: &[u8]) {
     let mut at: usize = 0;
     while at < s.len() {
@@ -59,7 +114,7 @@ fn every(s: &[u8]) {
 }
 
 fn main() {
-    let mut buf = io::large_buffer();
+    let mut buf = [0u8; 262144];
     let n = io::read_full(0, &mut buf);
     every(&buf[..n]);
 }

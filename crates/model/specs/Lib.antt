@@ -45,3 +45,6 @@ pub mod Flat
 pub mod ReadWays
 pub mod WriteWays
 pub mod Demand3Lists
+pub mod Named
+pub mod NamedReading
+pub mod NamedWriting

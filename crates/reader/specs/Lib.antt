@@ -7,3 +7,4 @@ pub mod Asked
 pub mod Ways
 pub mod Answers
 pub mod Root
+pub mod TwoTables

@@ -1,0 +1,110 @@
+-- A REFUSAL HAS A NUMBER, from 1 on: of the codes on the wire. NamedReading and NamedWriting say it of the entries.
+use Prim.Native.Nat.{ℕ, zero, suc, _+_, _*_, _≤_}
+use mathlib.Core.Bool.{Bool, true, false, cond}
+use native.Mathlib.Omega.{arith}
+use lib.Dec.{leb, ltb, eqb}
+use Rattle.wire.specs.Res.{Res, got, fault, _>>=_, _>>_, guard, atMost}
+use Rattle.wire.specs.Bits.{fixedAt}
+use Rattle.wire.specs.Width.{width}
+use Rattle.wire.specs.Number.{onesAt, groupsAt, number5, strict, read5}
+use Rattle.utf8.specs.Text.{textFault}
+use Rattle.value.specs.Code.{Code, choice, five, signed, some, shifted, choiceAt, numberAt, signedOf, someOf, codeAt}
+use Rattle.value.specs.Simple.{Simple, plain, text, count, bytesAt, unless, textOf, simpleAt}
+use Rattle.model.specs.Model.{Item}
+use Rattle.model.specs.Items.{Mode, flag, lengths, Form, present, simply, formOf, formAt, itemAt, lengthAt, headAt}
+
+abbrev pub Named : {A : Type 0} → Res A → Type 0
+Named (got a) = Unit
+Named (fault n) = 1 ≤ n
+
+module _ {B : Type 0} where
+  pub named-bind : {A : Type 0} (m : Res A) (k : A → Res B) → Named m → ((a : A) → Named (k a)) → Named (m >>= k)
+  unfolding _>>=_
+  named-bind (got a) k h f = f a
+  named-bind (fault n) k h f = h
+
+  pub named-cond : (t : Bool) (x y : Res B) → Named x → Named y → Named (cond t x y)
+  named-cond true x y h k = h
+  named-cond false x y h k = k
+
+  pub named-guard : (t : Bool) (e : ℕ) (m : Res B) → 1 ≤ e → Named m → Named (guard t e >> m)
+  unfolding _>>_ guard
+  named-guard true e m h k = k
+  named-guard false e m h k = h
+
+  pub named-most : (a b e : ℕ) (m : Res B) → 1 ≤ e → Named m → Named (atMost a b e >> m)
+  unfolding atMost
+  named-most a b e m h k = named-guard (leb a b) e m h k
+
+  pub named-unless : (n : ℕ) (m : Res B) → Named m → Named (unless n >> m)
+  unfolding _>>_ unless
+  named-unless zero m h = h
+  named-unless (suc n) m h = omega arith
+
+-- the codes
+module _ (b : ℕ → ℕ) (wall : ℕ) where
+  fixed-named : (at w : ℕ) → Named (fixedAt b wall at w)
+  unfolding fixedAt
+  fixed-named at w = named-cond (leb (at + w) wall) _ _ tt (omega arith)
+
+  ones-named : (f at k : ℕ) → Named (onesAt f b wall at k)
+  unfolding onesAt
+  ones-named zero at k = omega arith
+  ones-named (suc f) at k = named-cond (ltb at wall) _ _ (named-cond (eqb (b at) 0) _ _ tt (ones-named f (at + 1) (k + 1))) (omega arith)
+
+  five-named : (at : ℕ) → Named (read5 b wall at)
+  unfolding read5 strict number5 groupsAt
+  five-named at =
+      named-bind (number5 b wall at) _
+      (named-bind (onesAt 8 b wall at 0) _ (ones-named 8 at 0) (λ r. named-bind (fixedAt b wall (r .1) (4 * (r .0 + 1))) _ (fixed-named (r .1) (4 * (r .0 + 1))) (λ s. tt)))
+      (λ r. named-cond (r .2) _ _ tt (omega arith))
+
+  choice-named : (n at : ℕ) → Named (choiceAt b n wall at)
+  unfolding choiceAt
+  choice-named n at = named-bind (fixedAt b wall at (width n)) _ (fixed-named at (width n)) (λ r. named-most (r .0 + 1) n 14 _ (omega arith) tt)
+
+  signed-named : (s m p : ℕ) → Named (signedOf s m p)
+  unfolding signedOf
+  signed-named zero m p = named-most _ _ 13 _ (omega arith) tt
+  signed-named (suc k) m p = named-most _ _ 13 _ (omega arith) (named-most _ _ 15 _ (omega arith) tt)
+
+  some-named : (rd : ℕ → Res (ℕ × ℕ)) → ((p : ℕ) → Named (rd p)) → (f p : ℕ) → Named (someOf rd f p)
+  unfolding someOf
+  some-named rd h zero p = tt
+  some-named rd h (suc k) p = named-bind (rd p) _ (h p) (λ r. named-most _ _ 14 _ (omega arith) tt)
+
+  code-named : (c : Code) (at : ℕ) → Named (codeAt c b wall at)
+  unfolding codeAt numberAt
+  code-named (choice n) at = choice-named n at
+  code-named (five most) at = named-bind (read5 b wall at) _ (five-named at) (λ r. named-most _ _ 13 _ (omega arith) tt)
+  code-named signed at =
+      named-bind (choiceAt b 2 wall at) _ (choice-named 2 at) (λ r. named-bind (read5 b wall (r .1)) _ (five-named (r .1)) (λ s. signed-named (r .0) (s .0) (s .1)))
+  code-named (some c) at = named-bind (choiceAt b 2 wall at) _ (choice-named 2 at) (λ r. some-named (codeAt c b wall) (code-named c) (r .0) (r .1))
+  code-named (shifted lo c) at = named-bind (codeAt c b wall at) _ (code-named c at) (λ r. named-most _ _ 13 _ (omega arith) tt)
+
+  simple-named : (s : Simple) (at : ℕ) → Named (simpleAt s b wall at)
+  unfolding simpleAt textOf
+  simple-named (plain c) at = named-bind (codeAt c b wall at) _ (code-named c at) (λ r. tt)
+  simple-named text at =
+      named-bind (codeAt count b wall at) _ (code-named count at)
+      (λ r. named-most _ _ 5 _ (omega arith) (named-unless (textFault (bytesAt b (r .1) (r .0))) _ tt))
+
+  form-named : (f : Form) (at : ℕ) → Named (formAt f b wall at)
+  unfolding formAt
+  form-named present at = tt
+  form-named (simply s) at = simple-named s at
+
+  pub item-named : (i : Item) (at : ℕ) → Named (itemAt i b wall at)
+  unfolding itemAt
+  item-named i at = form-named (formOf i) at
+
+  length-named : (f type at : ℕ) → Named (lengthAt f b type wall at)
+  unfolding lengthAt
+  length-named zero type at = tt
+  length-named (suc k) type at = named-bind (codeAt lengths b wall at) _ (code-named lengths at) (λ r. named-most _ _ 10 _ (omega arith) tt)
+
+  pub head-named : (mode : Mode) (type at : ℕ) → Named (headAt mode b type wall at)
+  unfolding headAt
+  head-named Mode.never type at = tt
+  head-named Mode.optional type at = named-bind (codeAt flag b wall at) _ (code-named flag at) (λ r. length-named (r .0) type (r .1))
+  head-named Mode.always type at = length-named 1 type at
