@@ -6,7 +6,7 @@ CFLAGS = -O2
 # What every C file here is compiled with, besides.
 STRICT = -std=c99 -pedantic -Wall -Wextra -Wconversion -Wsign-conversion -Werror -Iinclude -Itools
 ARCHIVE = target/staticlib/libhost.a
-PROGRAMS = host explain holds pack refusals
+PROGRAMS = host explain holds pack refusals faults
 VERSION = 1.0
 
 # The gate: what has to pass before anything is merged.

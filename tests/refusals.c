@@ -120,7 +120,7 @@ static int all_zero(const uint8_t *bytes, size_t length)
     return 1;
 }
 
-/* Makes the call that was gathered; *zero tells whether every output buffer came back 0 throughout. */
+/* Makes the call that was gathered; *zero tells whether every output buffer came back 0 throughout. (The area is judged below.) */
 static uint32_t call(int *zero)
 {
     char copy[256], *rest;
@@ -170,7 +170,7 @@ static void print_row(uint32_t number)
 {
     const char *unit = number == BIM_TABLE ? "word" : strncmp(now.asked, "write", 5) == 0 ? "event" : "bit";
     uint32_t i;
-    printf("| %lu | %s | %s", (unsigned long)number, now.why, now.table->name);
+    printf("| %lu | %s | %s | %s", (unsigned long)number, bim_refusal_name(number), now.why, now.table->name);
     if (strcmp(now.asked, "check") != 0)
         printf(", %lu, %lu", (unsigned long)now.root_name, (unsigned long)now.root_type);
     printf(" | `%s`", now.asked);
@@ -200,6 +200,7 @@ static void try_case(const char *expected)
     char got[512];
     int zero;
     const uint32_t number = call(&zero);
+    zero = zero && all_zero(number == BIM_AREA_SIZE ? area : area + 4, number == BIM_AREA_SIZE ? now.area : 16);
     answer_of(number, got, sizeof got);
     cases++;
     if (strcmp(got, expected) != 0 || number != now.number || !zero) {
@@ -221,7 +222,7 @@ static void print_tables(void)
     printf("| table | words |\n|---|---|\n");
     for (i = 0; i < table_count; i++)
         printf("| %s |%s |\n", tables[i].name, tables[i].words);
-    printf("\n| no. | shown by | table, root | asked | answer |\n|---|---|---|---|---|\n");
+    printf("\n| no. | refused because | shown by | table, root | asked | answer |\n|---|---|---|---|---|---|\n");
 }
 
 int main(int argc, char **argv)

@@ -16,6 +16,12 @@ static void print_name(uint32_t name)
         printf(" (%s)", names[name]);
 }
 
+/* ", 1 type", ", 2 types". */
+static void print_count(const char *what, uint32_t count)
+{
+    printf(", %lu %s%s", (unsigned long)count, what, count == 1 ? "" : "s");
+}
+
 /* "row 3", "rows 1 to 2". */
 static void print_rows(const char *what, uint32_t first, uint32_t count)
 {
@@ -105,8 +111,11 @@ int main(int argc, char **argv)
         printf("wrong at word %lu: %s\n", (unsigned long)place, why.words);
         return 1;
     }
-    printf("right: %lu words, %lu types, %lu attribute rows, %lu particle rows\n", (unsigned long)(bytes / 4),
-           (unsigned long)bim_types(table), (unsigned long)bim_attributes(table), (unsigned long)bim_particles(table));
+    printf("right: %lu words", (unsigned long)(bytes / 4));
+    print_count("type", bim_types(table));
+    print_count("attribute row", bim_attributes(table));
+    print_count("particle row", bim_particles(table));
+    putchar('\n');
     for (row = 0; row < bim_types(table); row++)
         print_type(row);
     for (row = 0; row < bim_attributes(table); row++)

@@ -70,15 +70,16 @@ static int fault_rows(struct sentence *s, uint32_t first, uint32_t count, uint32
 {
     if (first <= there && count <= there - first)
         return 0;
-    say(s, "%lu rows from %lu pass the %lu there are", (unsigned long)count, (unsigned long)first, (unsigned long)there);
+    say(s, "%lu row%s from %lu pass%s the %lu there are", (unsigned long)count, count == 1 ? "" : "s", (unsigned long)first,
+        count == 1 ? "es" : "", (unsigned long)there);
     return 1;
 }
 
-static int fault_zero(struct sentence *s, uint32_t word, const char *whose)
+static int fault_zero(struct sentence *s, uint32_t word, const char *a, const char *what)
 {
     if (word == 0)
         return 0;
-    say(s, "%lu, and %s has 0 here", (unsigned long)word, whose);
+    say(s, "%lu, and %s %s has 0 here", (unsigned long)word, a, what);
     return 1;
 }
 
@@ -103,7 +104,7 @@ static int fault_length(struct sentence *s, const uint8_t *table, size_t bytes)
     else if (bytes < 16)
         say(s, "%lu words, and the header alone has 4", (unsigned long)(bytes / 4));
     else
-        say(s, "%lu words, and %lu types, %lu attribute rows and %lu particle rows take %lu", (unsigned long)(bytes / 4),
+        say(s, "%lu words, and a header of %lu, %lu and %lu rows asks for %lu", (unsigned long)(bytes / 4),
             (unsigned long)bim_types(table), (unsigned long)bim_attributes(table), (unsigned long)bim_particles(table),
             (unsigned long)bim_particle_at(table, bim_particles(table)));
     return 1;
@@ -114,9 +115,9 @@ static int fault_content(struct sentence *s, const uint8_t *table, struct bim_ty
 {
     const uint32_t word = i == 4 ? type.a : i == 5 ? type.b : type.c;
     if (type.content == BIM_EMPTY)
-        return fault_zero(s, word, "an empty type");
+        return fault_zero(s, word, "an", "empty type");
     if (type.content == BIM_PARTICLES)
-        return i == 4 ? fault_below(s, "row", word, bim_particles(table)) : fault_zero(s, word, "a type of particles");
+        return i == 4 ? fault_below(s, "row", word, bim_particles(table)) : fault_zero(s, word, "a", "type of particles");
     if (i == 4) {
         if (word <= BIM_FLOAT)
             return 0;
@@ -126,12 +127,12 @@ static int fault_content(struct sentence *s, const uint8_t *table, struct bim_ty
     if (type.a == BIM_RANGED) {
         if (i == 5 || bim_signed(type.b) <= bim_signed(type.c))
             return 0;
-        say(s, "a range from %ld to %ld", (long)bim_signed(type.b), (long)bim_signed(type.c));
+        say(s, "the range from %ld to %ld is empty", (long)bim_signed(type.b), (long)bim_signed(type.c));
         return 1;
     }
     if (type.a == BIM_ENUMERATION && i == 5)
         return fault_between(s, " values", word, 1, 65536);
-    return fault_zero(s, word, simple_name(type.a));
+    return fault_zero(s, word, "kind", simple_name(type.a));
 }
 
 static int fault_type(struct sentence *s, const uint8_t *table, uint32_t row, uint32_t i)
@@ -201,12 +202,14 @@ static int fault_particle(struct sentence *s, const uint8_t *table, uint32_t row
     }
     say(s, "particle row %lu, %s, %s: ", (unsigned long)row, kinds[it.kind], words[it.kind][i - 1]);
     if (it.kind == BIM_ELEMENT)
-        return i == 1 ? fault_most(s, it.p, 65535) : i == 2 ? fault_below(s, "type", it.q, bim_types(table)) : fault_zero(s, it.r, "an element");
+        return i == 1   ? fault_most(s, it.p, 65535)
+               : i == 2 ? fault_below(s, "type", it.q, bim_types(table))
+                        : fault_zero(s, it.r, "an", kinds[it.kind]);
     if (i == 1)
         return fault_child(s, it.p, row, there);
     if (it.kind != BIM_OCCURS) {
         if (i == 3)
-            return fault_zero(s, it.r, it.kind == BIM_SEQUENCE ? "a sequence" : "a choice");
+            return fault_zero(s, it.r, "a", kinds[it.kind]);
         return fault_between(s, "", it.q, it.kind == BIM_SEQUENCE ? 1 : 2, 64) || fault_rows(s, it.p, it.q, there);
     }
     if (i == 2)
