@@ -3,8 +3,8 @@
  *
  * BYTES. A buffer is a pointer and then its length in bytes; a null pointer is fine where the length is 0. Words are 4 bytes, names in
  * the area 2, the most significant byte first. Every buffer is the caller's, before and after a call: nothing is kept, nothing is
- * allocated (a call takes up to about 300 KB of the stack), and no other byte is read or written. Any bytes and any lengths are
- * answered.
+ * allocated (a call takes up to about 300 KB of the stack), and no other byte is read or written, so calls may run in several threads
+ * at once. Any bytes and any lengths are answered.
  *
  * THE CALLER'S ONE DUTY: a buffer that a call writes overlaps no other buffer of that call. Buffers that are only read may overlap.
  *
@@ -89,7 +89,8 @@ enum {
 /* THE AREA, word by word; it has BIM_AREA bytes. */
 static inline uint32_t bim_word(const uint8_t *bytes)
 {
-    return (uint32_t)bytes[0] << 24 | (uint32_t)bytes[1] << 16 | (uint32_t)bytes[2] << 8 | (uint32_t)bytes[3];
+    const uint32_t high = bytes[0], next = bytes[1], third = bytes[2], low = bytes[3];
+    return high << 24 | next << 16 | third << 8 | low;
 }
 static inline uint32_t bim_area_place(const uint8_t *area) { return bim_word(area); }
 static inline uint32_t bim_area_mode(const uint8_t *area) { return bim_word(area + 4); }
@@ -100,14 +101,16 @@ static inline uint32_t bim_area_names(const uint8_t *area) { return bim_word(are
 /* Name i of the path, i below bim_area_names, 0 the outermost. */
 static inline uint32_t bim_area_name(const uint8_t *area, uint32_t i)
 {
-    return (uint32_t)area[24 + 2 * i] << 8 | (uint32_t)area[25 + 2 * i];
+    const uint32_t high = area[24 + 2 * i], low = area[25 + 2 * i];
+    return high << 8 | low;
 }
 
 /* EVENT i of a list, i below bim_area_events. */
-static inline uint32_t bim_event_kind(const uint8_t *events, uint32_t i) { return bim_word(events + (size_t)BIM_EVENT * i); }
-static inline uint32_t bim_event_p(const uint8_t *events, uint32_t i) { return bim_word(events + (size_t)BIM_EVENT * i + 4); }
-static inline uint32_t bim_event_q(const uint8_t *events, uint32_t i) { return bim_word(events + (size_t)BIM_EVENT * i + 8); }
-static inline uint32_t bim_event_bits(const uint8_t *events, uint32_t i) { return bim_word(events + (size_t)BIM_EVENT * i + 12); }
+static inline const uint8_t *bim_event(const uint8_t *events, size_t i) { return events + BIM_EVENT * i; }
+static inline uint32_t bim_event_kind(const uint8_t *events, size_t i) { return bim_word(bim_event(events, i)); }
+static inline uint32_t bim_event_p(const uint8_t *events, size_t i) { return bim_word(bim_event(events, i) + 4); }
+static inline uint32_t bim_event_q(const uint8_t *events, size_t i) { return bim_word(bim_event(events, i) + 8); }
+static inline uint32_t bim_event_bits(const uint8_t *events, size_t i) { return bim_word(bim_event(events, i) + 12); }
 
 /* A number in words; never null. */
 static inline const char *bim_refusal_name(uint32_t number)
@@ -142,15 +145,25 @@ static inline const char *bim_refusal_name(uint32_t number)
     }
 }
 
-/* Judges a table: BIM_ACCEPTED, BIM_TABLE or BIM_AREA_SIZE. Writes the area only. */
+/* Judges a table: BIM_ACCEPTED, BIM_TABLE or BIM_AREA_SIZE.
+ *
+ *     table      the words of a schema table
+ *     area       written */
 uint32_t bim_check_table(const uint8_t *table, size_t table_bytes,
                          uint8_t *area, size_t area_bytes);
 
-/* Reads a payload whose root element has this name and this type of the table.
+/* Reads a payload.
  *
- * Written: events, texts, area. events has room for events_bytes / 16 events, at most 2,048; texts for texts_bytes bytes. On acceptance
- * events holds the events one after another, four words each (kind, p, q, bits taken), texts the bytes of the texts one after another,
- * and what is left of both is 0. Refusals come in this order: 24, 1, 2, 3, 4, then 5 to 16 item by item, then 17. */
+ *     table      the words of the schema table; it is judged on every call
+ *     root_name  the name of the root element, at most 65,535: it comes back in the first event and in the path
+ *     root_type  the root's type row, below T
+ *     payload    1 to 8,192 bytes, the mode byte first
+ *     events     written: room for events_bytes / 16 events, of which at most 2,048 are used. On acceptance the events one after another,
+ *                four words each (kind, p, q, bits taken); what is left is 0
+ *     texts      written: room for texts_bytes bytes. On acceptance the bytes of the texts one after another; what is left is 0
+ *     area       written
+ *
+ * Refusals come in this order: 24, 1, 2, 3, 4, then 5 to 16 item by item, then 17. */
 uint32_t bim_read(const uint8_t *table, size_t table_bytes,
                   uint32_t root_name, uint32_t root_type,
                   const uint8_t *payload, size_t payload_bytes,
@@ -158,13 +171,17 @@ uint32_t bim_read(const uint8_t *table, size_t table_bytes,
                   uint8_t *texts, size_t texts_bytes,
                   uint8_t *area, size_t area_bytes);
 
-/* Writes a list of events, as bim_read gives them, as a payload with this mode of length coding (0, 1 or 2). The fourth word of an
- * event is ignored.
+/* Writes a list of events, as bim_read gives them, as a payload.
  *
- * Written: payload, area. On acceptance payload holds the (bits + 7) / 8 bytes of the payload, and what is left of it is 0; events and
- * text in the area are those of the list. Refusals come in this order: 24, 1, 2, 22, 18 at events_bytes / 16 for bytes that are no
- * whole list of at most 2,048 events, then 6, 9, 16, 18, 19, 20 and 23 event by event, 18 or 19 for events and 23 for text bytes that
- * are left over, then 21. */
+ *     table, root_name, root_type    as for bim_read
+ *     mode       of length coding: 0 none, 1 where an event Start says so, 2 always
+ *     events     the list, of 16 bytes each, at most 2,048; the fourth word of an event is ignored
+ *     texts      the bytes of the texts one after another, all of which the list uses
+ *     payload    written: on acceptance its first (bits + 7) / 8 bytes are the payload; what is left is 0
+ *     area       written: on acceptance mode, events and text are those given, bits those of the payload before its padding
+ *
+ * Refusals come in this order: 24, 1, 2, 22, 18 at events_bytes / 16 for bytes that are no whole list of at most 2,048 events, then 6, 9,
+ * 16, 18, 19, 20 and 23 event by event, 18 or 19 for events and 23 for text bytes that are left over, then 21. */
 uint32_t bim_write(const uint8_t *table, size_t table_bytes,
                    uint32_t root_name, uint32_t root_type,
                    uint32_t mode,

@@ -48,7 +48,7 @@ struct bim_particle {
 };
 
 /* Word i. */
-static inline uint32_t bim_table_word(const uint8_t *table, uint32_t i) { return bim_word(table + (size_t)4 * i); }
+static inline uint32_t bim_table_word(const uint8_t *table, size_t i) { return bim_word(table + 4 * i); }
 
 /* T, A and P. */
 static inline uint32_t bim_types(const uint8_t *table) { return bim_table_word(table, 1); }
@@ -99,7 +99,11 @@ static inline struct bim_particle bim_particle_row(const uint8_t *table, uint32_
 }
 
 /* The number that a word is in two's complement. */
-static inline int64_t bim_signed(uint32_t word) { return word < 0x80000000u ? (int64_t)word : (int64_t)word - 0x100000000; }
+static inline int64_t bim_signed(uint32_t word)
+{
+    const int64_t value = word;
+    return value < 0x80000000 ? value : value - 0x100000000;
+}
 
 #ifdef __cplusplus
 }
