@@ -1,12 +1,13 @@
 # Two commands for everybody (run, test), two for C programmers (host, install), the rest for those who work here.
-.PHONY: test run host install fuzz peer fmt quotes
+.PHONY: test run host install fuzz peer fmt face quotes
 
 PREFIX = /usr/local
 CFLAGS = -O2
 # What every C file here is compiled with, besides.
 STRICT = -std=c99 -pedantic -Wall -Wextra -Wconversion -Wsign-conversion -Werror -Iinclude -Itools
 ARCHIVE = target/staticlib/libhost.a
-PROGRAMS = host explain holds pack refusals faults
+PROGRAMS = host explain holds pack
+TRIALS = refusals faults
 VERSION = 1.0
 
 # The gate: what has to pass before anything is merged.
@@ -42,8 +43,12 @@ install: $(ARCHIVE)
 	printf '%s\n' 'prefix=$(abspath $(PREFIX))' 'Name: bim' 'Description: Proved reader and writer of BiM guide fragments' \
 	    'Version: $(VERSION)' 'Cflags: -I$${prefix}/include' 'Libs: -L$${prefix}/lib -lbim' >$(DESTDIR)$(PREFIX)/lib/pkgconfig/bim.pc
 
-# Writes anew what the documents quote of the programs' output; the gate compares it.
-quotes: host
+# The headers, the C programs and what the documents quote of them: the gate's part for the C side.
+face: host $(TRIALS:%=target/c/%)
+	bash tests/face
+
+# Writes anew what the documents quote.
+quotes: host $(TRIALS:%=target/c/%)
 	bash tests/quotes --write
 
 # The proved C calls against the peer, from a new seed, for about 5 million cases.
