@@ -1,5 +1,14 @@
-# Two commands for everybody (README.md), two for those who work here.
-.PHONY: test run fuzz peer fmt
+# Two commands for everybody (run, test), two for C programmers (host, install), the rest for those who work here.
+.PHONY: test run host install fuzz peer fmt face quotes
+
+PREFIX = /usr/local
+CFLAGS = -O2
+# What every C file here is compiled with, besides.
+STRICT = -std=c99 -pedantic -Wall -Wextra -Wconversion -Wsign-conversion -Werror -Iinclude -Itools
+ARCHIVE = target/staticlib/libhost.a
+PROGRAMS = host explain holds pack
+TRIALS = refusals faults
+VERSION = 1.0
 
 # The gate: what has to pass before anything is merged.
 test:
@@ -10,6 +19,37 @@ run:
 	@mkdir -p target
 	@rt check list >target/run.log 2>&1 || { cat target/run.log; exit 1; }
 	@target/bin/list <crates/list/stdin
+
+# The small receiver and the table curator's programs, in target/c.
+host: $(PROGRAMS:%=target/c/%)
+
+vpath %.c examples tools tests
+target/c/%: %.c $(ARCHIVE) $(wildcard include/*.h tools/*.h)
+	@mkdir -p target/c
+	$(CC) $(STRICT) $(CFLAGS) $< $(ARCHIVE) -o $@
+
+# The C calls, proved and then compiled: some minutes from nothing. Any change below crates/ proves them again.
+$(ARCHIVE): crates.txt $(shell find crates -path '*/src/*.rt' -o -path '*/specs/*.antt' -o -path '*/proofs/*.antt')
+	@mkdir -p target
+	@echo "rt staticlib host (proves the C calls first)"
+	@rt staticlib host >target/host.log 2>&1 || { cat target/host.log; exit 1; }
+	@touch $@
+
+# Library, headers and pkg-config file.
+install: $(ARCHIVE)
+	install -d $(DESTDIR)$(PREFIX)/lib/pkgconfig $(DESTDIR)$(PREFIX)/include
+	install -m 644 $(ARCHIVE) $(DESTDIR)$(PREFIX)/lib/libbim.a
+	install -m 644 include/bim.h include/bim_table.h $(DESTDIR)$(PREFIX)/include
+	printf '%s\n' 'prefix=$(abspath $(PREFIX))' 'Name: bim' 'Description: Proved reader and writer of BiM guide fragments' \
+	    'Version: $(VERSION)' 'Cflags: -I$${prefix}/include' 'Libs: -L$${prefix}/lib -lbim' >$(DESTDIR)$(PREFIX)/lib/pkgconfig/bim.pc
+
+# The headers, the C programs and what the documents quote of them: the gate's part for the C side.
+face: host $(TRIALS:%=target/c/%)
+	bash tests/face
+
+# Writes anew what the documents quote.
+quotes: host $(TRIALS:%=target/c/%)
+	bash tests/quotes --write
 
 # The proved C calls against the peer, from a new seed, for about 5 million cases.
 fuzz:

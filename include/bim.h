@@ -1,11 +1,12 @@
-/* Table check, reader and writer of BiM fragment payloads (ISO/IEC 15938-1), for C99 and C++. Link libhost.a (rt staticlib host).
+/* Table check, reader and writer of BiM fragment payloads (ISO/IEC 15938-1), for C99 and C++.
+ * Link libbim.a (`make install PREFIX=..`, then `pkg-config --cflags --libs bim`). bim_table.h has the rows of a table.
  *
  * BYTES. A buffer is a pointer and then its length in bytes; a null pointer is fine where the length is 0. Words are 4 bytes, names in
  * the area 2, the most significant byte first. Every buffer is the caller's, before and after a call: nothing is kept, nothing is
- * allocated (a call takes up to about 300 KB of the stack), and no other byte is read or written. Any bytes and any lengths are
- * answered.
+ * allocated (a call takes up to about 300 KB of the stack), and no other byte is read or written, so calls may run in several threads
+ * at once. Any bytes and any lengths are answered.
  *
- * THE CALLER'S ONE DUTY: a buffer that a call writes overlaps no other buffer of that call.
+ * THE CALLER'S ONE DUTY: a buffer that a call writes overlaps no other buffer of that call. Buffers that are only read may overlap.
  *
  * THE ANSWER is the number that is returned, 0 or a refusal, and the area, which has exactly BIM_AREA bytes:
  *
@@ -17,12 +18,13 @@
  *             20..23     names    how many elements were open
  *             24..151    64 names of the open elements, the outermost first; unused names are 0
  *
- * On acceptance number, place and names are 0. On a refusal mode, events, text and bits are 0, and every output buffer is 0 throughout.
- * An area of another size is refused BIM_AREA_SIZE before anything else is looked at: the area, whatever its size, and every output
- * buffer are then 0 throughout. Under every other number the area is filled. It is part of the answer and no output buffer.
+ * On acceptance number, place and names are 0. On a refusal mode, events, text and bits are 0, and every output buffer is 0 throughout:
+ * nothing of a refused fragment is left to be taken for a reading. An area of another size is refused BIM_AREA_SIZE before anything
+ * else is looked at: the area, whatever its size, and every output buffer are then 0 throughout. Under every other number the area is
+ * filled. It is part of the answer and no output buffer.
  *
- * A TABLE is words as document 01 lays them out. One whose bytes are no multiple of 4 has the header of its whole words judged, and
- * then is refused BIM_TABLE at bytes / 4.
+ * A TABLE is words as document 01 lays them out (docs/TABLE.md). One whose bytes are no multiple of 4 has the header of its whole words
+ * judged, and then is refused BIM_TABLE at bytes / 4.
  */
 #ifndef BIM_H
 #define BIM_H
@@ -34,11 +36,25 @@
 extern "C" {
 #endif
 
-/* The bytes of an answer area, of an event, and the most events and payload bytes there are. */
+/* The bytes of an answer area and of an event; the most events, payload bytes, table bytes and open elements there are.
+ * Rooms that are never too small: BIM_MOST_EVENTS * BIM_EVENT bytes for events, BIM_MOST_PAYLOAD bytes for texts and for a payload. */
 #define BIM_AREA 152
 #define BIM_EVENT 16
 #define BIM_MOST_EVENTS 2048
 #define BIM_MOST_PAYLOAD 8192
+#define BIM_MOST_TABLE 35856
+#define BIM_MOST_NAMES 64
+
+/* The kinds of an event, and what its words p and q then are (else 0). Its fourth word is the bits that it took. */
+enum {
+    BIM_KIND_START = 1,     /* an element begins: p its name, q 1 where a length is coded; bits of flag and length */
+    BIM_KIND_ATTRIBUTE = 2, /* p its name, q 1 present (its Value follows) or 0 absent (none does); bits of its flag */
+    BIM_KIND_VALUE = 3,     /* p the value as its simple kind has it (bim_table.h); of a text its bytes, next in the texts */
+    BIM_KIND_PICK = 4,      /* p the branch of a choice, from 0 */
+    BIM_KIND_TIMES = 5,     /* p how often the row occurs that comes next */
+    BIM_KIND_END = 6,       /* the element that was begun last ends */
+    BIM_KIND_BLANK = 7      /* an element stepped over, as its type is not held: p its name, q its type; all bits of it */
+};
 
 /* The numbers given back, and what the place then is. An item is the bits of one event: in the reader its place is its first bit in
  * the payload, in the writer the index of the event, from 0. */
@@ -70,15 +86,84 @@ enum {
     BIM_AREA_SIZE = 24      /* the area has not BIM_AREA bytes: 0 */
 };
 
-/* Judges a table: BIM_ACCEPTED, BIM_TABLE or BIM_AREA_SIZE. Writes the area only. */
+/* THE AREA, word by word; it has BIM_AREA bytes. */
+static inline uint32_t bim_word(const uint8_t *bytes)
+{
+    const uint32_t high = bytes[0], next = bytes[1], third = bytes[2], low = bytes[3];
+    return high << 24 | next << 16 | third << 8 | low;
+}
+static inline uint32_t bim_area_place(const uint8_t *area) { return bim_word(area); }
+static inline uint32_t bim_area_mode(const uint8_t *area) { return bim_word(area + 4); }
+static inline uint32_t bim_area_events(const uint8_t *area) { return bim_word(area + 8); }
+static inline uint32_t bim_area_text(const uint8_t *area) { return bim_word(area + 12); }
+static inline uint32_t bim_area_bits(const uint8_t *area) { return bim_word(area + 16); }
+static inline uint32_t bim_area_names(const uint8_t *area) { return bim_word(area + 20); }
+/* Name i of the path, i below bim_area_names, 0 the outermost. */
+static inline uint32_t bim_area_name(const uint8_t *area, uint32_t i)
+{
+    const uint32_t high = area[24 + 2 * i], low = area[25 + 2 * i];
+    return high << 8 | low;
+}
+
+/* EVENT i of a list, i below bim_area_events. */
+static inline const uint8_t *bim_event(const uint8_t *events, size_t i) { return events + BIM_EVENT * i; }
+static inline uint32_t bim_event_kind(const uint8_t *events, size_t i) { return bim_word(bim_event(events, i)); }
+static inline uint32_t bim_event_p(const uint8_t *events, size_t i) { return bim_word(bim_event(events, i) + 4); }
+static inline uint32_t bim_event_q(const uint8_t *events, size_t i) { return bim_word(bim_event(events, i) + 8); }
+static inline uint32_t bim_event_bits(const uint8_t *events, size_t i) { return bim_word(bim_event(events, i) + 12); }
+
+/* A number in words; never null. */
+static inline const char *bim_refusal_name(uint32_t number)
+{
+    switch (number) {
+    case BIM_ACCEPTED: return "accepted";
+    case BIM_TABLE: return "table malformed";
+    case BIM_ROOT: return "root type not in the table, or root name over 65535";
+    case BIM_PAYLOAD_SIZE: return "payload empty or over 8192 bytes";
+    case BIM_MODE_BYTE: return "mode byte other than 0F, 4F, 8F";
+    case BIM_PAST_END: return "item passes the innermost declared end, or the payload's";
+    case BIM_DEPTH: return "more than 64 elements and particle rows open";
+    case BIM_EVENT_ROOM: return "no room for the event";
+    case BIM_TEXT_ROOM: return "no room for the text";
+    case BIM_NOT_HELD: return "type not held and no length";
+    case BIM_LENGTH: return "length passes the enclosing end";
+    case BIM_CONTENT_SHORT: return "content ends before its declared end";
+    case BIM_NOT_SHORTEST: return "number not in shortest form";
+    case BIM_TOO_LARGE: return "number too large";
+    case BIM_NO_SUCH_CODE: return "code names nothing";
+    case BIM_MINUS_ZERO: return "minus zero";
+    case BIM_NOT_UTF8: return "text not UTF-8";
+    case BIM_LEFT_OVER: return "8 or more bits left, or a 1 among them";
+    case BIM_NO_READING: return "list is no reading of the content model";
+    case BIM_BLANK: return "Blank in a list to be written";
+    case BIM_OUTSIDE_ROW: return "value, branch or count outside its row";
+    case BIM_PAYLOAD_ROOM: return "payload over 8192 bytes or the lent room";
+    case BIM_WRITE_MODE: return "write mode over 2";
+    case BIM_TEXT_BYTES: return "text bytes short, or left over";
+    case BIM_AREA_SIZE: return "answer area not 152 bytes";
+    default: return "no number of this library";
+    }
+}
+
+/* Judges a table: BIM_ACCEPTED, BIM_TABLE or BIM_AREA_SIZE.
+ *
+ *     table      the words of a schema table
+ *     area       written */
 uint32_t bim_check_table(const uint8_t *table, size_t table_bytes,
                          uint8_t *area, size_t area_bytes);
 
-/* Reads a payload whose root element has this name and this type of the table.
+/* Reads a payload.
  *
- * Written: events, texts, area. events has room for events_bytes / 16 events, at most 2,048; texts for texts_bytes bytes. On acceptance
- * events holds the events one after another, four words each (kind, p, q, bits taken), texts the bytes of the texts one after another,
- * and what is left of both is 0. Refusals come in this order: 24, 1, 2, 3, 4, then 5 to 16 item by item, then 17. */
+ *     table      the words of the schema table; it is judged on every call
+ *     root_name  the name of the root element, at most 65,535: it comes back in the first event and in the path
+ *     root_type  the root's type row, below T
+ *     payload    1 to 8,192 bytes, the mode byte first
+ *     events     written: room for events_bytes / 16 events, of which at most 2,048 are used. On acceptance the events one after another,
+ *                four words each (kind, p, q, bits taken); what is left is 0
+ *     texts      written: room for texts_bytes bytes. On acceptance the bytes of the texts one after another; what is left is 0
+ *     area       written
+ *
+ * Refusals come in this order: 24, 1, 2, 3, 4, then 5 to 16 item by item, then 17. */
 uint32_t bim_read(const uint8_t *table, size_t table_bytes,
                   uint32_t root_name, uint32_t root_type,
                   const uint8_t *payload, size_t payload_bytes,
@@ -86,13 +171,17 @@ uint32_t bim_read(const uint8_t *table, size_t table_bytes,
                   uint8_t *texts, size_t texts_bytes,
                   uint8_t *area, size_t area_bytes);
 
-/* Writes a list of events, as bim_read gives them, as a payload with this mode of length coding (0, 1 or 2). The fourth word of an
- * event is ignored.
+/* Writes a list of events, as bim_read gives them, as a payload.
  *
- * Written: payload, area. On acceptance payload holds the (bits + 7) / 8 bytes of the payload, and what is left of it is 0; events and
- * text in the area are those of the list. Refusals come in this order: 24, 1, 2, 22, 18 at events_bytes / 16 for bytes that are no
- * whole list of at most 2,048 events, then 6, 9, 16, 18, 19, 20 and 23 event by event, 18 or 19 for events and 23 for text bytes that
- * are left over, then 21. */
+ *     table, root_name, root_type    as for bim_read
+ *     mode       of length coding: 0 none, 1 where an event Start says so, 2 always
+ *     events     the list, of 16 bytes each, at most 2,048; the fourth word of an event is ignored
+ *     texts      the bytes of the texts one after another, all of which the list uses
+ *     payload    written: on acceptance its first (bits + 7) / 8 bytes are the payload; what is left is 0
+ *     area       written: on acceptance mode, events and text are those given, bits those of the payload before its padding
+ *
+ * Refusals come in this order: 24, 1, 2, 22, 18 at events_bytes / 16 for bytes that are no whole list of at most 2,048 events, then 6, 9,
+ * 16, 18, 19, 20 and 23 event by event, 18 or 19 for events and 23 for text bytes that are left over, then 21. */
 uint32_t bim_write(const uint8_t *table, size_t table_bytes,
                    uint32_t root_name, uint32_t root_type,
                    uint32_t mode,

@@ -12,6 +12,7 @@ pub mod code_cases;
 pub mod codes;
 pub mod demands;
 pub mod gen;
+pub mod guide;
 pub mod host;
 pub mod listing;
 pub mod model;

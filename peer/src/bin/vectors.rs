@@ -1,8 +1,9 @@
-//! `vectors` writes the vectors under examples/, and the input and output of the proved program `cases` made of them;
+//! `vectors` writes the vectors under examples/, the example tables and payloads, and the input and output of the proved program `cases` made of them;
 //! `vectors --check` asks the peer again for every one that stands there.
 
 use peer::cases::{self, Call};
 use peer::code_cases::code_case;
+use peer::guide;
 use peer::listing::listing;
 use peer::vectors::{again, block, code_line, codes_asked, vectors_of};
 use std::path::{Path, PathBuf};
@@ -67,6 +68,11 @@ fn write_all(root: &Path) -> io::Result<()> {
         fs::write(stem.with_extension("bin"), &input)?;
         fs::write(stem.with_extension("out"), listing(&input))?;
     }
+    for (name, bytes) in guide::files() {
+        let path = examples.join(name);
+        fs::create_dir_all(path.parent().unwrap_or(&examples))?;
+        fs::write(path, bytes)?;
+    }
     Ok(())
 }
 
@@ -112,6 +118,13 @@ fn check_all(root: &Path) -> io::Result<Vec<String>> {
         let now = listing(&fs::read(&input)?);
         if now != expected {
             faults.push(format!("{}:\n{now}", input.display()));
+        }
+    }
+    let files = guide::files();
+    println!("guide, worked: {} files", files.len());
+    for (name, bytes) in files {
+        if fs::read(examples.join(name))? != bytes {
+            faults.push(format!("{name}: not the bytes that vectors would write"));
         }
     }
     Ok(faults)

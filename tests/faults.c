@@ -1,0 +1,79 @@
+/* Makes a right table wrong in every word, and in its length, and prints explain's sentence for each: faults TABLE.
+ * Where the library finds a fault for which explain has no reason, it says so; exit status 1. */
+#include "faults.h"
+#include "files.h"
+
+static uint8_t table[BIM_MOST_TABLE + 8], area[BIM_AREA];
+static int unexplained;
+
+static void put(uint32_t at, uint32_t word)
+{
+    table[4 * at] = (uint8_t)(word >> 24);
+    table[4 * at + 1] = (uint8_t)(word >> 16);
+    table[4 * at + 2] = (uint8_t)(word >> 8);
+    table[4 * at + 3] = (uint8_t)word;
+}
+
+/* Whether the table is wrong now, and why. */
+static int wrong(size_t bytes, struct sentence *why)
+{
+    if (bim_check_table(table, bytes, area, sizeof area) == BIM_ACCEPTED)
+        return 0;
+    if (!fault_in_words(why, table, bytes, bim_area_place(area))) {
+        printf("UNEXPLAINED: ");
+        unexplained = 1;
+    }
+    return 1;
+}
+
+/* Of a word's wrong values, from 0 up, the first, and the first that is blamed on another word. */
+static void try_word(uint32_t at, size_t bytes)
+{
+    static const uint32_t values[] = {0, 1, 2, 3, 4, 5, 7, 18, 63, 64, 65, 257, 1025, 65536, 65537, 0x7fffffff, 0x80000000u,
+                                      0xffffffffu};
+    const uint32_t right = bim_table_word(table, at);
+    struct sentence why;
+    unsigned shown = 0;
+    uint32_t place = 0;
+    size_t i;
+    for (i = 0; i < sizeof values / sizeof values[0]; i++) {
+        put(at, values[i]);
+        if (wrong(bytes, &why) && (shown == 0 || (shown == 1 && bim_area_place(area) != place))) {
+            place = bim_area_place(area);
+            printf("word %lu is %lu: wrong at word %lu: %s\n", (unsigned long)at, (unsigned long)values[i], (unsigned long)place,
+                   why.words);
+            shown++;
+        }
+    }
+    if (shown == 0)
+        printf("word %lu: no value tried is wrong\n", (unsigned long)at);
+    put(at, right);
+}
+
+static void try_length(size_t bytes)
+{
+    struct sentence why;
+    if (wrong(bytes, &why))
+        printf("%lu bytes: wrong at word %lu: %s\n", (unsigned long)bytes, (unsigned long)bim_area_place(area), why.words);
+    else
+        printf("%lu bytes: right\n", (unsigned long)bytes);
+}
+
+int main(int argc, char **argv)
+{
+    size_t bytes;
+    uint32_t at;
+    if (argc != 2 || !read_file(argv[1], table, BIM_MOST_TABLE, &bytes))
+        return 2;
+    for (at = 0; at < bytes / 4; at++)
+        try_word(at, bytes);
+    for (at = 0; at < 5; at++)
+        try_length((size_t)4 * at);
+    try_length(bytes - 4);
+    try_length(bytes - 1);
+    try_length(bytes);
+    try_length(bytes + 1);
+    try_length(bytes + 4);
+    try_length(BIM_MOST_TABLE + 4);
+    return unexplained;
+}

@@ -1,0 +1,108 @@
+/* Every inline function of the headers on bytes whose answer is plain; compiled as C and as C++. */
+#include "bim.h"
+#include "bim_table.h"
+#include <stdio.h>
+#include <string.h>
+
+static int failed;
+
+static void same(const char *what, long long got, long long expected)
+{
+    if (got == expected)
+        return;
+    printf("%s: %lld where %lld is expected\n", what, got, expected);
+    failed = 1;
+}
+
+/* Byte i is i + 128, so that each word and name differs and has its top bit set. */
+static void try_area(void)
+{
+    uint8_t area[BIM_AREA];
+    uint32_t i;
+    for (i = 0; i < BIM_AREA; i++)
+        area[i] = (uint8_t)(i + 128);
+    same("place", bim_area_place(area), 0x80818283);
+    same("mode", bim_area_mode(area), 0x84858687);
+    same("events", bim_area_events(area), 0x88898a8b);
+    same("text", bim_area_text(area), 0x8c8d8e8f);
+    same("bits", bim_area_bits(area), 0x90919293);
+    same("names", bim_area_names(area), 0x94959697);
+    same("name 0", bim_area_name(area, 0), 0x9899);
+    same("name 63", bim_area_name(area, BIM_MOST_NAMES - 1), 0x1617);
+}
+
+static void try_events(void)
+{
+    uint8_t events[3 * BIM_EVENT];
+    uint32_t i;
+    for (i = 0; i < sizeof events; i++)
+        events[i] = (uint8_t)(i + 200);
+    same("kind", bim_event_kind(events, 0), 0xc8c9cacb);
+    same("p", bim_event_p(events, 1), 0xdcdddedf);
+    same("q", bim_event_q(events, 2), 0xf0f1f2f3);
+    same("bits", bim_event_bits(events, 2), 0xf4f5f6f7);
+}
+
+static void try_rows(void)
+{
+    /* 2 types, 1 attribute row, 2 particle rows; each word after the header is its own index. */
+    uint8_t table[4 * 29];
+    uint32_t i;
+    memset(table, 0, sizeof table);
+    for (i = 0; i < 29; i++)
+        table[4 * i + 3] = (uint8_t)i;
+    table[7] = 2;
+    table[11] = 1;
+    table[15] = 2;
+    same("types", bim_types(table), 2);
+    same("attributes", bim_attributes(table), 1);
+    same("particles", bim_particles(table), 2);
+    same("words", bim_particle_at(table, 2), 29);
+    same("held", bim_type_row(table, 1).held, 11);
+    same("content", bim_type_row(table, 1).content, 12);
+    same("first attribute", bim_type_row(table, 1).first_attribute, 13);
+    same("attribute count", bim_type_row(table, 1).attributes, 14);
+    same("a", bim_type_row(table, 1).a, 15);
+    same("b", bim_type_row(table, 1).b, 16);
+    same("c", bim_type_row(table, 1).c, 17);
+    same("attribute name", bim_attribute_row(table, 0).name, 18);
+    same("required", bim_attribute_row(table, 0).required, 19);
+    same("attribute type", bim_attribute_row(table, 0).type, 20);
+    same("particle kind", bim_particle_row(table, 1).kind, 25);
+    same("particle p", bim_particle_row(table, 1).p, 26);
+    same("particle q", bim_particle_row(table, 1).q, 27);
+    same("particle r", bim_particle_row(table, 1).r, 28);
+    same("signed 2^31 - 1", bim_signed(0x7fffffff), 2147483647);
+    same("signed 2^31", bim_signed(0x80000000u), -2147483648LL);
+    same("signed 2^32 - 1", bim_signed(0xffffffffu), -1);
+}
+
+static void try_names(void)
+{
+    uint32_t one, other;
+    for (one = 0; one <= BIM_AREA_SIZE + 1; one++)
+        for (other = 0; other < one; other++)
+            if (strcmp(bim_refusal_name(one), bim_refusal_name(other)) == 0)
+                same("numbers of one name", one, other);
+    same("past the numbers", strcmp(bim_refusal_name(BIM_AREA_SIZE + 1), bim_refusal_name(0xffffffffu)), 0);
+}
+
+/* The three calls link, and take null pointers with lengths of 0. */
+static void try_calls(void)
+{
+    uint8_t area[BIM_AREA];
+    same("check", bim_check_table(NULL, 0, area, sizeof area), BIM_TABLE);
+    same("read", bim_read(NULL, 0, 0, 0, NULL, 0, NULL, 0, NULL, 0, area, sizeof area), BIM_TABLE);
+    same("write", bim_write(NULL, 0, 0, 0, 0, NULL, 0, NULL, 0, NULL, 0, area, sizeof area), BIM_TABLE);
+    same("no area", bim_check_table(NULL, 0, NULL, 0), BIM_AREA_SIZE);
+}
+
+int main(void)
+{
+    try_area();
+    try_events();
+    try_rows();
+    try_names();
+    try_calls();
+    return failed;
+}

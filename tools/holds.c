@@ -1,0 +1,84 @@
+/* Compares two table files by their held marks.
+ *
+ *     holds [-n NAMES] ONE OTHER
+ *
+ * Exit status: 0 the same marks, 1 the marks differ and nothing else does, 2 a table is wrong or could not be read, 3 more than
+ * the marks differs, so that the two are not tables of one schema. */
+#include "faults.h"
+#include "files.h"
+
+static uint8_t tables[2][BIM_MOST_TABLE + 4], area[BIM_AREA];
+static size_t bytes[2];
+
+/* Reads and judges a table. */
+static int take_table(const char *path, int which)
+{
+    struct sentence why;
+    if (!read_file(path, tables[which], sizeof tables[which], &bytes[which]))
+        return 0;
+    if (bim_check_table(tables[which], bytes[which], area, sizeof area) == BIM_ACCEPTED)
+        return 1;
+    fault_in_words(&why, tables[which], bytes[which], bim_area_place(area));
+    printf("%s: wrong at word %lu: %s\n", path, (unsigned long)bim_area_place(area), why.words);
+    return 0;
+}
+
+/* Whether word i is a type row's held mark; both tables have the same header by then. */
+static int is_mark(uint32_t i)
+{
+    return i >= 4 && i < bim_attribute_at(tables[0], 0) && (i - 4) % 7 == 0;
+}
+
+/* The elements of a type, by name, as the curator knows them. */
+static void print_elements(uint32_t type)
+{
+    uint32_t row, count = 0;
+    for (row = 0; row < bim_particles(tables[0]); row++) {
+        const struct bim_particle it = bim_particle_row(tables[0], row);
+        if (it.kind == BIM_ELEMENT && it.q == type)
+            printf("%s%s", count++ == 0 ? ", of element " : ", ", name_of(it.p));
+    }
+}
+
+/* The types that one table holds and the other does not; answers how many. */
+static uint32_t print_held(char **paths, int holder)
+{
+    uint32_t type, count = 0;
+    for (type = 0; type < bim_types(tables[0]); type++)
+        if (bim_type_row(tables[holder], type).held && !bim_type_row(tables[1 - holder], type).held) {
+            printf("type %lu, held in %s alone", (unsigned long)type, paths[holder]);
+            print_elements(type);
+            putchar('\n');
+            count++;
+        }
+    return count;
+}
+
+int main(int argc, char **argv)
+{
+    uint32_t i, words, more, less;
+    argv = with_names(&argc, argv);
+    if (argv == NULL || argc != 3) {
+        fprintf(stderr, "holds [-n NAMES] ONE OTHER\n");
+        return 2;
+    }
+    if (!take_table(argv[1], 0) || !take_table(argv[2], 1))
+        return 2;
+    words = (uint32_t)((bytes[0] < bytes[1] ? bytes[0] : bytes[1]) / 4);
+    for (i = 0; i < words; i++)
+        if (!is_mark(i) && bim_table_word(tables[0], i) != bim_table_word(tables[1], i)) {
+            printf("not one schema: word %lu is %lu in %s and %lu in %s\n", (unsigned long)i,
+                   (unsigned long)bim_table_word(tables[0], i), argv[1], (unsigned long)bim_table_word(tables[1], i), argv[2]);
+            return 3;
+        }
+    more = print_held(argv + 1, 0);
+    less = print_held(argv + 1, 1);
+    if (more == 0 && less == 0)
+        printf("both hold the same types\n");
+    else if (more > 0 && less > 0)
+        printf("neither holds all that the other holds\n");
+    else
+        printf("%s holds all that %s holds, and %lu more\n", argv[more > 0 ? 1 : 2], argv[more > 0 ? 2 : 1],
+               (unsigned long)(more + less));
+    return more + less > 0;
+}
