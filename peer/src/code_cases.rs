@@ -1,14 +1,20 @@
-//! The vectors of examples/codes.txt as the proved program `cases` takes them, and the lines it has to print.
+//! The vectors of examples/codes.txt and examples/payloads.txt as the proved program `cases` takes them, and the lines it
+//! has to print.
 //!
-//! A case is a byte that says what is asked, the number of its bytes, five words, the highest byte first, and the bytes.
+//! A code case is a byte that says what is asked, the number of its bytes, five words, the highest byte first, and the bytes.
 //! A reading has its wall and its place in the first two words, a writing its value in the first; parameters follow.
+//! A payload case is the byte 32, a byte 0, six words (table words, payload bytes, root name, root type, event words and text
+//! bytes lent), the table, and the payload.
+
+use crate::cases::Call;
+use crate::vectors::call_of;
 
 /// What `cases` is asked, and what it has to print.
 #[derive(Clone, Debug, PartialEq, Eq)]
 pub struct CodeCase {
     /// Its bytes on standard input.
     pub input: Vec<u8>,
-    /// Its line, without the line's end.
+    /// Its lines, without the last line's end.
     pub line: String,
 }
 
@@ -49,6 +55,20 @@ pub fn code_case(vector: &str) -> Option<CodeCase> {
             read(number, asks, words.get(parameters + 3)?, &line)
         }
     }
+}
+
+/// The case of one block of payloads.txt: its answer's lines, and none of the lent bytes past list and texts that is not 0.
+pub fn payload_case(vector: &str) -> Option<CodeCase> {
+    let Call::Read { table, root, payload, event_words, text_room } = call_of(vector)? else { return None };
+    let sizes = [table.len(), payload.len(), root.0 as usize, root.1 as usize, event_words, text_room];
+    let mut input = vec![32, 0];
+    for size in sizes {
+        input.extend(u32::try_from(size).ok()?.to_be_bytes());
+    }
+    input.extend(table.iter().flat_map(|word| word.to_be_bytes()));
+    input.extend(payload);
+    let (_, answer) = vector.split_once("\nanswer ")?;
+    Some(CodeCase { input, line: format!("answer {}left 0 0", answer.strip_suffix("end\n")?) })
 }
 
 /// A word as the vectors have it: unsigned, or signed where a range has it so.

@@ -91,7 +91,7 @@ pub fn block(name: &str, call: &Call) -> String {
 }
 
 /// The call that a block holds.
-fn call_of(block: &str) -> Option<Call> {
+pub(crate) fn call_of(block: &str) -> Option<Call> {
     // What is asked stands before the answer; keys of the answer may be the same words.
     let asked = &block[..block.find("\nanswer ")? + 1];
     let line = |key: &str| {

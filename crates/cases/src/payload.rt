@@ -67,6 +67,7 @@ fn print_events(events: &[u8], n: usize) {
 
 fn print_texts(texts: &[u8], n: usize) {
     if n == 0 {
+        io::write_all(1, b"texts -\n");
         return;
     }
     io::write_all(1, b"texts ");
@@ -104,7 +105,9 @@ fn tell(number: u32, events: &[u8], texts: &[u8], area: &[u8; 152]) {
     print_answer(number, area);
     print_path(area);
     print_events(events, count);
-    print_texts(texts, bytes);
+    if number == 0 {
+        print_texts(texts, bytes);
+    }
     io::write_all(1, b"left ");
     io::print_decimal(1, left(events, 16 * count));
     io::write_all(1, b" ");

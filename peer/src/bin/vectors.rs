@@ -2,7 +2,7 @@
 //! `vectors --check` asks the peer again for every one that stands there.
 
 use peer::cases::{self, Call};
-use peer::code_cases::code_case;
+use peer::code_cases::{code_case, payload_case};
 use peer::guide;
 use peer::listing::listing;
 use peer::vectors::{again, block, code_line, codes_asked, vectors_of};
@@ -34,8 +34,9 @@ fn main() -> ExitCode {
 }
 
 /// What the program `cases` reads, and what it has to print.
-fn code_cases(codes: &str) -> (Vec<u8>, String) {
-    let cases: Vec<_> = vectors_of(codes).iter().filter_map(|vector| code_case(vector)).collect();
+fn program_cases(codes: &str, payloads: &str) -> (Vec<u8>, String) {
+    let mut cases: Vec<_> = vectors_of(codes).iter().filter_map(|vector| code_case(vector)).collect();
+    cases.extend(vectors_of(payloads).iter().filter_map(|vector| payload_case(vector)));
     let lines = cases.iter().map(|case| format!("{}\n", case.line)).collect();
     (cases.into_iter().flat_map(|case| case.input).collect(), lines)
 }
@@ -57,7 +58,7 @@ fn write_all(root: &Path) -> io::Result<()> {
         };
         texts[file].push_str(&block(&case.name, &case.call));
     }
-    let (input, lines) = code_cases(&texts[0]);
+    let (input, lines) = program_cases(&texts[0], &texts[2]);
     fs::write(root.join("crates/cases/stdin"), input)?;
     fs::write(root.join("crates/cases/stdout"), lines)?;
     for (file, text) in FILES.iter().zip(texts) {
@@ -101,12 +102,13 @@ fn check_all(root: &Path) -> io::Result<Vec<String>> {
             faults.push(format!("no vector shows {number}"));
         }
     }
-    let (input, lines) = code_cases(&fs::read_to_string(examples.join("codes.txt"))?);
-    println!("crates/cases: {} cases", lines.lines().count());
+    let file = |name| fs::read_to_string(examples.join(name));
+    let (input, lines) = program_cases(&file("codes.txt")?, &file("payloads.txt")?);
+    println!("crates/cases: {} bytes in, {} lines out", input.len(), lines.lines().count());
     if fs::read(root.join("crates/cases/stdin"))? != input
         || fs::read_to_string(root.join("crates/cases/stdout"))? != lines
     {
-        faults.push("crates/cases: stdin and stdout are not those of codes.txt".to_string());
+        faults.push("crates/cases: stdin and stdout are not those of codes.txt and payloads.txt".to_string());
     }
     let mut inputs: Vec<PathBuf> =
         fs::read_dir(examples.join("listing"))?.map(|entry| Ok(entry?.path())).collect::<io::Result<_>>()?;

@@ -1,5 +1,5 @@
 -- `left`: the loop ends.
-use Prim.Native.Nat.{_-_, _/_}
+use Prim.Native.Nat.{_-_}
 use borrow.Author.Needs.{needs}
 use lib.ListN.{length}
 use Rattle.cases.proofs.payload.left.Statement.{statement}

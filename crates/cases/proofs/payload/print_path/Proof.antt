@@ -1,7 +1,6 @@
 -- `print_path`: the loop ends.
-use Prim.Native.Nat.{_-_, _/_}
+use Prim.Native.Nat.{_-_}
 use borrow.Author.Needs.{needs}
-use lib.ListN.{length}
 use Rattle.cases.proofs.payload.print_path.Statement.{statement}
 use Rattle.cases.proofs.payload.print_path.Tie as tie
 

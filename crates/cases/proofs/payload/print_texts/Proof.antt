@@ -1,24 +1,30 @@
 -- `print_texts`: the loop ends.
-use Prim.Native.Nat.{_-_, _/_}
+use Prim.Native.Nat.{_-_}
 use borrow.Author.Needs.{needs}
 use lib.ListN.{length}
 use Rattle.cases.proofs.payload.print_texts.Statement.{statement}
 use Rattle.cases.proofs.payload.print_texts.Tie as tie
 
 abbrev Inv-loop : tie.InvT-loop
-Inv-loop texts n i₀ t5 i = Unit {0}
+Inv-loop texts n i₀ t6 i = Unit {0}
 
 abbrev μ-loop : tie.MeasureT-loop
-μ-loop texts n i₀ t5 i = length texts - i
-
-returns : tie.Need-returns Inv-loop μ-loop
-returns c = search needs
+μ-loop texts n i₀ t6 i = length texts - i
 
 slice-aggregate-write-all : tie.Need-slice-aggregate-write-all Inv-loop μ-loop
 slice-aggregate-write-all c = search needs
 
 write-all-requires : tie.Need-write-all-requires Inv-loop μ-loop
 write-all-requires c κs = search needs
+
+returns : tie.Need-returns Inv-loop μ-loop
+returns c = search needs
+
+slice-aggregate-write-all-2 : tie.Need-slice-aggregate-write-all-2 Inv-loop μ-loop
+slice-aggregate-write-all-2 c = search needs
+
+write-all-requires-2 : tie.Need-write-all-requires-2 Inv-loop μ-loop
+write-all-requires-2 c κs = search needs
 
 loop-holds : tie.Need-loop-holds Inv-loop μ-loop
 loop-holds c = search needs
@@ -44,11 +50,11 @@ loop-less c = search needs
 loop-again : tie.Need-loop-again Inv-loop μ-loop
 loop-again c = search needs
 
-slice-aggregate-write-all-2 : tie.Need-slice-aggregate-write-all-2 Inv-loop μ-loop
-slice-aggregate-write-all-2 c = search needs
+slice-aggregate-write-all-3 : tie.Need-slice-aggregate-write-all-3 Inv-loop μ-loop
+slice-aggregate-write-all-3 c = search needs
 
-write-all-requires-2 : tie.Need-write-all-requires-2 Inv-loop μ-loop
-write-all-requires-2 c κs = search needs
+write-all-requires-3 : tie.Need-write-all-requires-3 Inv-loop μ-loop
+write-all-requires-3 c κs = search needs
 
 returns-2 : tie.Need-returns-2 Inv-loop μ-loop
 returns-2 c = search needs
@@ -59,9 +65,11 @@ print-texts-spec =
     (tie.spec
     Inv-loop
     μ-loop
-    returns
     slice-aggregate-write-all
     write-all-requires
+    returns
+    slice-aggregate-write-all-2
+    write-all-requires-2
     loop-holds
     shared-slice-read-wide
     wide-requires
@@ -70,6 +78,6 @@ print-texts-spec =
     add-i
     loop-less
     loop-again
-    slice-aggregate-write-all-2
-    write-all-requires-2
+    slice-aggregate-write-all-3
+    write-all-requires-3
     returns-2)
