@@ -1,13 +1,17 @@
 pub mod Res
 pub mod Bits
 pub mod Width
+pub mod Window
 pub mod Number
 pub mod Answer
 pub mod BitLaws
 pub mod Steps
 pub mod ReadWays
+pub mod Whole5
+pub mod Groups
 pub mod Laws5
 pub mod Laws8
 pub mod Lawful
 pub mod Put
+pub mod Store
 pub mod WriteWays
