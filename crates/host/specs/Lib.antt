@@ -6,3 +6,4 @@ pub mod TableLaws
 pub mod ReadLaws
 pub mod Paths
 pub mod WriteLaws
+pub mod RoomLaws
