@@ -14,9 +14,10 @@ use Rattle.wire.specs.Number.{onesAt, groupsAt, second8At, number5, number8, st
 use Rattle.wire.specs.Answer.{fixed32}
 use Rattle.wire.specs.ReadWays.{wide}
 use Rattle.wire.specs.Lawful.{Stands, Lawful, fixed-lawful, five-lawful, eight-lawful}
-use Rattle.lent.specs.Codes.{Told, wallOf, leftAt, coded, answered, codeAt}
+use Rattle.lent.specs.Codes.{Told, wallOf, leftAt, coded, answered, answerIs, codeAt}
 use Rattle.lent.specs.declared.codes.Coding.{Coding}
 use Rattle.lent.specs.declared.codes.Coding.the-variants.{Fixed, Five, Eight}
+use Rattle.lent.specs.declared.codes.Answer.{Answer}
 
 -- the values that a coding has, and their bits
 abbrev pub Fits : Coding → ℕ → Type 0
@@ -126,3 +127,9 @@ refused s at c = go (coded c (bitAt s) (wallOf s) at)
     go : (m : Res (ℕ × ℕ)) → (answered s at m .number ≡ 0 → ⊥) → (answered s at m .value ≡ 0) × (answered s at m .place ≡ at)
     go (got r) z = absurd (z refl)
     go (fault k) z = (refl, refl)
+
+-- two answers that the promise allows are equal
+pub determined : (s : List ℕ) (at : ℕ) (c : Coding) (a b : Answer) → answerIs a ≡ codeAt s at c → answerIs b ≡ codeAt s at c → a ≡ b
+determined s at c a b x y =
+    let e = x ∙ sym y in
+    λ i. record { number = e i .number; value = e i .value; place = record { 0 = e i .place }; left = record { 0 = e i .left } }
