@@ -7,7 +7,7 @@ CFLAGS = -O2
 STRICT = -std=c99 -pedantic -Wall -Wextra -Wconversion -Wsign-conversion -Werror -Iinclude -Itools
 ARCHIVE = target/staticlib/libhost.a
 PROGRAMS = host explain holds pack
-TRIALS = refusals faults
+TRIALS = refusals faults bits
 VERSION = 1.0
 
 # The gate: what has to pass before anything is merged.

@@ -190,6 +190,70 @@ uint32_t bim_write(const uint8_t *table, size_t table_bytes,
                    uint8_t *payload, size_t payload_bytes,
                    uint8_t *area, size_t area_bytes);
 
+/* THE LENT BIT READER, for the host's own small parsers: one code of any bytes, from a place on. A place is a bit, counted from the most
+ * significant bit of byte 0. What lies past the bytes' end is never read; nor is bit 2^32 - 1 or any past it, as places stop there.
+ *
+ * The answer is the number that is returned, and an area of exactly BIM_BITS_AREA bytes, three words:
+ *
+ *     bytes    0..3      value    0 on a refusal
+ *              4..7      place    past the code; on a refusal the place that was given
+ *              8..11     left     how many bits there are from that place on: 0 at the end, and past it
+ *
+ * Refused are: BIM_AREA_SIZE an area of another size, before anything else, and the area is then 0 throughout; BIM_PAST_END a code that
+ * passes the end, and any code from a place past it, one of no bits too; BIM_NOT_SHORTEST and BIM_TOO_LARGE as in a payload. */
+#define BIM_BITS_AREA 12
+
+/* A number of width bits, the most significant first; a width over 32 is BIM_TOO_LARGE, and one of 0 gives 0. */
+uint32_t bim_bits_fixed(const uint8_t *bytes, size_t count, uint32_t place, uint32_t width,
+                        uint8_t *area, size_t area_bytes);
+
+/* A vluimsbf5: up to seven ones and a zero, then as many groups of four bits; in shortest form. An eighth one is BIM_TOO_LARGE. */
+uint32_t bim_bits_vlu5(const uint8_t *bytes, size_t count, uint32_t place,
+                       uint8_t *area, size_t area_bytes);
+
+/* A vluimsbf8: seven bits in each byte, whose top bit says that another follows; in shortest form. A third byte is BIM_TOO_LARGE. */
+uint32_t bim_bits_vlu8(const uint8_t *bytes, size_t count, uint32_t place,
+                       uint8_t *area, size_t area_bytes);
+
+/* How many bits there are from a place on: 0 at the end, and past it. */
+uint32_t bim_bits_left(const uint8_t *bytes, size_t count, uint32_t place);
+
+/* A reader that keeps its place: bytes, how many, and the place of the next bit. A take gives back the number; on acceptance it moves the
+ * place past the code, on a refusal the place stays and the value is 0. */
+typedef struct bim_bits {
+    const uint8_t *bytes;
+    size_t count;
+    uint32_t place;
+} bim_bits;
+
+static inline uint32_t bim_bits_taken(bim_bits *reader, uint32_t number, const uint8_t *area, uint32_t *value)
+{
+    *value = bim_word(area);
+    reader->place = bim_word(area + 4);
+    return number;
+}
+
+static inline uint32_t bim_bits_take_fixed(bim_bits *reader, uint32_t width, uint32_t *value)
+{
+    uint8_t area[BIM_BITS_AREA];
+    const uint32_t number = bim_bits_fixed(reader->bytes, reader->count, reader->place, width, area, sizeof area);
+    return bim_bits_taken(reader, number, area, value);
+}
+
+static inline uint32_t bim_bits_take_vlu5(bim_bits *reader, uint32_t *value)
+{
+    uint8_t area[BIM_BITS_AREA];
+    const uint32_t number = bim_bits_vlu5(reader->bytes, reader->count, reader->place, area, sizeof area);
+    return bim_bits_taken(reader, number, area, value);
+}
+
+static inline uint32_t bim_bits_take_vlu8(bim_bits *reader, uint32_t *value)
+{
+    uint8_t area[BIM_BITS_AREA];
+    const uint32_t number = bim_bits_vlu8(reader->bytes, reader->count, reader->place, area, sizeof area);
+    return bim_bits_taken(reader, number, area, value);
+}
+
 #ifdef __cplusplus
 }
 #endif

@@ -97,6 +97,29 @@ static void try_calls(void)
     same("no area", bim_check_table(NULL, 0, NULL, 0), BIM_AREA_SIZE);
 }
 
+/* The bits 100010, 00011, 10000001 00000101 and 10100: a take moves the place past the code, and stays where it is refused. */
+static void try_bits(void)
+{
+    static const uint8_t bytes[] = { 0x88, 0x70, 0x20, 0xb4 };
+    bim_bits reader = { bytes, sizeof bytes, 0 };
+    uint8_t area[BIM_BITS_AREA];
+    uint32_t value = 99;
+    same("take of 6 bits", bim_bits_take_fixed(&reader, 6, &value), BIM_ACCEPTED);
+    same("6 bits", value, 34);
+    same("place past them", reader.place, 6);
+    same("take of a vluimsbf5", bim_bits_take_vlu5(&reader, &value), BIM_ACCEPTED);
+    same("vluimsbf5", value, 3);
+    same("take of a vluimsbf8", bim_bits_take_vlu8(&reader, &value), BIM_ACCEPTED);
+    same("vluimsbf8", value, 133);
+    same("place past it", reader.place, 27);
+    same("bits left", bim_bits_left(reader.bytes, reader.count, reader.place), 5);
+    same("take of 6 bits of 5", bim_bits_take_fixed(&reader, 6, &value), BIM_PAST_END);
+    same("value refused", value, 0);
+    same("place refused", reader.place, 27);
+    same("bits of nothing", bim_bits_vlu5(NULL, 0, 0, area, sizeof area), BIM_PAST_END);
+    same("no bits area", bim_bits_vlu8(bytes, sizeof bytes, 0, NULL, 0), BIM_AREA_SIZE);
+}
+
 int main(void)
 {
     try_area();
@@ -104,5 +127,6 @@ int main(void)
     try_rows();
     try_names();
     try_calls();
+    try_bits();
     return failed;
 }

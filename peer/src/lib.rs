@@ -14,6 +14,7 @@ pub mod demands;
 pub mod gen;
 pub mod guide;
 pub mod host;
+pub mod lent;
 pub mod listing;
 pub mod model;
 pub mod reader;

@@ -3,3 +3,4 @@ mod Judging
 mod Checking
 mod Replies
 mod Lists
+mod Codes

@@ -1,4 +1,4 @@
--- TWO OUTCOMES THAT A PROMISE ALLOWS ARE EQUAL: of check, read and write over words, and of the three calls for C over bytes. The premises are the promises
+-- TWO OUTCOMES THAT A PROMISE ALLOWS ARE EQUAL: of check, read and write over words, and of the calls for C over bytes. The premises are the promises
 -- as the functions' contracts have them. One exception: names past the count in the array of the word-level answer's path; `answerIs` leaves them out.
 use Prim.Native.Nat.{ℕ}
 use mathlib.Core.Path.{_≡_, refl, sym, ap, _∙_}
@@ -17,7 +17,9 @@ use Rattle.reader.specs.Answers as reads
 use Rattle.reader.specs.declared.Answer as replied
 use Rattle.writer.specs.Answers as writes
 use Rattle.writer.specs.declared.Answer as wrote
+use Rattle.lent.specs.declared.codes.Coding.{Coding}
 use Rattle.host.specs.Calls.{Back, back, checkTable, readCall, writeCall}
+use Rattle.host.specs.Bits.{bitsCall}
 
 -- table::check
 pub check-determined : (l : List ℕ) (u v : checked.Verdict) → verdictIs u ≡ verdict l → verdictIs v ≡ verdict l → u ≡ v
@@ -88,3 +90,7 @@ pub write-call-determined : (t : List ℕ) (name type mode : ℕ) (e x : List �
     → back n A (P ∷ []) ≡ writeCall t name type mode e x room area → back n′ A′ (P′ ∷ []) ≡ writeCall t name type mode e x room area
     → SameBack n n′ A A′ (P ∷ []) (P′ ∷ [])
 write-call-determined t name type mode e x room area n n′ A A′ P P′ p q = same-back (writeCall t name type mode e x room area) n n′ A A′ (P ∷ []) (P′ ∷ []) p q
+
+-- bim_bits_fixed, bim_bits_vlu5, bim_bits_vlu8
+pub bits-call-determined : (s : List ℕ) (at : ℕ) (c : Coding) (area n n′ : ℕ) (A A′ : List ℕ) → back n A [] ≡ bitsCall s at c area → back n′ A′ [] ≡ bitsCall s at c area → SameBack n n′ A A′ [] []
+bits-call-determined s at c area n n′ A A′ x y = same-back (bitsCall s at c area) n n′ A A′ [] [] x y

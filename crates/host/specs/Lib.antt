@@ -1,6 +1,7 @@
 pub mod Area
 pub mod AreaLaws
 pub mod Calls
+pub mod Bits
 pub mod CallLaws
 pub mod TableLaws
 pub mod ReadLaws

@@ -1,6 +1,7 @@
 // The calls for a C host, over bytes: words are 4 big-endian bytes, the answer is a number and an area. include/bim.h declares them.
 mod answers;
 mod area;
+mod bits;
 mod reads;
 mod tables;
 mod writes;

@@ -176,7 +176,7 @@ fn difference(case: &Case, got: &Left, expected: &Left, touched: Option<String>)
 }
 
 /// A buffer between guards, at any address.
-struct Lent {
+pub(super) struct Lent {
     bytes: Vec<u8>,
     first: usize,
     room: usize,
@@ -185,7 +185,7 @@ struct Lent {
 }
 
 impl Lent {
-    fn of_junk(junk: &mut Rng, room: usize) -> Self {
+    pub(super) fn of_junk(junk: &mut Rng, room: usize) -> Self {
         let first = GUARD + junk.below(8);
         let whole = first + room + GUARD;
         let mut bytes = Vec::with_capacity(whole + 8);
@@ -197,21 +197,21 @@ impl Lent {
         Lent { bytes, first, room, guards }
     }
 
-    fn holding(junk: &mut Rng, given: &[u8]) -> Self {
+    pub(super) fn holding(junk: &mut Rng, given: &[u8]) -> Self {
         let mut lent = Lent::of_junk(junk, given.len());
         lent.lent_mut().copy_from_slice(given);
         lent
     }
 
-    fn lent(&self) -> &[u8] {
+    pub(super) fn lent(&self) -> &[u8] {
         &self.bytes[self.first..self.first + self.room]
     }
 
-    fn lent_mut(&mut self) -> &mut [u8] {
+    pub(super) fn lent_mut(&mut self) -> &mut [u8] {
         &mut self.bytes[self.first..self.first + self.room]
     }
 
-    fn guards_stand(&self) -> bool {
+    pub(super) fn guards_stand(&self) -> bool {
         let (before, after) = self.guards.split_at(self.first);
         self.bytes[..self.first] == *before && self.bytes[self.first + self.room..] == *after
     }

@@ -2,6 +2,7 @@
 //! between guards. `bin/calls` brings the proved library's calls; tests/calls.rs brings faulty ones.
 
 mod bench;
+mod bits;
 mod case;
 mod pairs;
 mod reading;
@@ -9,6 +10,7 @@ mod tally;
 mod writing;
 
 pub use bench::Bench;
+pub use bits::{run as run_bits, BitBench, BitCalls};
 pub use case::{Call, Case};
 
 use crate::rng::Rng;

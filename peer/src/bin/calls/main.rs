@@ -20,6 +20,7 @@ fn main() -> ExitCode {
     let begun = Instant::now();
     let library = proved::Library::default();
     let good = peer::calls::run(&library, cases, seed).report();
+    let good = peer::calls::run_bits(&library, cases, seed).report() && good;
     println!("time {:.1} s", begun.elapsed().as_secs_f64());
     if good {
         ExitCode::SUCCESS

@@ -3,7 +3,8 @@
 //! SAFETY, of every call below: the archive's functions are proved safe for all arguments of their types, with no
 //! `requires`; a slice passes as its pointer and its length, and no two of them overlap.
 
-use peer::calls::Calls;
+use peer::calls::{BitCalls, Calls};
+use peer::lent::Coding;
 use std::cell::Cell;
 
 extern "C" {
@@ -22,6 +23,20 @@ extern "C" {
         area: *mut u8,
         area_len: usize,
     ) -> u32;
+}
+
+extern "C" {
+    fn bim_bits_fixed(
+        bytes: *const u8,
+        bytes_len: usize,
+        place: u32,
+        width: u32,
+        area: *mut u8,
+        area_len: usize,
+    ) -> u32;
+    fn bim_bits_vlu5(bytes: *const u8, bytes_len: usize, place: u32, area: *mut u8, area_len: usize) -> u32;
+    fn bim_bits_vlu8(bytes: *const u8, bytes_len: usize, place: u32, area: *mut u8, area_len: usize) -> u32;
+    fn bim_bits_left(bytes: *const u8, bytes_len: usize, place: u32) -> u32;
 }
 
 #[cfg(feature = "host_write")]
@@ -135,5 +150,22 @@ impl Calls for Library {
 
     fn writes(&self) -> bool {
         cfg!(feature = "host_write")
+    }
+}
+
+impl BitCalls for Library {
+    fn read(&self, bytes: &[u8], place: u32, coding: Coding, area: &mut [u8]) -> u32 {
+        let (given, lent) = (self.given(bytes), self.lent(area));
+        unsafe {
+            match coding {
+                Coding::Fixed(width) => bim_bits_fixed(given, bytes.len(), place, width, lent, area.len()),
+                Coding::Five => bim_bits_vlu5(given, bytes.len(), place, lent, area.len()),
+                Coding::Eight => bim_bits_vlu8(given, bytes.len(), place, lent, area.len()),
+            }
+        }
+    }
+
+    fn left(&self, bytes: &[u8], place: u32) -> u32 {
+        unsafe { bim_bits_left(self.given(bytes), bytes.len(), place) }
     }
 }

@@ -1,0 +1,20 @@
+-- THE LENT BIT READER'S CALLS FOR C, on every input: the number given back, and the area of three words.
+use Prim.Native.Nat.{ℕ}
+use mathlib.Core.Bool.{cond}
+use mathlib.Core.List.{List, [], _∷_}
+use lib.Dec.{eqb}
+use Rattle.lent.specs.Codes.{Told, codeAt}
+use Rattle.lent.specs.declared.codes.Coding.{Coding}
+use Rattle.words.specs.Bytes.{bytesOf}
+use Rattle.host.specs.Calls.{Back, back, zeros}
+
+-- value, place, bits left
+abbrev pub codeWords : Told → List ℕ
+codeWords a = a .value ∷ a .place ∷ a .left ∷ []
+
+abbrev pub told : Told → Back
+told a = back (a .number) (bytesOf (codeWords a)) []
+
+-- bytes, place, coding; bytes of the area. 24 first: an area that has not 12 bytes is zero throughout
+unfoldable pub bitsCall : List ℕ → ℕ → Coding → ℕ → Back
+bitsCall s at c area = cond (eqb area 12) (told (codeAt s at c)) (back 24 (zeros area) [])

@@ -1,0 +1,111 @@
+//! The comparison of the bit reader's C calls notices every one of these faults in a stand-in, and none in the peer itself.
+
+use peer::calls::{run_bits, BitCalls};
+use peer::lent::{self, Coding, AREA_BYTES};
+use std::hint::black_box;
+
+/// Where a stand-in departs from the peer.
+#[derive(Clone, Copy, Debug, PartialEq, Eq)]
+enum Fault {
+    None,
+    /// A refused code moves the place.
+    RefusedMoves,
+    /// A refused code leaves the value that stood in the area.
+    ValueLeft,
+    /// The bits left are those before the code.
+    LeftBefore,
+    /// Of a place past the end the bits left are many.
+    LeftWraps,
+    /// No bits past the end are taken for a code of no bits.
+    NothingPastEnd,
+    /// A width over 32 that passes the end is 5.
+    WideIsPastEnd,
+    /// A long form is taken.
+    LongForm,
+    /// An area of 13 bytes is taken.
+    LargerArea,
+    /// An area of a wrong size keeps its bytes.
+    AreaLeft,
+    /// A byte behind the area changes.
+    BehindArea,
+    /// What lies behind the bytes is read.
+    ReadsOn,
+    /// The bits of a long slice are counted modulo 2^32.
+    CountWraps,
+}
+use Fault::*;
+
+struct StandIn(Fault);
+
+impl BitCalls for StandIn {
+    fn read(&self, bytes: &[u8], place: u32, coding: Coding, area: &mut [u8]) -> u32 {
+        let old = area.to_vec();
+        let past = place as usize > 8 * bytes.len();
+        match (self.0, coding) {
+            (LargerArea, _) if area.len() == AREA_BYTES + 1 => {
+                area[AREA_BYTES] = 0;
+                return lent::read(bytes, place, coding, &mut area[..AREA_BYTES]);
+            }
+            (NothingPastEnd, Coding::Fixed(0)) if past && area.len() == AREA_BYTES => {
+                lent::read(bytes, place, coding, area);
+                return 0;
+            }
+            (CountWraps, _) if bytes.len() >= 1 << 29 => {
+                return lent::read(&bytes[..bytes.len() - (1 << 29)], place, coding, area)
+            }
+            (ReadsOn, _) if !bytes.is_empty() && bytes.len() < 100 => {
+                let mut longer = bytes.to_vec();
+                longer.push(unsafe { black_box(bytes.as_ptr().wrapping_add(bytes.len())).read_volatile() });
+                return lent::read(&longer, place, coding, area);
+            }
+            _ => {}
+        }
+        let number = lent::read(bytes, place, coding, area);
+        match self.0 {
+            RefusedMoves if number == 12 => area[7] = area[7].wrapping_add(1),
+            ValueLeft if number == 5 => area[..4].copy_from_slice(&old[..4]),
+            LeftBefore if number == 0 => area[8..].copy_from_slice(&lent::left(bytes, place).to_be_bytes()),
+            WideIsPastEnd if number == 13 && matches!(coding, Coding::Fixed(_)) && past => return 5,
+            LongForm if number == 12 => return 0,
+            AreaLeft if number == 24 => area.copy_from_slice(&old),
+            BehindArea => {
+                let behind = black_box(area.as_mut_ptr().wrapping_add(area.len()));
+                unsafe { behind.write_volatile(behind.read_volatile() ^ 1) }
+            }
+            _ => {}
+        }
+        number
+    }
+
+    fn left(&self, bytes: &[u8], place: u32) -> u32 {
+        match self.0 {
+            LeftWraps => (bytes.len() as u32).wrapping_mul(8).wrapping_sub(place),
+            _ => lent::left(bytes, place),
+        }
+    }
+}
+
+#[test]
+fn the_peer_itself_has_no_fault() {
+    assert!(run_bits(&StandIn(None), 20_000, 1).report());
+}
+
+#[test]
+fn every_fault_is_noticed() {
+    for fault in [
+        RefusedMoves,
+        ValueLeft,
+        LeftBefore,
+        LeftWraps,
+        NothingPastEnd,
+        WideIsPastEnd,
+        LongForm,
+        LargerArea,
+        AreaLeft,
+        BehindArea,
+        ReadsOn,
+        CountWraps,
+    ] {
+        assert!(!run_bits(&StandIn(fault), 20_000, 1).report(), "{fault:?} went unnoticed");
+    }
+}
