@@ -8,4 +8,6 @@ pub mod Left
 pub mod Run
 pub mod Lines
 pub mod Exact
+pub mod Slanted
+pub mod SlantedLaws
 pub mod Cases

@@ -1,4 +1,8 @@
 // What is wrong with a text, as a number: 0, or 16 where it is not UTF-8 (RFC 3629).
+mod ascii; // ascii.rt: octets that are ASCII, passed 16 at a time
+pub mod slanted; // slanted.rt: a text whose octets begin at any bit of a byte
+
+use slanted::text_fault;
 ghost use mathlib.Core.Path.{_≡_};
 ghost use mathlib.Core.List.{[], _∷_};
 ghost use Rattle.utf8.specs.Text.{_to_, textFault};
@@ -89,12 +93,6 @@ pub fn fault(state: State) -> u32
 pub fn check(text: &[u8]) -> u32
     ensures { λ r. ⌜ r ≡ textFault (now (text .entry)) ⌝ }
 {
-    let mut state = State::Start;
-    let mut i = 0;
-    while i < text.len() {
-        let octet = text[i];
-        state = step(state, octet);
-        i += 1;
-    }
-    fault(state)
+    let n = text.len();
+    text_fault(text, 0, n, 0)
 }
