@@ -1,12 +1,12 @@
 -- Laws of octets at a bit of each byte: what a loop over them keeps, and that those without their highest bit leave a text between two characters.
 use Prim.Native.Nat.{ℕ, zero, suc, _+_, _-_, _*_, _/_, _%_, _^_, _<_, _≤_}
-use mathlib.Core.Logic.{_⊎_, inl, inr, ⊎-elim}
+use mathlib.Core.Logic.{inl, inr, ⊎-elim}
 use mathlib.Core.Path.{_≡_, refl, sym, ap, _∙_}
 use mathlib.Core.List.{List, [], _∷_, _++_}
 use native.Mathlib.Nat.{add-zero}
 use native.Mathlib.Numerals.{add-one}
 use native.Mathlib.Omega.{arith}
-use native.Mathlib.Decide.{decLt, ℕ-discrete}
+use native.Mathlib.Decide.{decLt}
 use mir.Val.{Fits}
 use mir.Syntax.{w8}
 use lib.Bits.{bitOr, or-shr, or-step}
@@ -98,36 +98,36 @@ module _ (s : List ℕ) (k i : ℕ) (z : k ≡ 0 → ⊥) where
       go zero z = absurd (z refl)
       go (suc k) z = let e : 8 - suc k ≡ 7 - k = omega arith in rw (e, add-one)
 
--- its two parts make a byte
-pub joined-fits : (k x y : ℕ) → k < 8 → y < 256 → x * 2 ^ k % 256 + y / 2 ^ (8 - k) < 256
-joined-fits zero x y h f = omega arith
-joined-fits (suc zero) x y h f = omega arith
-joined-fits (suc (suc zero)) x y h f = omega arith
-joined-fits (suc (suc (suc zero))) x y h f = omega arith
-joined-fits (suc (suc (suc (suc zero)))) x y h f = omega arith
-joined-fits (suc (suc (suc (suc (suc zero))))) x y h f = omega arith
-joined-fits (suc (suc (suc (suc (suc (suc zero)))))) x y h f = omega arith
-joined-fits (suc (suc (suc (suc (suc (suc (suc zero))))))) x y h f = omega arith
-joined-fits (suc (suc (suc (suc (suc (suc (suc (suc k)))))))) x y h f = absurd (omega arith)
+-- what holds of each bit between a byte's first and its end holds of such a bit
+pub seven : (P : ℕ → Type 0) → P 1 → P 2 → P 3 → P 4 → P 5 → P 6 → P 7 → (k : ℕ) → 0 < k → k < 8 → P k
+seven P a b c d e f g zero l h = absurd (omega arith)
+seven P a b c d e f g (suc zero) l h = a
+seven P a b c d e f g (suc (suc zero)) l h = b
+seven P a b c d e f g (suc (suc (suc zero))) l h = c
+seven P a b c d e f g (suc (suc (suc (suc zero)))) l h = d
+seven P a b c d e f g (suc (suc (suc (suc (suc zero))))) l h = e
+seven P a b c d e f g (suc (suc (suc (suc (suc (suc zero)))))) l h = f
+seven P a b c d e f g (suc (suc (suc (suc (suc (suc (suc zero))))))) l h = g
+seven P a b c d e f g (suc (suc (suc (suc (suc (suc (suc (suc k)))))))) l h = absurd (omega arith)
+
+module _ (x y : ℕ) (f : x < 256) (g : y < 256) where
+  -- its two parts make a byte
+  pub joined-fits : (k : ℕ) → 0 < k → k < 8 → x * 2 ^ k % 256 + y / 2 ^ (8 - k) < 256
+  joined-fits = seven (λ k. x * 2 ^ k % 256 + y / 2 ^ (8 - k) < 256) (omega arith) (omega arith) (omega arith) (omega arith) (omega arith) (omega arith) (omega arith)
+
+  joined-ascii : (k : ℕ) → 0 < k → k < 8 → x / 2 ^ (7 - k) % 2 ≡ 0 → x * 2 ^ k % 256 + y / 2 ^ (8 - k) < 128
+  joined-ascii =
+      seven (λ k. x / 2 ^ (7 - k) % 2 ≡ 0 → x * 2 ^ k % 256 + y / 2 ^ (8 - k) < 128)
+      (λ e. omega arith) (λ e. omega arith) (λ e. omega arith) (λ e. omega arith) (λ e. omega arith) (λ e. omega arith) (λ e. omega arith)
 
 -- an octet without its highest bit is ASCII
-ascii-at : (k x y : ℕ) → k < 7 → x < 256 → y < 256 → x / 2 ^ (6 - k) % 2 ≡ 0 → x * 2 ^ suc k % 256 + y / 2 ^ (7 - k) < 128
-ascii-at zero x y h f g e = omega arith
-ascii-at (suc zero) x y h f g e = omega arith
-ascii-at (suc (suc zero)) x y h f g e = omega arith
-ascii-at (suc (suc (suc zero))) x y h f g e = omega arith
-ascii-at (suc (suc (suc (suc zero)))) x y h f g e = omega arith
-ascii-at (suc (suc (suc (suc (suc zero))))) x y h f g e = omega arith
-ascii-at (suc (suc (suc (suc (suc (suc zero)))))) x y h f g e = omega arith
-ascii-at (suc (suc (suc (suc (suc (suc (suc k))))))) x y h f g e = absurd (omega arith)
-
 module _ (s : List ℕ) (bytes : (i : ℕ) → Fits w8 (getD s i 0)) where
   octet-ascii : (k i : ℕ) → k < 8 → getD s i 0 / 2 ^ (7 - k) % 2 ≡ 0 → octetAt s k i < 128
   unfolding octetAt
   octet-ascii zero i h e = omega (arith, bytes i)
   octet-ascii (suc k) i h e =
-      let z : 7 - suc k ≡ 6 - k = omega arith in
-      ascii-at k (getD s i 0) (getD s (suc i) 0) (omega arith) (bytes i .fits) (bytes (suc i) .fits) (rw z at e)
+      let z : 8 - suc k ≡ 7 - k = omega arith in
+      rw z at (joined-ascii (getD s i 0) (getD s (suc i) 0) (bytes i .fits) (bytes (suc i) .fits) (suc k) (omega arith) h e)
 
   -- and between two characters leads to where it is
   ascii-next : (x : ℕ) → x < 128 → Start ≡ next Start x

@@ -4,7 +4,9 @@ pub mod Simple
 pub mod SimpleLaws
 pub mod Answer
 pub mod FormWays
+pub mod Octets
 pub mod ReadWays
 pub mod Written
 pub mod WriteWays
+pub mod LayWays
 pub mod Cases

@@ -1,19 +1,15 @@
 -- Each way through the functions that read codes and values: r is the answer of a call. `search` finds the premises.
-use Prim.Native.Nat.{ℕ, zero, suc, _+_, _-_, _*_, _^_, _<_, _≤_, min}
-use mathlib.Core.Path.{_≡_, refl, sym, ap, subst, _∙_}
-use mathlib.Core.Bool.{Bool, true, false}
-use mathlib.Core.List.{List, [], _∷_, _++_}
+use Prim.Native.Nat.{ℕ, suc, _+_, _-_, _*_, _^_, _<_, _≤_}
+use mathlib.Core.Path.{_≡_, refl, sym, _∙_}
+use mathlib.Core.List.{List}
 use native.Mathlib.Omega.{arith}
 use native.Mathlib.Decide.{decLe}
-use mir.Val.{Fits as FitsIn}
-use mir.Syntax.{w8}
-use lib.ListN.{length}
 use Rattle.wire.specs.declared.Bits.{Bits}
 use Rattle.wire.specs.declared.Bytes.{Bytes}
 use Rattle.wire.specs.declared.Read.{Read}
 use Rattle.wire.specs.declared.Read.the-variants as read
-use Rattle.wire.specs.Res.{Res, got, fault, _>>=_, _>>_, atMost, then, then-fault, under-then, under-fault}
-use Rattle.wire.specs.Bits.{bitAt, num, fixedAt}
+use Rattle.wire.specs.Res.{then, then-fault, under-then, under-fault}
+use Rattle.wire.specs.Bits.{bitAt, fixedAt}
 use Rattle.wire.specs.BitLaws.{bit-lt, num-under, fixed-in, fixed-past}
 use Rattle.wire.specs.Width.{width, width-under, width-pow}
 use Rattle.wire.specs.Number.{read5}
@@ -22,15 +18,12 @@ use Rattle.wire.specs.ReadWays.{read-value, read-refuse, wide}
 use Rattle.wire.specs.Lawful.{Stands}
 use Rattle.signed.specs.Words.{up, wordOf}
 use Rattle.utf8.specs.Text.{textFault}
-use Rattle.utf8.specs.Steps.{next, run, numberOf}
-use Rattle.utf8.specs.Run.{run-nil, run-more, run-fault}
-use Rattle.utf8.specs.declared.State.{State}
-use Rattle.utf8.specs.declared.State.the-variants.{Start}
-use Rattle.value.specs.Code.{Code, choice, five, signed, some, shifted, Fits, bitsOf, choiceAt, numberAt, signedOf, someOf, codeAt}
+use Rattle.utf8.specs.Steps.{next}
+use Rattle.value.specs.Code.{Code, five, signed, some, shifted, Fits, bitsOf, choiceAt, numberAt, signedOf, someOf, codeAt}
 use Rattle.value.specs.CodeLaws.{code-lawful}
-use Rattle.value.specs.Simple.{Simple, plain, text, bytesAt, unless, textOf, simpleAt}
-use Rattle.value.specs.SimpleLaws.{bytes-none, bytes-more, passes-then, passes-fault}
-use Rattle.value.specs.Answer.{innerIs, codeIs, formIs, valueIs, Took}
+use Rattle.value.specs.Simple.{bytesAt, textOf, simpleAt}
+use Rattle.value.specs.SimpleLaws.{bytes-none, passes-then, passes-fault}
+use Rattle.value.specs.Answer.{innerIs, codeIs, formIs, valueIs}
 use Rattle.value.specs.declared.Inner as innerT
 use Rattle.value.specs.declared.Inner.the-variants as iv
 use Rattle.value.specs.declared.Code as codeT
@@ -211,38 +204,6 @@ unfolding codeIs codeAt
 way-code-word s end at c r w e = e ∙ wide (bitAt s) end at 32 (omega arith) ∙ word-all s end at ∙ sym (rw w)
 
 pub ruleset code-ways = (way-code-plain, way-code-word, way-code-signed, way-code-some, way-code-shifted)
-
--- byte
-module _ (s : List ℕ) (at : ℕ) (r : Read) (e : readIs r ≡ fixed32 (bitAt s) (at + 8) at 8) where
-  byte-is : readIs r ≡ got (num (bitAt s) at 8, at + 8)
-  byte-is = e ∙ wide (bitAt s) (at + 8) at 8 (omega arith) ∙ fixed-in (bitAt s) (at + 8) at 8 (omega arith)
-
-  pub way-byte-refuse : (n : ℕ) → r ≡ read.Refuse n → 0 ≡ num (bitAt s) at 8
-  way-byte-refuse n w =
-      let f = read-refuse byte-is w in
-      let z : _≡_ {A = ℕ} 0 1 = cc in
-      absurd (omega arith)
-
-  pub way-byte-value : (v : ℕ) (p : Bits) → r ≡ read.Value v p → v ≡ num (bitAt s) at 8
-  way-byte-value v p w =
-      let f = read-value byte-is w in
-      let q : _≡_ {A = ℕ × ℕ} (num (bitAt s) at 8, at + 8) (v, p .0) = cc in
-      sym (ap (λ (x : ℕ × ℕ). x .0) q)
-
-  pub byte-fits : (v : ℕ) (p : Bits) → r ≡ read.Value v p → FitsIn w8 v
-  byte-fits v p w = let f = way-byte-value v p w in record { fits = omega (arith, num-under (bitAt s) (bit-lt s) at {w = 8} {k = 8} (omega arith)) }
-
-pub ruleset byte-ways = (way-byte-refuse, way-byte-value, byte-fits)
-
--- the loop of `text_fault`: the state after the first i bytes
-pub text-start : (b : ℕ → ℕ) (at : ℕ) → Start ≡ run Start (bytesAt b at 0)
-text-start b at = rw (bytes-none b at) (sym (run-nil Start))
-
-pub text-turn : (b : ℕ → ℕ) (at i x : ℕ) (s r : State) → s ≡ run Start (bytesAt b at i) → x ≡ num b (at + 8 * i) 8 → r ≡ next s x → r ≡ run Start (bytesAt b at (i + 1))
-text-turn b at i x s r e f g = rw (bytes-more b at i) (run-more (bytesAt b at i) s e (num b (at + 8 * i) 8) r (rw f at g))
-
-pub text-end : (b : ℕ → ℕ) (at i n m : ℕ) (s : State) → s ≡ run Start (bytesAt b at i) → i ≤ n → n ≤ i → m ≡ numberOf s → m ≡ textFault (bytesAt b at n)
-text-end b at i n m s e h k f = let z : i ≡ n = omega arith in rw (← z) (run-fault (bytesAt b at i) s e m f)
 
 -- text_after
 module _ (b : ℕ → ℕ) (end n p : ℕ) where

@@ -444,8 +444,5 @@ bytes-turn s t u text at p q i x h e f g =
     let b : take (i + 1) text ≡ take i text ++ (x ∷ []) = rw (add-one, take-suc text i 0, e) in
     rw (b, bytes-snoc) r
 
-pub bytes-next : (s t text : List ℕ) (at p i : ℕ) → i ≤ length text → Wrote s t at (bytes (take i text)) p → p ≡ at + 8 * i
-bytes-next s t text at p i h w = omega (arith, w .next, length-bytes (take i text), length-take i text)
-
 pub bytes-end : (s t text : List ℕ) (at p i : ℕ) → i ≤ length text → length text ≤ i → Wrote s t at (bytes (take i text)) p → Wrote s t at (bytes text) p
 bytes-end s t text at p i h k w = let e : take i text ≡ text = take-all i text k in rw e at w

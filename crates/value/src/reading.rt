@@ -5,9 +5,8 @@ use super::Inner;
 use super::Value;
 use signed::raised;
 use signed::with_sign;
-use utf8::State;
-use utf8::fault;
-use utf8::step;
+use utf8::slanted;
+use utf8::slanted::octet;
 use wire::Bits;
 use wire::Bytes;
 use wire::Read;
@@ -154,11 +153,9 @@ pub fn byte(s: &[u8], at: Bits) -> u8
     requires { ⌜ (at .0 + 8 ≤ 8 * length (now s)) × (at .0 + 8 < 4294967296) ⌝ }
     ensures { λ r. ⌜ r ≡ num (bitAt (now (s .entry))) (at .0) 8 ⌝ }
 {
-    let end = Bits(at.0 + 8);
-    match fixed(s, end, at, 8) {
-        Read::Refuse(_) => 0,
-        Read::Value(v, _) => v as u8,
-    }
+    let a = at.0;
+    let i = (a / 8) as usize;
+    octet(s, a % 8, i)
 }
 
 // What is wrong with the n bytes from a place.
@@ -167,16 +164,10 @@ pub fn text_fault(s: &[u8], at: Bits, n: Bytes) -> u32
     ensures { λ r. ⌜ r ≡ textFault (bytesAt (bitAt (now (s .entry))) (at .0) (n .0)) ⌝ }
 {
     let a = at.0;
-    let m = n.0;
-    let mut state = State::Start;
-    let mut i: u32 = 0;
-    while i < m {
-        let p = Bits(a + 8 * i);
-        let x = byte(s, p);
-        state = step(state, x);
-        i += 1;
-    }
-    fault(state)
+    let m = n.0 as usize;
+    let from = (a / 8) as usize;
+    let to = from + m;
+    slanted::text_fault(s, from, to, a % 8)
 }
 
 // A text's bytes after its count: 5, then what is wrong with them.

@@ -2,6 +2,8 @@
 use super::Code;
 use super::Inner;
 use super::Size;
+use super::octets::lay;
+use super::octets::lay_slanted;
 use signed::lowered;
 use signed::magnitude;
 use wire::Bits;
@@ -180,12 +182,15 @@ pub fn put_bytes(buf: &mut [u8], at: Bits, text: &[u8]) -> Bits
     requires { ⌜ Room (now buf) (at .0) (8 * length (now text)) ⌝ }
     ensures { λ r. ⌜ Wrote (now (buf .entry)) (now (buf .exit)) (at .0) (bytes (now (text .entry))) (r .0) ⌝ }
 {
-    let mut p = at;
-    let mut i: usize = 0;
-    while i < text.len() {
-        let x = text[i] as u32;
-        p = put(buf, p, 8, x);
-        i += 1;
+    let a = at.0;
+    let n = text.len() as u32;
+    let i = (a / 8) as usize;
+    let k = a % 8;
+    let next = Bits(a + 8 * n);
+    if k == 0 {
+        lay(buf, i, text);
+        return next;
     }
-    p
+    lay_slanted(buf, i, k, text);
+    next
 }

@@ -37,7 +37,10 @@ shr-low : tie.Need-shr-low
 shr-low c = search needs
 
 add-result : tie.Need-add-result
-add-result c = record { fits = joined-fits (c .before .before .before .args .k) _ _ (omega arith) (omega (arith, c .shared-slice-known3 .given (c .before .before .before .args .i + 1))) }
+add-result c =
+    let a = c .before .before .before .args in
+    let bytes = c .shared-slice-known3 .given in
+    record { fits = joined-fits _ _ (bytes (a .i) .fits) (bytes (a .i + 1) .fits) (a .k) (omega arith) (omega arith) }
 
 returns-2 : tie.Need-returns-2
 returns-2 c = search (needs, octet-joined)
