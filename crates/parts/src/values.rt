@@ -2,9 +2,9 @@
 use crate::Cursor;
 use crate::Step;
 use crate::storing::store;
+use utf8::slanted::octet;
 use value::Value;
 use value::forms;
-use value::reading::byte;
 use value::reading::simple;
 use wire::Bits;
 use wire::Bytes;
@@ -23,12 +23,14 @@ fn copy(payload: &[u8], texts: &mut [u8], from: Bits, n: Bytes, used: usize)
     requires { ⌜ (from .0 + 8 * n .0 ≤ 8 * length (now payload)) × (n .0 ≤ length (now texts) - used) × (from .0 + 8 * n .0 < 4294967296) ⌝ }
     ensures { λ _. ⌜ now (texts .exit) ≡ sets (now (texts .entry)) used (bytesAt (bitAt (now (payload .entry))) (from .0) (n .0)) ⌝ }
 {
-    let m = n.0;
+    let m = n.0 as usize;
     let p = from.0;
-    let mut i: u32 = 0;
+    let q = (p / 8) as usize;
+    let k = p % 8;
+    let mut i: usize = 0;
     while i < m {
-        let x = byte(payload, Bits(p + 8 * i));
-        texts[used + (i as usize)] = x;
+        let x = octet(payload, k, q + i);
+        texts[used + i] = x;
         i += 1;
     }
 }

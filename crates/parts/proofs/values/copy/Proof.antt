@@ -6,32 +6,32 @@ use lib.ListN.{length, length-set}
 use lib.Seq.{sets}
 use Rattle.wire.specs.Bits.{bitAt}
 use Rattle.value.specs.Simple.{bytesAt}
+use Rattle.value.specs.Octets.{octet-found}
 use Rattle.parts.specs.StoreWays.{copied-none, copied-more, copied-all}
 use borrow.Author.Needs.{needs}
 use Rattle.parts.proofs.values.copy.Statement.{statement}
 use Rattle.parts.proofs.values.copy.Tie as tie
 
 abbrev Inv-loop : tie.InvT-loop
-Inv-loop payload texts₀ used m p i₀ texts i =
-    (length texts ≡ length texts₀) × (i ≤ m) × (texts ≡ sets texts₀ used (bytesAt (bitAt payload) p i))
+Inv-loop payload texts₀ used m p q k i₀ texts i = (length texts ≡ length texts₀) × (i ≤ m) × (texts ≡ sets texts₀ used (bytesAt (bitAt payload) p i))
 
 abbrev μ-loop : tie.MeasureT-loop
-μ-loop payload texts₀ used m p i₀ texts i = m - i
+μ-loop payload texts₀ used m p q k i₀ texts i = m - i
+
+cast-m : tie.Need-cast-m Inv-loop μ-loop
+cast-m c = search needs
+
+cast-q : tie.Need-cast-q Inv-loop μ-loop
+cast-q c = search needs
 
 loop-holds : tie.Need-loop-holds Inv-loop μ-loop
 loop-holds c = (refl, omega arith, search copied-none)
 
-mul-t11 : tie.Need-mul-t11 Inv-loop μ-loop
-mul-t11 c = search needs
+add-octet : tie.Need-add-octet Inv-loop μ-loop
+add-octet c = search needs
 
-add-t12 : tie.Need-add-t12 Inv-loop μ-loop
-add-t12 c = search needs
-
-byte-requires : tie.Need-byte-requires Inv-loop μ-loop
-byte-requires c κs = search needs
-
-cast-texts : tie.Need-cast-texts Inv-loop μ-loop
-cast-texts c = search needs
+octet-requires : tie.Need-octet-requires Inv-loop μ-loop
+octet-requires c κs = search needs
 
 add-texts : tie.Need-add-texts Inv-loop μ-loop
 add-texts c = search needs
@@ -46,7 +46,11 @@ loop-less : tie.Need-loop-less Inv-loop μ-loop
 loop-less c = search needs
 
 loop-again : tie.Need-loop-again Inv-loop μ-loop
-loop-again c = (simp length-set (omega arith), omega arith, search (needs, copied-more))
+loop-again c =
+    let a = c .before .before .before .before .before .before .args in
+    let l = c .before .before .loop in
+    let x = octet-found (a .payload .now) (c .before .before .before .before .before .shared-slice-known .given) (a .from .0) _ (l .i) _ refl (c .octet .ensures) in
+    (simp length-set (omega arith), omega arith, copied-more _ _ _ _ _ _ _ (l .inv .2) x)
 
 same-length : tie.Need-same-length Inv-loop μ-loop
 same-length c = search needs
@@ -60,11 +64,11 @@ copy-spec =
     (tie.spec
     Inv-loop
     μ-loop
+    cast-m
+    cast-q
     loop-holds
-    mul-t11
-    add-t12
-    byte-requires
-    cast-texts
+    add-octet
+    octet-requires
     add-texts
     slice-write-texts
     add-i
