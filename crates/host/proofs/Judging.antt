@@ -47,9 +47,9 @@ placed-kept seen given place e = sym (rw (ne-eqb place seen e))
 pub ruleset placed-ways = (placed-moved, placed-kept)
 
 -- the check
-module _ (t words : List ℕ) (k : ℕ) (n : (k ≡ wordsLent (length t)) × (k ≤ length t / 4) × (k ≤ 8964)) (l : take k words ≡ take k (wordsOf t)) (v : code.Verdict) (e : verdictIs v ≡ verdict (take k words)) where
+module _ (t words : List ℕ) (k : ℕ) (n : k ≡ wordsLent (length t)) (l : take k words ≡ take k (wordsOf t)) (v : code.Verdict) (e : verdictIs v ≡ verdict (take k words)) where
   judged-is : tableVerdict t ≡ moved k (length t / 4) (verdictIs v)
-  judged-is = verdict-lent t k (subst (Told t) (sym (n .0)) (told t)) ∙ ap (λ (x : List ℕ). moved k (length t / 4) (verdict x)) (sym l) ∙ ap (moved k (length t / 4)) (sym e)
+  judged-is = verdict-lent t k (subst (Told t) (sym n) (told t)) ∙ ap (λ (x : List ℕ). moved k (length t / 4) (verdict x)) (sym l) ∙ ap (moved k (length t / 4)) (sym e)
 
   pub judged-right : v ≡ Right → verdictIs Right ≡ tableVerdict t
   judged-right r = sym (judged-is ∙ ap (λ (x : code.Verdict). moved k (length t / 4) (verdictIs x)) r)

@@ -4,6 +4,7 @@ use mathlib.Core.Path.{_≡_, sym, ap, subst, _∙_}
 use mathlib.Core.List.{List, [], _∷_, _++_}
 use native.Mathlib.Omega.{arith}
 use lib.ListN.{length, take, drop, replicate}
+use lib.Seq.{length-take-le}
 use Rattle.model.specs.Whole.{Reply, Outcome, outcome, reading, eventsLeft, textsLeft}
 use Rattle.reader.specs.Answers.{answerIs}
 use Rattle.reader.specs.declared.Answer.{Answer}
@@ -14,30 +15,55 @@ use Rattle.host.specs.Calls.{back, zeros, readBytes, readCall, eventsBac
 use Rattle.host.specs.CallLaws.{unlent, lent-whole}
 use Rattle.host.specs.Paths.{path-most}
 use Rattle.host.specs.TableLaws.{wordsLent, placed, Told, told}
-use Rattle.host.specs.ReadLaws.{slotWords, placedIn, ReadBack, read-lent, events-stored}
+use Rattle.host.specs.ReadLaws.{slotWords, placedIn, ReadBack, read-lent, events-fit, events-stored}
+use Rattle.host.specs.RoomLaws.{more-room}
 
--- the words lent for events, then as bytes
-pub words-read : (R : Reply) (o : Outcome) (E X B B₁ B₂ : List ℕ) (m x : ℕ) → o ≡ outcome R → E ≡ eventsLeft m R → X ≡ textsLeft x R → length E ≡ m → 4 * m ≤ length B
-    → B₁ ≡ replicate (length B) 0 → B₂ ≡ bytesOf E ++ drop (4 * length E) B₁ → ReadBack R (length B) x o B₂ X
-words-read R o E X B B₁ B₂ m x a f t n h z s =
+-- the words of the events, then as bytes
+pub words-fit : (R : Reply) (o : Outcome) (E : List ℕ) (m : ℕ) → o ≡ outcome R → E ≡ eventsLeft m R → length E ≡ m → 4 * o .events ≤ length E
+words-fit R o E m a f n = let h = events-fit m R E f n in omega (arith, ap (λ (p : Outcome). p .events) a)
+
+pub words-read : (R : Reply) (o : Outcome) (E X B B₁ B₂ : List ℕ) (m x : ℕ) → o ≡ outcome R → E ≡ eventsLeft m R → X ≡ textsLeft x R → length E ≡ m
+    → B₁ ≡ replicate (length B) 0 → B₂ ≡ bytesOf (take (4 * o .events) E) ++ drop (4 * length (take (4 * o .events) E)) B₁ → ReadBack R (length B) x o B₂ X
+words-read R o E X B B₁ B₂ m x a f t n z s =
+    let k = 4 * o .events in
+    let l : length (take k E) ≡ k = length-take-le k E (words-fit R o E m a f n) in
     record {
       answer = a;
-      events = s ∙ ap (λ (y : List ℕ). bytesOf E ++ drop (4 * length E) y) z ∙ ap (λ (j : ℕ). bytesOf E ++ drop (4 * j) (replicate (length B) 0)) n ∙ events-stored (length B) m R E f n h;
+      events = s ∙ ap (λ (y : List ℕ). bytesOf (take k E) ++ drop (4 * length (take k E)) y) z ∙ ap (λ (j : ℕ). bytesOf (take k E) ++ drop (4 * j) (replicate (length B) 0)) l
+          ∙ events-stored (length B) m k R E f (ap (λ (p : Outcome). 4 * p .events) a);
       texts = t;
     }
+
+-- the same reading, by another name
+pub read-as : {R R′ : Reply} {e x : ℕ} {o : Outcome} {E X : List ℕ} → R′ ≡ R → ReadBack R e x o E X → ReadBack R′ e x o E X
+read-as {e = e} {x = x} {o = o} {E = E} {X = X} r b = subst (λ (S : Reply). ReadBack S e x o E X) (sym r) b
+
+-- with fewer words lent, where they were not too few
+pub few-read : (l : List ℕ) (name type : ℕ) (s : List ℕ) (w w′ e x : ℕ) (o : Outcome) (E X : List ℕ) → w ≤ w′ → (o .number ≡ 7 → ⊥)
+    → ReadBack (reading l name type s w x) e x o E X → ReadBack (reading l name type s w′ x) e x o E X
+few-read l name type s w w′ e x o E X h z b = read-as (more-room l name type s w w′ x h (λ n. z (ap (λ (p : Outcome). p .number) (b .answer) ∙ n))) b
+
+-- once more, into buffers that are as long
+pub again-read : (l : List ℕ) (name type : ℕ) (s : List ℕ) (m e e′ x x′ : ℕ) (o : Outcome) (E X : List ℕ) → e′ ≡ e → x′ ≡ x
+    → ReadBack (reading l name type s m x′) e′ x′ o E X → ReadBack (reading l name type s m x) e x o E X
+again-read l name type s m e e′ x x′ o E X h k b =
+    subst (λ (y : ℕ). ReadBack (reading l name type s m y) e y o E X) k (subst (λ (y : ℕ). ReadBack (reading l name type s m x′) y x′ o E X) h b)
+
+-- with as many words lent as there is room
+pub slots-read : (l : List ℕ) (name type : ℕ) (s : List ℕ) (m m′ e x : ℕ) (o : Outcome) (E X : List ℕ) → m ≡ m′
+    → ReadBack (reading l name type s m x) e x o E X → ReadBack (reading l name type s m′ x) e x o E X
+slots-read l name type s m m′ e x o E X h b = read-as (ap (λ (j : ℕ). reading l name type s j x) (sym h)) b
 
 abbrev pub moveTo : ℕ → Answer → Answer
 moveTo p a = record { number = a .number; place = p; mode = a .mode; events = a .events; text = a .text; bits = a .bits; path = a .path }
 
 -- the words of the table, and the place in it
-pub bytes-read : (t : List ℕ) (name type : ℕ) (s : List ℕ) (e x k m : ℕ) (words : List ℕ) (a : Answer) (E X : List ℕ) (p : ℕ) → k ≡ wordsLent (length t) → take k words ≡ take k (wordsOf t)
-    → m ≡ slotWords e → ReadBack (reading (take k words) name type s m x) e x (answerIs a) E X → p ≡ placed k (length t / 4) (a .place)
+pub bytes-read : (t : List ℕ) (name type : ℕ) (s : List ℕ) (e x k : ℕ) (words : List ℕ) (a : Answer) (E X : List ℕ) (p : ℕ) → k ≡ wordsLent (length t) → take k words ≡ take k (wordsOf t)
+    → ReadBack (reading (take k words) name type s (slotWords e) x) e x (answerIs a) E X → p ≡ placed k (length t / 4) (a .place)
     → ReadBack (readBytes t name type s e x) e x (answerIs (moveTo p a)) E X
-bytes-read t name type s e x k m words a E X p n l r b q =
+bytes-read t name type s e x k words a E X p n l b q =
     let c = read-lent t name type s e x k (subst (Told t) (sym n) (told t)) in
-    let w : reading (take k words) name type s m x ≡ reading (take k (wordsOf t)) name type s (slotWords e) x =
-    ap (λ (y : List ℕ). reading y name type s m x) l ∙ ap (λ (j : ℕ). reading (take k (wordsOf t)) name type s j x) r in
-    let b′ : ReadBack (reading (take k (wordsOf t)) name type s (slotWords e) x) e x (answerIs a) E X = subst (λ (R : Reply). ReadBack R e x (answerIs a) E X) w b in
+    let b′ : ReadBack (reading (take k (wordsOf t)) name type s (slotWords e) x) e x (answerIs a) E X = read-as (ap (λ (y : List ℕ). reading y name type s (slotWords e) x) (sym l)) b in
     record {
       answer = ap (λ (j : ℕ). answerIs (moveTo j a)) q ∙ ap (placedIn k (length t / 4)) (b′ .answer) ∙ sym (c .answer);
       events = b′ .events ∙ sym (c .events);

@@ -7,3 +7,4 @@ pub mod ReadLaws
 pub mod Paths
 pub mod WriteLaws
 pub mod Determined
+pub mod RoomLaws

@@ -1,9 +1,10 @@
 -- The reading of bytes, from the reading of the words that are lent.
 use Prim.Native.Nat.{ℕ, zero, suc, _+_, _-_, _*_, _/_, _≤_, min}
 use mathlib.Core.Path.{_≡_, refl, sym, ap, _∙_}
-use mathlib.Core.List.{List, [], _++_, append-assoc}
+use mathlib.Core.List.{List, [], _++_}
 use native.Mathlib.Omega.{arith}
-use lib.ListN.{length, take, drop, length-append, length-replicate, replicate-append-replicate}
+use lib.ListN.{length, take, drop, length-append}
+use lib.Seq.{take-at}
 use Rattle.table.specs.First.{Verdict}
 use Rattle.table.specs.First.Verdict.{right, wrong}
 use Rattle.table.specs.Valid.{verdict}
@@ -11,8 +12,9 @@ use Rattle.table.specs.Rows.{heldOf, tableOf}
 use Rattle.model.specs.Model.{events, rooted}
 use Rattle.model.specs.Whole.{Reply, Outcome, outcome, reading, afterVerdict, afterAsked, asked, payload, eventsLeft, textsLeft, eventWords, filled}
 use Rattle.model.specs.Whole.Reply.{accepted, declined}
-use Rattle.words.specs.Bytes.{wordsOf, bytesOf, four}
-use Rattle.words.specs.BytesLaws.{bytes-length, spelled-append, zeros-spelled}
+use Rattle.model.specs.Entries.{words-length as event-words}
+use Rattle.words.specs.Bytes.{wordsOf, spelled, bytesOf}
+use Rattle.words.specs.BytesLaws.{bytes-length}
 use Rattle.host.specs.Calls.{zeros, readBytes, eventsBack}
 use Rattle.host.specs.TableLaws.{placed, placed-same, Told, whole, part}
 
@@ -88,23 +90,27 @@ zeros-dropped zero n = as-many n (n - 0) (omega arith)
 zeros-dropped (suc k) zero = as-many 0 (0 - suc k) (omega arith)
 zeros-dropped (suc k) (suc n) = zeros-dropped k n ∙ as-many (n - k) (suc n - suc k) (omega arith)
 
-filled-bytes : (e m : ℕ) (w : List ℕ) → length w ≤ m → 4 * m ≤ e → bytesOf (filled m w) ++ drop (4 * m) (zeros e) ≡ filled e (bytesOf w)
+filled-bytes : (e : ℕ) (w : List ℕ) → bytesOf w ++ drop (4 * length w) (zeros e) ≡ filled e (bytesOf w)
 unfolding filled
-filled-bytes e m w h g =
-    ap (λ (z : List ℕ). z ++ drop (4 * m) (zeros e)) (spelled-append four w (zeros (m - length w)) ∙ ap (λ (z : List ℕ). bytesOf w ++ z) (zeros-spelled (m - length w)))
-    ∙ append-assoc (bytesOf w) (zeros (4 * (m - length w))) (drop (4 * m) (zeros e))
-    ∙ ap (λ (z : List ℕ). bytesOf w ++ z) (
-    ap (λ (z : List ℕ). zeros (4 * (m - length w)) ++ z) (zeros-dropped (4 * m) e)
-    ∙ replicate-append-replicate (4 * (m - length w)) (e - 4 * m) 0
-    ∙ as-many (4 * (m - length w) + (e - 4 * m)) (e - length (bytesOf w)) (omega (arith, bytes-length w)))
+filled-bytes e w =
+    ap (λ (z : List ℕ). bytesOf w ++ z) (zeros-dropped (4 * length w) e ∙ as-many (e - 4 * length w) (e - length (bytesOf w)) (omega (arith, bytes-length w)))
 
--- the events of a reading, where the words are as many as were lent
-pub events-stored : (e m : ℕ) (R : Reply) (E : List ℕ) → E ≡ eventsLeft m R → length E ≡ m → 4 * m ≤ e → bytesOf E ++ drop (4 * m) (zeros e) ≡ eventsBack e R
-unfolding eventsLeft eventsBack filled
-events-stored e m (accepted mode ns q) E f n g =
+-- the words of the events that were read are among the words lent
+pub events-fit : (m : ℕ) (R : Reply) (E : List ℕ) → E ≡ eventsLeft m R → length E ≡ m → 4 * outcome R .events ≤ m
+unfolding eventsLeft outcome filled
+events-fit m (accepted mode ns q) E f n =
     let w = eventWords (events ns) in
-    let h : length w ≤ m = omega (arith, ap length f, length-append w (zeros (m - length w)), length-replicate {A = ℕ} (m - length w) 0) in
-    ap (λ (z : List ℕ). bytesOf z ++ drop (4 * m) (zeros e)) f ∙ filled-bytes e m w h g
-events-stored e m (declined n′ p π) E f n g =
-    ap (λ (z : List ℕ). bytesOf z ++ drop (4 * m) (zeros e)) f ∙ ap (λ (z : List ℕ). z ++ drop (4 * m) (zeros e)) (zeros-spelled m)
-    ∙ ap (λ (z : List ℕ). zeros (4 * m) ++ z) (zeros-dropped (4 * m) e) ∙ replicate-append-replicate (4 * m) (e - 4 * m) 0 ∙ as-many (4 * m + (e - 4 * m)) e (omega arith)
+    omega (arith, event-words (events ns), ap length f, length-append w (zeros (m - length w)))
+events-fit m (declined n′ p π) E f n = omega arith
+
+-- and they alone are stored over zeros
+pub events-stored : (e m k : ℕ) (R : Reply) (E : List ℕ) → E ≡ eventsLeft m R → k ≡ 4 * outcome R .events → bytesOf (take k E) ++ drop (4 * k) (zeros e) ≡ eventsBack e R
+unfolding eventsLeft eventsBack outcome filled spelled
+events-stored e m k (accepted mode ns q) E f h =
+    let w = eventWords (events ns) in
+    let n : length w ≡ k = event-words (events ns) ∙ sym h in
+    ap (λ (z : List ℕ). bytesOf (take k z) ++ drop (4 * k) (zeros e)) f
+    ∙ ap (λ (z : List ℕ). bytesOf z ++ drop (4 * k) (zeros e)) (take-at w (zeros (m - length w)) k n)
+    ∙ ap (λ (j : ℕ). bytesOf w ++ drop (4 * j) (zeros e)) (sym n)
+    ∙ filled-bytes e w
+events-stored e m k (declined n′ p π) E f h = let z : k ≡ 0 = omega arith in rw z

@@ -8,11 +8,12 @@ use words::load;
 use words::store;
 ghost use mathlib.Core.Path.{_≡_};
 ghost use lib.ListN.{length};
-ghost use Prim.Native.Nat.{_*_, _≤_};
+ghost use Prim.Native.Nat.{_*_, _/_, _≤_};
 ghost use Rattle.model.specs.Whole.{reading};
 ghost use Rattle.reader.specs.Answers.{answerIs};
 ghost use Rattle.host.specs.Calls.{readBytes};
 ghost use Rattle.host.specs.ReadLaws.{slotWords, ReadBack};
+ghost use Rattle.host.specs.TableLaws.{wordsLent};
 
 // The words that are lent for events: four for each that has room.
 fn slot_words(bytes: usize) -> usize
@@ -40,7 +41,113 @@ fn read_words(
 {
     let a = read(words, root_name, root_type, payload, list, texts);
     clear(events);
-    store(list, events);
+    let k = 4 * (a.events as usize);
+    store(&list[..k], events);
+    a
+}
+
+// The reading of words, with room for every event that has a place.
+fn read_many(
+    words: &[u32],
+    root_name: u32,
+    root_type: u32,
+    payload: &[u8],
+    m: usize,
+    events: &mut [u8],
+    texts: &mut [u8],
+) -> Answer
+    requires { ⌜ (m ≤ 8192) × (4 * m ≤ length (now events)) ⌝ }
+    ensures { λ r. ⌜ ReadBack (reading (now (words .entry)) «root_name» «root_type» (now (payload .entry)) m (length (now (texts .entry)))) (length (now (events .entry))) (length (now (texts .entry))) (answerIs r) (now (events .exit)) (now (texts .exit)) ⌝ }
+{
+    let mut list = [0u32; 8192];
+    read_words(
+        words,
+        root_name,
+        root_type,
+        payload,
+        &mut list[..m],
+        events,
+        texts,
+    )
+}
+
+// The reading of words, with room for 128 events, of which a small payload seldom has more; and again where they do not suffice.
+fn read_few(
+    words: &[u32],
+    root_name: u32,
+    root_type: u32,
+    payload: &[u8],
+    m: usize,
+    events: &mut [u8],
+    texts: &mut [u8],
+) -> Answer
+    requires { ⌜ (512 ≤ m) × (m ≤ 8192) × (4 * m ≤ length (now events)) ⌝ }
+    ensures { λ r. ⌜ ReadBack (reading (now (words .entry)) «root_name» «root_type» (now (payload .entry)) m (length (now (texts .entry)))) (length (now (events .entry))) (length (now (texts .entry))) (answerIs r) (now (events .exit)) (now (texts .exit)) ⌝ }
+{
+    let mut few = [0u32; 512];
+    let a = read_words(
+        words,
+        root_name,
+        root_type,
+        payload,
+        &mut few,
+        events,
+        texts,
+    );
+    if a.number != 7 {
+        return a;
+    }
+    read_many(words, root_name, root_type, payload, m, events, texts)
+}
+
+// The reading of words. Room is zeroed whole before it is used: little room is lent where little is lent or likely to be used.
+fn read_list(
+    words: &[u32],
+    root_name: u32,
+    root_type: u32,
+    payload: &[u8],
+    events: &mut [u8],
+    texts: &mut [u8],
+) -> Answer
+    ensures { λ r. ⌜ ReadBack (reading (now (words .entry)) «root_name» «root_type» (now (payload .entry)) (slotWords (length (now (events .entry)))) (length (now (texts .entry)))) (length (now (events .entry))) (length (now (texts .entry))) (answerIs r) (now (events .exit)) (now (texts .exit)) ⌝ }
+{
+    let m = slot_words(events.len());
+    if m < 512 {
+        let mut few = [0u32; 512];
+        return read_words(
+            words,
+            root_name,
+            root_type,
+            payload,
+            &mut few[..m],
+            events,
+            texts,
+        );
+    }
+    if payload.len() <= 64 {
+        return read_few(words, root_name, root_type, payload, m, events, texts);
+    }
+    read_many(words, root_name, root_type, payload, m, events, texts)
+}
+
+// The reading of bytes: the n words of the table that are looked at, in room lent for them.
+fn read_in(
+    table: &[u8],
+    n: usize,
+    words: &mut [u32],
+    root_name: u32,
+    root_type: u32,
+    payload: &[u8],
+    events: &mut [u8],
+    texts: &mut [u8],
+) -> Answer
+    requires { ⌜ (n ≡ wordsLent (length (now table))) × (n ≤ length (now table) / 4) × (n ≤ length (now words)) ⌝ }
+    ensures { λ r. ⌜ ReadBack (readBytes (now (table .entry)) «root_name» «root_type» (now (payload .entry)) (length (now (events .entry))) (length (now (texts .entry)))) (length (now (events .entry))) (length (now (texts .entry))) (answerIs r) (now (events .exit)) (now (texts .exit)) ⌝ }
+{
+    load(table, words, n);
+    let mut a = read_list(&words[..n], root_name, root_type, payload, events, texts);
+    let at = a.place;
+    a.place = placed(n, table.len() / 4, at);
     a
 }
 
@@ -56,20 +163,41 @@ pub fn read_bytes(
     ensures { λ r. ⌜ ReadBack (readBytes (now (table .entry)) «root_name» «root_type» (now (payload .entry)) (length (now (events .entry))) (length (now (texts .entry)))) (length (now (events .entry))) (length (now (texts .entry))) (answerIs r) (now (events .exit)) (now (texts .exit)) ⌝ }
 {
     let n = words_lent(table.len());
-    let mut words = [0u32; 8964];
-    load(table, &mut words, n);
-    let m = slot_words(events.len());
-    let mut list = [0u32; 8192];
-    let mut a = read_words(
-        &words[..n],
+    if n <= 128 {
+        let mut few = [0u32; 128];
+        return read_in(
+            table,
+            n,
+            &mut few,
+            root_name,
+            root_type,
+            payload,
+            events,
+            texts,
+        );
+    }
+    if n <= 1024 {
+        let mut some = [0u32; 1024];
+        return read_in(
+            table,
+            n,
+            &mut some,
+            root_name,
+            root_type,
+            payload,
+            events,
+            texts,
+        );
+    }
+    let mut all = [0u32; 8964];
+    read_in(
+        table,
+        n,
+        &mut all,
         root_name,
         root_type,
         payload,
-        &mut list[..m],
         events,
         texts,
-    );
-    let at = a.place;
-    a.place = placed(n, table.len() / 4, at);
-    a
+    )
 }

@@ -4,6 +4,7 @@ use table::check;
 use words::load;
 ghost use mathlib.Core.Path.{_≡_};
 ghost use Prim.Native.Nat.{_/_, _≤_};
+ghost use lib.ListN.{length};
 ghost use Rattle.table.specs.Views.{verdictIs};
 ghost use Rattle.host.specs.Calls.{tableVerdict};
 ghost use Rattle.host.specs.TableLaws as laws;
@@ -36,15 +37,31 @@ pub fn placed(seen: usize, given: usize, place: usize) -> usize
     place
 }
 
-// The check of a table's bytes.
-pub fn check_bytes(t: &[u8]) -> Verdict
+// The check of a table's bytes: the n words that are looked at, in room lent for them.
+fn check_in(t: &[u8], n: usize, words: &mut [u32]) -> Verdict
+    requires { ⌜ (n ≡ laws.wordsLent (length (now t))) × (n ≤ length (now t) / 4) × (n ≤ length (now words)) ⌝ }
     ensures { λ r. ⌜ verdictIs r ≡ tableVerdict (now (t .entry)) ⌝ }
 {
-    let n = words_lent(t.len());
-    let mut words = [0u32; 8964];
-    load(t, &mut words, n);
+    load(t, words, n);
     match check(&words[..n]) {
         Verdict::Right => Verdict::Right,
         Verdict::Wrong(i) => Verdict::Wrong(placed(n, t.len() / 4, i)),
     }
+}
+
+// The check of a table's bytes. A small table has small room: room is zeroed whole before it is used.
+pub fn check_bytes(t: &[u8]) -> Verdict
+    ensures { λ r. ⌜ verdictIs r ≡ tableVerdict (now (t .entry)) ⌝ }
+{
+    let n = words_lent(t.len());
+    if n <= 128 {
+        let mut few = [0u32; 128];
+        return check_in(t, n, &mut few);
+    }
+    if n <= 1024 {
+        let mut some = [0u32; 1024];
+        return check_in(t, n, &mut some);
+    }
+    let mut all = [0u32; 8964];
+    check_in(t, n, &mut all)
 }

@@ -4,10 +4,12 @@ use crate::tables::words_lent;
 use words::load;
 use writer::Answer;
 use writer::write;
-ghost use Prim.Native.Nat.{_/_};
+ghost use mathlib.Core.Path.{_≡_};
+ghost use Prim.Native.Nat.{_/_, _%_, _≤_};
 ghost use lib.ListN.{length};
 ghost use Rattle.writer.specs.Answers.{Writes};
 ghost use Rattle.host.specs.Calls.{unlisted, writeList, writeBytes};
+ghost use Rattle.host.specs.TableLaws.{wordsLent};
 
 // Bytes that are no list: one word is none either, and is refused where they are. The place of 18 is n.
 fn write_none(
@@ -28,6 +30,33 @@ fn write_none(
         return a;
     }
     a
+}
+
+// A list's bytes as words, in room lent for them.
+fn write_words(
+    words: &[u32],
+    root_name: u32,
+    root_type: u32,
+    mode: u32,
+    events: &[u8],
+    list: &mut [u32],
+    texts: &[u8],
+    payload: &mut [u8],
+) -> Answer
+    requires { ⌜ (length (now events) % 16 ≡ 0) × (length (now events) / 4 ≤ length (now list)) ⌝ }
+    ensures { λ r. ⌜ Writes (writeList (now (words .entry)) «root_name» «root_type» mode (now (events .entry)) (now (texts .entry)) (length (now (payload .entry)))) mode (length (now (events .entry)) / 16) (length (now (texts .entry))) (length (now (payload .entry))) r (now (payload .exit)) ⌝ }
+{
+    let k = events.len() / 4;
+    load(events, list, k);
+    write(
+        words,
+        root_name,
+        root_type,
+        mode,
+        &list[..k],
+        texts,
+        payload,
+    )
 }
 
 // A list's bytes, by a table's words.
@@ -51,18 +80,60 @@ fn write_list(
     if 2048 < n {
         return write_none(words, root_name, root_type, mode, n, texts, payload);
     }
-    let k = size / 4;
+    if n <= 128 {
+        let mut few = [0u32; 512];
+        return write_words(
+            words,
+            root_name,
+            root_type,
+            mode,
+            events,
+            &mut few,
+            texts,
+            payload,
+        );
+    }
     let mut list = [0u32; 8192];
-    load(events, &mut list, k);
-    write(
+    write_words(
         words,
         root_name,
         root_type,
         mode,
-        &list[..k],
+        events,
+        &mut list,
         texts,
         payload,
     )
+}
+
+// The writing of bytes: the n words of the table that are looked at, in room lent for them.
+fn write_in(
+    table: &[u8],
+    n: usize,
+    words: &mut [u32],
+    root_name: u32,
+    root_type: u32,
+    mode: u32,
+    events: &[u8],
+    texts: &[u8],
+    payload: &mut [u8],
+) -> Answer
+    requires { ⌜ (n ≡ wordsLent (length (now table))) × (n ≤ length (now table) / 4) × (n ≤ length (now words)) ⌝ }
+    ensures { λ r. ⌜ Writes (writeBytes (now (table .entry)) «root_name» «root_type» mode (now (events .entry)) (now (texts .entry)) (length (now (payload .entry)))) mode (length (now (events .entry)) / 16) (length (now (texts .entry))) (length (now (payload .entry))) r (now (payload .exit)) ⌝ }
+{
+    load(table, words, n);
+    let mut a = write_list(
+        &words[..n],
+        root_name,
+        root_type,
+        mode,
+        events,
+        texts,
+        payload,
+    );
+    let at = a.place;
+    a.place = placed(n, table.len() / 4, at);
+    a
 }
 
 // The writing of bytes.
@@ -78,18 +149,44 @@ pub fn write_bytes(
     ensures { λ r. ⌜ Writes (writeBytes (now (table .entry)) «root_name» «root_type» mode (now (events .entry)) (now (texts .entry)) (length (now (payload .entry)))) mode (length (now (events .entry)) / 16) (length (now (texts .entry))) (length (now (payload .entry))) r (now (payload .exit)) ⌝ }
 {
     let n = words_lent(table.len());
-    let mut words = [0u32; 8964];
-    load(table, &mut words, n);
-    let mut a = write_list(
-        &words[..n],
+    if n <= 128 {
+        let mut few = [0u32; 128];
+        return write_in(
+            table,
+            n,
+            &mut few,
+            root_name,
+            root_type,
+            mode,
+            events,
+            texts,
+            payload,
+        );
+    }
+    if n <= 1024 {
+        let mut some = [0u32; 1024];
+        return write_in(
+            table,
+            n,
+            &mut some,
+            root_name,
+            root_type,
+            mode,
+            events,
+            texts,
+            payload,
+        );
+    }
+    let mut all = [0u32; 8964];
+    write_in(
+        table,
+        n,
+        &mut all,
         root_name,
         root_type,
         mode,
         events,
         texts,
         payload,
-    );
-    let at = a.place;
-    a.place = placed(n, table.len() / 4, at);
-    a
+    )
 }

@@ -1,7 +1,4 @@
--- `read_bytes`: the table's words, the words lent for events, and the place in the table.
-use native.Mathlib.Omega.{arith}
-use lib.ListN.{length-take}
-use Rattle.host.proofs.Replies.{bytes-read}
+-- `read_bytes`: in room for few words of a table, for some, for all.
 use borrow.Author.Needs.{needs}
 use Rattle.host.proofs.reads.read_bytes.Statement.{statement}
 use Rattle.host.proofs.reads.read_bytes.Tie as tie
@@ -9,32 +6,11 @@ use Rattle.host.proofs.reads.read_bytes.Tie as tie
 words-lent-requires : tie.Need-words-lent-requires
 words-lent-requires c κs = search needs
 
-slice-aggregate-load : tie.Need-slice-aggregate-load
-slice-aggregate-load c = search needs
+slice-aggregate-read-in : tie.Need-slice-aggregate-read-in
+slice-aggregate-read-in c = search needs
 
-load-requires : tie.Need-load-requires
-load-requires c κs = search needs
-
-slot-words-requires : tie.Need-slot-words-requires
-slot-words-requires c κs = search needs
-
-array-share-prefix-words : tie.Need-array-share-prefix-words
-array-share-prefix-words c = search needs
-
-slice-aggregate-read-words : tie.Need-slice-aggregate-read-words
-slice-aggregate-read-words c = simp length-take (omega arith)
-
-array-borrow-prefix-list : tie.Need-array-borrow-prefix-list
-array-borrow-prefix-list c = search needs
-
-slice-aggregate-read-words-2 : tie.Need-slice-aggregate-read-words-2
-slice-aggregate-read-words-2 c = simp length-take (omega arith)
-
-read-words-requires : tie.Need-read-words-requires
-read-words-requires c κs = simp length-take (omega arith)
-
-placed-requires : tie.Need-placed-requires
-placed-requires c κs = search needs
+read-in-requires : tie.Need-read-in-requires
+read-in-requires c κs = search needs
 
 same-length : tie.Need-same-length
 same-length c = search needs
@@ -43,26 +19,55 @@ same-length-2 : tie.Need-same-length-2
 same-length-2 c = search needs
 
 returns : tie.Need-returns
-returns c =
-    let b = c .before .before .before .before .before .before in
-    let d = b .before .before .before .before .before in
-    bytes-read _ _ _ _ _ _ _ _ _ (b .read-words .result) _ _ _ (d .before .before .before .before .words-lent .ensures .0) (d .before .before .load .ensures)
-    (simp length-take (omega (arith, d .slot-words .ensures))) (b .read-words .ensures) (c .placed .ensures)
+returns c = c .before .before .before .before .before .read-in .ensures
+
+slice-aggregate-read-in-2 : tie.Need-slice-aggregate-read-in-2
+slice-aggregate-read-in-2 c = search needs
+
+read-in-requires-2 : tie.Need-read-in-requires-2
+read-in-requires-2 c κs = search needs
+
+same-length-3 : tie.Need-same-length-3
+same-length-3 c = search needs
+
+same-length-4 : tie.Need-same-length-4
+same-length-4 c = search needs
+
+returns-2 : tie.Need-returns-2
+returns-2 c = c .before .before .before .before .before .read-in2 .ensures
+
+slice-aggregate-read-in-3 : tie.Need-slice-aggregate-read-in-3
+slice-aggregate-read-in-3 c = search needs
+
+read-in-requires-3 : tie.Need-read-in-requires-3
+read-in-requires-3 c κs = search needs
+
+same-length-5 : tie.Need-same-length-5
+same-length-5 c = search needs
+
+same-length-6 : tie.Need-same-length-6
+same-length-6 c = search needs
+
+returns-3 : tie.Need-returns-3
+returns-3 c = c .before .before .before .before .before .read-in3 .ensures
 
 pub read-bytes-spec : {M : Type 1} → statement M
 read-bytes-spec =
     tie.close
     (tie.spec
     words-lent-requires
-    slice-aggregate-load
-    load-requires
-    slot-words-requires
-    array-share-prefix-words
-    slice-aggregate-read-words
-    array-borrow-prefix-list
-    slice-aggregate-read-words-2
-    read-words-requires
-    placed-requires
+    slice-aggregate-read-in
+    read-in-requires
     same-length
     same-length-2
-    returns)
+    returns
+    slice-aggregate-read-in-2
+    read-in-requires-2
+    same-length-3
+    same-length-4
+    returns-2
+    slice-aggregate-read-in-3
+    read-in-requires-3
+    same-length-5
+    same-length-6
+    returns-3)

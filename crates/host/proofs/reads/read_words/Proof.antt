@@ -1,5 +1,7 @@
--- `read_words`: the reader's words, then as bytes over zeros.
-use Rattle.host.proofs.Replies.{words-read}
+-- `read_words`: the reader's words, then those of its events as bytes over zeros.
+use native.Mathlib.Omega.{arith}
+use lib.ListN.{length-take}
+use Rattle.host.proofs.Replies.{words-fit, words-read}
 use borrow.Author.Needs.{needs}
 use Rattle.host.proofs.reads.read_words.Statement.{statement}
 use Rattle.host.proofs.reads.read_words.Tie as tie
@@ -10,8 +12,29 @@ read-requires c κs = search needs
 clear-requires : tie.Need-clear-requires
 clear-requires c κs = search needs
 
+cast-k : tie.Need-cast-k
+cast-k c = search needs
+
+mul-k : tie.Need-mul-k
+mul-k c = search needs
+
+slice-reshare-prefix-store : tie.Need-slice-reshare-prefix-store
+slice-reshare-prefix-store c =
+    let r = c .before .before .before .before .before .before .before .before .before .read in
+    words-fit _ _ _ _ (r .ensures .answer) (r .ensures .events-left) (r .kept .1 .1 .1 .1 .0)
+
+slice-aggregate-store : tie.Need-slice-aggregate-store
+slice-aggregate-store c =
+    let r = c .before .before .before .before .before .before .before .before .before .before .read in
+    let h = words-fit _ _ _ _ (r .ensures .answer) (r .ensures .events-left) (r .kept .1 .1 .1 .1 .0) in
+    simp length-take (omega arith)
+
 store-requires : tie.Need-store-requires
-store-requires c κs = search needs
+store-requires c κs =
+    let b = c .before .before .before .before .before .before .before .before .before .before .before in
+    let r = b .read in
+    let h = words-fit _ _ _ _ (r .ensures .answer) (r .ensures .events-left) (r .kept .1 .1 .1 .1 .0) in
+    simp length-take (omega arith)
 
 same-length : tie.Need-same-length
 same-length c = search needs
@@ -24,12 +47,12 @@ same-length-3 c = search needs
 
 returns : tie.Need-returns
 returns c =
-    let b = c .before .before .before .before .before .before .before in
+    let b = c .before .before .before .before .before .before .before .before in
     let d = b .before .before .before .before .before .before in
     let entry = d .before .before .before .before .before .before .before .before in
     let r = d .read in
     words-read _ _ _ _ (entry .args .events .now) _ _ _ _ (r .ensures .answer) (r .ensures .events-left) (r .ensures .texts-left) (r .kept .1 .1 .1 .1 .0)
-    (entry .pre) (b .clear .ensures) (c .before .before .store .ensures)
+    (b .clear .ensures) (c .before .before .store .ensures)
 
 pub read-words-spec : {M : Type 1} → statement M
 read-words-spec =
@@ -37,6 +60,10 @@ read-words-spec =
     (tie.spec
     read-requires
     clear-requires
+    cast-k
+    mul-k
+    slice-reshare-prefix-store
+    slice-aggregate-store
     store-requires
     same-length
     same-length-2

@@ -1,56 +1,49 @@
--- `check_bytes`: the verdict over the words lent, its place moved.
-use Rattle.host.proofs.Judging.{judged-ways}
-use native.Mathlib.Omega.{arith}
-use lib.ListN.{length-take}
+-- `check_bytes`: in room for few words, for some, for all.
 use borrow.Author.Needs.{needs}
 use Rattle.host.proofs.tables.check_bytes.Statement.{statement}
 use Rattle.host.proofs.tables.check_bytes.Tie as tie
 
 words-lent-requires : tie.Need-words-lent-requires
-words-lent-requires c κs = search (needs, judged-ways)
+words-lent-requires c κs = search needs
 
-slice-aggregate-load : tie.Need-slice-aggregate-load
-slice-aggregate-load c = search (needs, judged-ways)
+slice-aggregate-check-in : tie.Need-slice-aggregate-check-in
+slice-aggregate-check-in c = search needs
 
-load-requires : tie.Need-load-requires
-load-requires c κs = search (needs, judged-ways)
-
-array-share-prefix-words : tie.Need-array-share-prefix-words
-array-share-prefix-words c = search (needs, judged-ways)
-
-slice-aggregate-check : tie.Need-slice-aggregate-check
-slice-aggregate-check c = simp length-take (omega arith)
-
-check-requires : tie.Need-check-requires
-check-requires c κs = search (needs, judged-ways)
-
-enum-told : tie.Need-enum-told
-enum-told c = search (needs, judged-ways)
-
-enum-known-i : tie.Need-enum-known-i
-enum-known-i c = search (needs, judged-ways)
-
-placed-requires : tie.Need-placed-requires
-placed-requires c κs = search (needs, judged-ways)
+check-in-requires : tie.Need-check-in-requires
+check-in-requires c κs = search needs
 
 returns : tie.Need-returns
-returns c = search (needs, judged-ways)
+returns c = c .before .check-in .ensures
+
+slice-aggregate-check-in-2 : tie.Need-slice-aggregate-check-in-2
+slice-aggregate-check-in-2 c = search needs
+
+check-in-requires-2 : tie.Need-check-in-requires-2
+check-in-requires-2 c κs = search needs
 
 returns-2 : tie.Need-returns-2
-returns-2 c = search (needs, judged-ways)
+returns-2 c = c .before .check-in2 .ensures
+
+slice-aggregate-check-in-3 : tie.Need-slice-aggregate-check-in-3
+slice-aggregate-check-in-3 c = search needs
+
+check-in-requires-3 : tie.Need-check-in-requires-3
+check-in-requires-3 c κs = search needs
+
+returns-3 : tie.Need-returns-3
+returns-3 c = c .before .check-in3 .ensures
 
 pub check-bytes-spec : {M : Type 1} → statement M
 check-bytes-spec =
     tie.close
     (tie.spec
     words-lent-requires
-    slice-aggregate-load
-    load-requires
-    array-share-prefix-words
-    slice-aggregate-check
-    check-requires
-    enum-told
-    enum-known-i
-    placed-requires
+    slice-aggregate-check-in
+    check-in-requires
     returns
-    returns-2)
+    slice-aggregate-check-in-2
+    check-in-requires-2
+    returns-2
+    slice-aggregate-check-in-3
+    check-in-requires-3
+    returns-3)

@@ -1,7 +1,4 @@
--- `write_bytes`: the table's words, and the place in it.
-use native.Mathlib.Omega.{arith}
-use lib.ListN.{length-take}
-use Rattle.host.proofs.Lists.{bytes-written}
+-- `write_bytes`: in room for few words of a table, for some, for all.
 use borrow.Author.Needs.{needs}
 use Rattle.host.proofs.writes.write_bytes.Statement.{statement}
 use Rattle.host.proofs.writes.write_bytes.Tie as tie
@@ -9,43 +6,56 @@ use Rattle.host.proofs.writes.write_bytes.Tie as tie
 words-lent-requires : tie.Need-words-lent-requires
 words-lent-requires c κs = search needs
 
-slice-aggregate-load : tie.Need-slice-aggregate-load
-slice-aggregate-load c = search needs
+slice-aggregate-write-in : tie.Need-slice-aggregate-write-in
+slice-aggregate-write-in c = search needs
 
-load-requires : tie.Need-load-requires
-load-requires c κs = search needs
-
-array-share-prefix-words : tie.Need-array-share-prefix-words
-array-share-prefix-words c = search needs
-
-slice-aggregate-write-list : tie.Need-slice-aggregate-write-list
-slice-aggregate-write-list c = simp length-take (omega arith)
-
-write-list-requires : tie.Need-write-list-requires
-write-list-requires c κs = search needs
-
-placed-requires : tie.Need-placed-requires
-placed-requires c κs = search needs
+write-in-requires : tie.Need-write-in-requires
+write-in-requires c κs = search needs
 
 same-length : tie.Need-same-length
 same-length c = search needs
 
 returns : tie.Need-returns
-returns c =
-    let d = c .before .before .before in
-    let e = d .before .before .before .before in
-    bytes-written _ _ _ _ _ _ _ _ _ _ _ (d .write-list .result) _ _ (e .before .before .words-lent .ensures .0) (e .load .ensures) (d .write-list .ensures) (c .placed .ensures)
+returns c = c .before .before .before .write-in .ensures
+
+slice-aggregate-write-in-2 : tie.Need-slice-aggregate-write-in-2
+slice-aggregate-write-in-2 c = search needs
+
+write-in-requires-2 : tie.Need-write-in-requires-2
+write-in-requires-2 c κs = search needs
+
+same-length-2 : tie.Need-same-length-2
+same-length-2 c = search needs
+
+returns-2 : tie.Need-returns-2
+returns-2 c = c .before .before .before .write-in2 .ensures
+
+slice-aggregate-write-in-3 : tie.Need-slice-aggregate-write-in-3
+slice-aggregate-write-in-3 c = search needs
+
+write-in-requires-3 : tie.Need-write-in-requires-3
+write-in-requires-3 c κs = search needs
+
+same-length-3 : tie.Need-same-length-3
+same-length-3 c = search needs
+
+returns-3 : tie.Need-returns-3
+returns-3 c = c .before .before .before .write-in3 .ensures
 
 pub write-bytes-spec : {M : Type 1} → statement M
 write-bytes-spec =
     tie.close
     (tie.spec
     words-lent-requires
-    slice-aggregate-load
-    load-requires
-    array-share-prefix-words
-    slice-aggregate-write-list
-    write-list-requires
-    placed-requires
+    slice-aggregate-write-in
+    write-in-requires
     same-length
-    returns)
+    returns
+    slice-aggregate-write-in-2
+    write-in-requires-2
+    same-length-2
+    returns-2
+    slice-aggregate-write-in-3
+    write-in-requires-3
+    same-length-3
+    returns-3)

@@ -1,8 +1,5 @@
--- `write_list`: no multiple of 16 bytes, too many events, a list.
-use native.Mathlib.Omega.{arith}
-use lib.ListN.{length-take}
-use mathlib.Core.Path.{refl}
-use Rattle.host.proofs.Lists.{list-odd, list-long, list-whole}
+-- `write_list`: no multiple of 16 bytes, too many events, a list of few, a list.
+use Rattle.host.proofs.Lists.{list-odd, list-long}
 use borrow.Author.Needs.{needs}
 use Rattle.host.proofs.writes.write_list.Statement.{statement}
 use Rattle.host.proofs.writes.write_list.Tie as tie
@@ -25,29 +22,29 @@ same-length-2 c = search needs
 returns-2 : tie.Need-returns-2
 returns-2 c = list-long _ _ _ _ _ _ _ _ _ _ (c .before .before .before .before .before .if1 .left) (c .before .before .before .before .if2 .taken) (c .before .before .write-none2 .ensures)
 
-slice-aggregate-load : tie.Need-slice-aggregate-load
-slice-aggregate-load c = search needs
+slice-aggregate-write-words : tie.Need-slice-aggregate-write-words
+slice-aggregate-write-words c = search needs
 
-load-requires : tie.Need-load-requires
-load-requires c κs = search needs
-
-array-share-prefix-list : tie.Need-array-share-prefix-list
-array-share-prefix-list c = search needs
-
-slice-aggregate-write : tie.Need-slice-aggregate-write
-slice-aggregate-write c = simp length-take (omega arith)
-
-write-requires : tie.Need-write-requires
-write-requires c κs = search needs
+write-words-requires : tie.Need-write-words-requires
+write-words-requires c κs = search needs
 
 same-length-3 : tie.Need-same-length-3
 same-length-3 c = search needs
 
 returns-3 : tie.Need-returns-3
-returns-3 c =
-    let d = c .before .before .before .before .before .before in
-    let e = d .before .before .before in
-    list-whole _ _ _ _ (e .before .before .before .before .before .args .events .now) _ _ _ _ _ _ _ (e .if1 .left) refl (d .load .ensures) (c .before .before .write .ensures)
+returns-3 c = c .before .before .before .write-words .ensures
+
+slice-aggregate-write-words-2 : tie.Need-slice-aggregate-write-words-2
+slice-aggregate-write-words-2 c = search needs
+
+write-words-requires-2 : tie.Need-write-words-requires-2
+write-words-requires-2 c κs = search needs
+
+same-length-4 : tie.Need-same-length-4
+same-length-4 c = search needs
+
+returns-4 : tie.Need-returns-4
+returns-4 c = c .before .before .before .write-words2 .ensures
 
 pub write-list-spec : {M : Type 1} → statement M
 write-list-spec =
@@ -59,10 +56,11 @@ write-list-spec =
     write-none-requires-2
     same-length-2
     returns-2
-    slice-aggregate-load
-    load-requires
-    array-share-prefix-list
-    slice-aggregate-write
-    write-requires
+    slice-aggregate-write-words
+    write-words-requires
     same-length-3
-    returns-3)
+    returns-3
+    slice-aggregate-write-words-2
+    write-words-requires-2
+    same-length-4
+    returns-4)
