@@ -11,3 +11,4 @@ pub mod Faults
 pub mod Keeps
 pub mod Laws
 pub mod Held
+pub mod Runs

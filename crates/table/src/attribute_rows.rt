@@ -1,6 +1,6 @@
 // The attribute rows, of three words each: name, required, type.
 use crate::answers::Verdict;
-use crate::rows::word;
+use crate::runs::four_from;
 ghost use mathlib.Core.Path.{_≡_};
 ghost use Rattle.table.specs.First.{first};
 ghost use Rattle.table.specs.Valid.{attributeWords, attributeRow, rows};
@@ -34,13 +34,11 @@ fn row(table: &[u32], types: u32, a: u32) -> Verdict
     ensures { λ r. ⌜ verdictIs r ≡ first (attributeAt types a) (attributeRow (wordAt (now (table .entry))) types a) ⌝ }
 {
     let base = 4 + 7 * (types as usize) + 3 * (a as usize);
-    let name = word(table, base);
-    let must = word(table, base + 1);
-    let t = word(table, base + 2);
+    let w = four_from(table, base);
+    let t = w.c;
     let simple = 4 + 7 * (t as usize);
-    let content = word(table, simple + 1);
-    let count = word(table, simple + 3);
-    match words(types, name, must, t, content, count) {
+    let v = four_from(table, simple);
+    match words(types, w.a, w.b, t, v.b, v.d) {
         Verdict::Right => Verdict::Right,
         Verdict::Wrong(k) => Verdict::Wrong(base + k),
     }

@@ -4,6 +4,7 @@ mod attribute_rows;
 mod header;
 mod particle_rows;
 pub mod rows;
+mod runs;
 mod type_rows;
 
 pub use answers::Attribute;

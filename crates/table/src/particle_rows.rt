@@ -1,6 +1,6 @@
 // The particle rows, of four words each: a kind, and three words by that kind. Row p is told where a child has to lie over it.
 use crate::answers::Verdict;
-use crate::rows::word;
+use crate::runs::four_from;
 ghost use mathlib.Core.Path.{_≡_};
 ghost use Rattle.table.specs.First.{first};
 ghost use Rattle.table.specs.Valid.{elementWords, groupWords, occursWords, particleWords, particleRow, rows};
@@ -100,11 +100,8 @@ fn row(table: &[u32], types: u32, attributes: u32, particles: u32, p: u32) -> Ve
     ensures { λ r. ⌜ verdictIs r ≡ first (particleAt types attributes p) (particleRow (wordAt (now (table .entry))) types attributes particles p) ⌝ }
 {
     let base = 4 + 7 * (types as usize) + 3 * (attributes as usize) + 4 * (p as usize);
-    let kind = word(table, base);
-    let x = word(table, base + 1);
-    let y = word(table, base + 2);
-    let z = word(table, base + 3);
-    match by_kind(types, particles, p, kind, x, y, z) {
+    let w = four_from(table, base);
+    match by_kind(types, particles, p, w.a, w.b, w.c, w.d) {
         Verdict::Right => Verdict::Right,
         Verdict::Wrong(k) => Verdict::Wrong(base + k),
     }

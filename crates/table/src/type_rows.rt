@@ -1,6 +1,6 @@
 // The type rows, of seven words each. The place of a word at fault counts from its row's first word until `row` adds that word's own.
 use crate::answers::Verdict;
-use crate::rows::word;
+use crate::runs::seven_from;
 use signed::Gap;
 use signed::gap;
 ghost use mathlib.Core.Path.{_≡_};
@@ -121,18 +121,12 @@ fn row(table: &[u32], attributes: u32, particles: u32, t: u32) -> Verdict
     ensures { λ r. ⌜ verdictIs r ≡ first (typeAt t) (typeRow (wordAt (now (table .entry))) attributes particles t) ⌝ }
 {
     let base = 4 + 7 * (t as usize);
-    let held = word(table, base);
-    let content = word(table, base + 1);
-    let start = word(table, base + 2);
-    let count = word(table, base + 3);
-    let a = word(table, base + 4);
-    let b = word(table, base + 5);
-    let c = word(table, base + 6);
-    let h = front(attributes, held, content, start, count);
+    let w = seven_from(table, base);
+    let h = front(attributes, w.a, w.b, w.c, w.d);
     if let Verdict::Wrong(k) = h {
         return Verdict::Wrong(base + k);
     }
-    match by_content(particles, content, a, b, c) {
+    match by_content(particles, w.b, w.e, w.f, w.g) {
         Verdict::Right => Verdict::Right,
         Verdict::Wrong(k) => Verdict::Wrong(base + k),
     }

@@ -1,51 +1,32 @@
 -- `row`: the four words read, the verdict on them, and the row's own place added.
-use native.Mathlib.Omega.{arith}
 use Rattle.table.proofs.OneRow.{particle-row-ways}
 use borrow.Author.Needs.{needs}
 use Rattle.table.proofs.particle_rows.row.Statement.{statement}
 use Rattle.table.proofs.particle_rows.row.Tie as tie
 
 mul-base : tie.Need-mul-base
-mul-base c = omega arith
+mul-base c = search needs
 
 add-base : tie.Need-add-base
-add-base c = omega arith
+add-base c = search needs
 
 mul-base-2 : tie.Need-mul-base-2
-mul-base-2 c = omega arith
+mul-base-2 c = search needs
 
 add-base-2 : tie.Need-add-base-2
-add-base-2 c = omega arith
+add-base-2 c = search needs
 
 mul-base-3 : tie.Need-mul-base-3
-mul-base-3 c = omega arith
+mul-base-3 c = search needs
 
 add-base-3 : tie.Need-add-base-3
-add-base-3 c = omega arith
+add-base-3 c = search needs
 
-word-requires : tie.Need-word-requires
-word-requires c κs = tt
-
-add-word : tie.Need-add-word
-add-word c = omega arith
-
-word-requires-2 : tie.Need-word-requires-2
-word-requires-2 c κs = tt
-
-add-word-2 : tie.Need-add-word-2
-add-word-2 c = omega arith
-
-word-requires-3 : tie.Need-word-requires-3
-word-requires-3 c κs = tt
-
-add-word-3 : tie.Need-add-word-3
-add-word-3 c = omega arith
-
-word-requires-4 : tie.Need-word-requires-4
-word-requires-4 c κs = tt
+four-from-requires : tie.Need-four-from-requires
+four-from-requires c κs = search needs
 
 by-kind-requires : tie.Need-by-kind-requires
-by-kind-requires c κs = tt
+by-kind-requires c κs = search needs
 
 enum-told : tie.Need-enum-told
 enum-told c = search needs
@@ -53,8 +34,8 @@ enum-told c = search needs
 enum-known-k : tie.Need-enum-known-k
 enum-known-k c = search needs
 
-add-t22 : tie.Need-add-t22
-add-t22 c = search particle-row-ways
+add-t19 : tie.Need-add-t19
+add-t19 c = search particle-row-ways
 
 returns : tie.Need-returns
 returns c = search particle-row-ways
@@ -72,16 +53,10 @@ row-spec =
     add-base-2
     mul-base-3
     add-base-3
-    word-requires
-    add-word
-    word-requires-2
-    add-word-2
-    word-requires-3
-    add-word-3
-    word-requires-4
+    four-from-requires
     by-kind-requires
     enum-told
     enum-known-k
-    add-t22
+    add-t19
     returns
     returns-2)
