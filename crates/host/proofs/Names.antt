@@ -9,7 +9,7 @@ use borrow.Rule.Slice.PartMut.{putMid}
 use Rattle.signed.specs.Laws.{ordered}
 use Rattle.reader.specs.Answers.{firstNames}
 use Rattle.model.specs.Whole.{filled}
-use Rattle.words.specs.Bytes.{two, bytesOf, namesOf}
+use Rattle.words.specs.Bytes.{two, spelled, bytesOf, namesOf}
 use Rattle.words.specs.BytesLaws.{bytes-length}
 use Rattle.host.specs.Area.{areaOf, told, capped}
 use Rattle.host.specs.AreaLaws.{first-length, first-at}
@@ -27,6 +27,11 @@ module _ (names : List ℕ) (count i : ℕ) where
   name-over h = sym (List·getD-eq-default (firstNames names count) 0 (omega (arith, first-length names count)))
 
 pub ruleset name-ways = (name-in, name-past, name-over)
+
+-- no name: zeros
+pub names-zero : (names s s′ : List ℕ) (count : ℕ) → count ≡ 0 → length s ≡ 128 → s′ ≡ replicate (length s) 0 → s′ ≡ namesOf (filled 64 (firstNames names count))
+unfolding firstNames filled spelled
+names-zero names s s′ count e n z = z ∙ rw (n, e)
 
 -- zeros change no name
 zero-at : (n i : ℕ) → getD {A = ℕ} (replicate n 0) i 0 ≡ 0

@@ -1,4 +1,5 @@
 // The area in which a host finds an answer.
+use words::clear;
 use words::put_half;
 use words::store;
 ghost use mathlib.Core.Path.{_≡_};
@@ -33,8 +34,8 @@ fn name_at(names: &[u16], count: usize, i: usize) -> u16
     0
 }
 
-// The first count names, and zeros for the rest of 64.
-fn put_names(s: &mut [u8], names: &[u16], count: usize)
+// The first count names, and zeros for the rest of 64, name by name.
+fn put_each(s: &mut [u8], names: &[u16], count: usize)
     requires { ⌜ (length (now s) ≡ 128) × (count ≤ 64) ⌝ }
     ensures { λ _. ⌜ now (s .exit) ≡ namesOf (filled 64 (firstNames (now (names .entry)) count)) ⌝ }
 {
@@ -43,6 +44,18 @@ fn put_names(s: &mut [u8], names: &[u16], count: usize)
         put_half(s, 2 * i, name_at(names, count, i));
         i += 1;
     }
+}
+
+// The same; most answers have no name.
+fn put_names(s: &mut [u8], names: &[u16], count: usize)
+    requires { ⌜ (length (now s) ≡ 128) × (count ≤ 64) ⌝ }
+    ensures { λ _. ⌜ now (s .exit) ≡ namesOf (filled 64 (firstNames (now (names .entry)) count)) ⌝ }
+{
+    if count == 0 {
+        clear(s);
+        return;
+    }
+    put_each(s, names, count);
 }
 
 // The whole area: six words, then the names.
