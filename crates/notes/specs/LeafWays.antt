@@ -81,6 +81,10 @@ none h = omega arith
 pub judged-few : (L X N : List ℕ) (c : Cursor) (f : Bare) (b : ℕ) → Ready L X N c → b ≡ judged L (c .event) f → b ≤ 0 → c .event < 2048
 judged-few L X N c f b r e z = let h = judged-in L (c .event) f (sym e ∙ none z) in let g = r .few in omega arith
 
+-- and has room for its note
+pub judged-room : (L X N : List ℕ) (c : Cursor) (f : Bare) (b : ℕ) → Ready L X N c → b ≡ judged L (c .event) f → b ≤ 0 → 4 * c .event + 4 ≤ length N
+judged-room L X N c f b r e z = let h = judged-in L (c .event) f (sym e ∙ none z) in let g = r .sized in omega arith
+
 -- one event noted
 module _ (L X : List ℕ) (c : Cursor) (N : List ℕ) (f : Bare) (m : Res (List ℕ × List ℕ)) (r : Ready L X N c) (b : ℕ) (j : b ≡ judged L (c .event) f) where
   pub noted-unlike : 0 < b → Walked L X (noted f m (eventsAt L (c .event))) c N (Refuse b (c .event)) N
@@ -116,7 +120,7 @@ module _ (L X : List ℕ) (c : Cursor) (N : List ℕ) (f : Bare) (m : Res (List 
             out = noted-like ∙ rw (g, spelt, next);
             counts = rw spelt bits;
             onward = omega arith;
-            ready = record { sized = ap length k ∙ kept-length N (c .event) n ∙ len; few = few; inside = omega arith; used = used; short = omega (arith, r .short); small = omega (arith, r .small) };
+            ready = record { sized = omega (arith, ap length k, kept-length N (c .event) n); few = few; inside = omega arith; used = used; short = omega (arith, r .short); small = omega (arith, r .small) };
             before = λ x h. ap (λ (l : List ℕ). getD l x 0) k ∙ kept-other N (c .event) n x (inl h);
           };
         }
@@ -130,7 +134,7 @@ mark-go L X c N f r b j z n e M k =
     empty : (X : List ℕ) → noteBits X (only (fixedPiece 0 0)) ≡ []
     empty X = rw (piece-none X)
 
-pub ruleset mark-ways = (noted-unlike, judged-few, mark-go)
+pub ruleset mark-ways = (noted-unlike, judged-few, judged-room, mark-go)
 
 -- coded: what is sized is coded so
 module _ (c : Code) (v : ℕ) where
@@ -177,7 +181,7 @@ module _ (L X : List ℕ) (c : Cursor) (N : List ℕ) (f : Bare) (r : Ready L X 
   pub coded-fits : (n : Bits) → s ≡ sv.Takes n → Under 41 s → FitsIn w32 (c .bits + n .0)
   coded-fits n w u = let few = size-small s u n w in let a = r .small in let d = r .few in let i = r .inside in record { fits = omega arith }
 
-pub ruleset coded-ways = (noted-unlike, judged-few, coded-fault, coded-go, coded-fits)
+pub ruleset coded-ways = (noted-unlike, judged-few, judged-room, coded-fault, coded-go, coded-fits)
 
 -- text_fault
 module _ (X : List ℕ) (used v : ℕ) where
@@ -279,7 +283,7 @@ module _ (L X : List ℕ) (c : Cursor) (N : List ℕ) (v : ℕ) (r : Ready L X N
           (rw (m, g, piece-five X 33 v refl, piece-bytes X (34 + v) (c .used) (omega arith)) (let off : 34 + v - 34 ≡ v = omega arith in rw off))
           p refl (omega arith) (omega arith) (f .1) (omega arith)
 
-pub ruleset text-ways = (noted-unlike, judged-few, text-refused, text-small, text-place, text-end, text-eight, text-part, text-bits, text-go)
+pub ruleset text-ways = (noted-unlike, judged-few, judged-room, text-refused, text-small, text-place, text-end, text-eight, text-part, text-bits, text-go)
 
 -- close
 module _ (L X : List ℕ) (c e : Cursor) (N : List ℕ) (mode q : ℕ) (r : Ready L X N c) (s : Sealing L X N c e) (b : ℕ) (j : b ≡ judged L (e .event) (wanted 6 0 0)) where
@@ -294,8 +298,11 @@ module _ (L X : List ℕ) (c e : Cursor) (N : List ℕ) (mode q : ℕ) (r : Read
     pub close-in : e .event < 2048
     close-in = let h = judged-in L (e .event) (wanted 6 0 0) (sym j ∙ none z) in let g = r .few in omega arith
 
-    pub close-start : c .event < 2048
-    close-start = let h = close-in in let g = s .started in omega arith
+    pub close-room : 4 * e .event + 4 ≤ length N
+    close-room = let h = judged-in L (e .event) (wanted 6 0 0) (sym j ∙ none z) in let g = r .sized in omega arith
+
+    pub close-start : (M : List ℕ) → length M ≡ length N → 4 * c .event + 4 ≤ length M
+    close-start M k = let h = close-room in let g = s .started in omega arith
 
     pub close-less : c .bits ≤ e .bits
     close-less = let g = s .counts in omega arith
@@ -316,7 +323,7 @@ module _ (L X : List ℕ) (c e : Cursor) (N : List ℕ) (mode q : ℕ) (r : Read
         let st = s .started in
         let cn = s .counts in
         let bound : e .bits - c .bits ≡ length inner = omega arith in
-        let lenM : length M ≡ 8192 = ap length k ∙ kept-length N (e .event) n ∙ len in
+        let lenM : length M ≡ length N = ap length k ∙ kept-length N (e .event) n in
         let f : Cursor = record { event = e .event + 1; used = e .used; bits = e .bits + h .bits } in
         let head : noteAt X K (c .event) ≡ headOut (modeIs mode) (lengthOf q (e .bits - c .bits)) =
         ap (λ (l : List ℕ). noteAt X l (c .event)) y ∙ kept-note M (c .event) (h .note) X (omega arith) ∙ g .note .is X in
@@ -340,9 +347,9 @@ module _ (L X : List ℕ) (c e : Cursor) (N : List ℕ) (mode q : ℕ) (r : Read
             out = taken-like L (e .event) (wanted 6 0 0) asEnd _ refl (sym j ∙ none z) ∙ rw (← bound, whole);
             counts = rw whole (omega arith);
             onward = omega arith;
-            ready = record { sized = ap length y ∙ kept-length M (c .event) (h .note) ∙ lenM; few = few; inside = omega arith; used = s .ready .used; short = omega (arith, s .ready .short); small = omega (arith, s .ready .small) };
+            ready = record { sized = omega (arith, ap length y, kept-length M (c .event) (h .note)); few = few; inside = omega arith; used = s .ready .used; short = omega (arith, s .ready .short); small = omega (arith, s .ready .small) };
             before = λ x v. ap (λ (l : List ℕ). getD l x 0) y ∙ kept-other M (c .event) (h .note) x (inl v) ∙ ap (λ (l : List ℕ). getD l x 0) k ∙ kept-other N (e .event) n x (inl (omega arith));
           };
         }
 
-pub ruleset close-ways = (close-unlike, close-in, close-start, close-less, close-next, close-fits, close-go)
+pub ruleset close-ways = (close-unlike, close-in, close-room, close-start, close-less, close-next, close-fits, close-go)

@@ -29,7 +29,7 @@ textsAt X used = drop used X
 
 -- room for every event's note; a cursor within the list, its counts small
 pub record Ready (L X N : List ℕ) (c : Cursor) : Type 0 where
-  pub sized : length N ≡ 8192
+  pub sized : 4 * eventsIn L ≤ length N
   pub few : eventsIn L ≤ 2048
   pub inside : c .event ≤ eventsIn L
   pub used : c .used ≤ length X

@@ -14,7 +14,7 @@ use value::writing::size;
 use wire::writing::size5;
 ghost use mathlib.Core.Path.{_≡_};
 ghost use mathlib.Core.List.{[]};
-ghost use Prim.Native.Nat.{_+_, _*_, _≤_, _<_};
+ghost use Prim.Native.Nat.{_+_, _*_, _≤_};
 ghost use lib.ListN.{length, getD};
 ghost use Rattle.wire.specs.Res.{got};
 ghost use Rattle.value.specs.Simple.{plain, text};
@@ -50,8 +50,8 @@ pub fn unlike(events: &[u32], at: usize, kind: u32, p: u32, q: u32) -> u32
 }
 
 // The note of event at.
-pub fn keep(notes: &mut [u32; 8192], at: usize, n: Note)
-    requires { ⌜ at < 2048 ⌝ }
+pub fn keep(notes: &mut [u32], at: usize, n: Note)
+    requires { ⌜ 4 * at + 4 ≤ length (now notes) ⌝ }
     ensures { λ _. ⌜ now (notes .exit) ≡ keeps (now (notes .entry)) at n ⌝ }
 {
     let one = n.one;
@@ -71,7 +71,7 @@ pub fn keep(notes: &mut [u32; 8192], at: usize, n: Note)
 pub fn mark(
     events: &[u32],
     texts: &[u8],
-    notes: &mut [u32; 8192],
+    notes: &mut [u32],
     c: Cursor,
     kind: u32,
     p: u32,
@@ -100,7 +100,7 @@ pub fn mark(
 pub fn coded(
     events: &[u32],
     texts: &[u8],
-    notes: &mut [u32; 8192],
+    notes: &mut [u32],
     c: Cursor,
     kind: u32,
     p: u32,
@@ -162,7 +162,7 @@ fn text_note(v: u32, from: u32) -> Note
 }
 
 // A text's event, of v bytes: 20, 23, 16.
-pub fn text_value(events: &[u32], texts: &[u8], notes: &mut [u32; 8192], c: Cursor, v: u32) -> Step
+pub fn text_value(events: &[u32], texts: &[u8], notes: &mut [u32], c: Cursor, v: u32) -> Step
     requires { ⌜ Ready (now events) (now texts) (now notes) c ⌝ }
     ensures { λ r. ⌜ Walked (now (events .entry)) (now (texts .entry)) (noted (wanted 3 v 0) (simpleOut text v (textsAt (now (texts .entry)) (c .used))) (eventsAt (now (events .entry)) (c .event))) c (now (notes .entry)) r (now (notes .exit)) ⌝ }
 {
@@ -192,7 +192,7 @@ pub fn text_value(events: &[u32], texts: &[u8], notes: &mut [u32; 8192], c: Curs
 pub fn close(
     events: &[u32],
     texts: &[u8],
-    notes: &mut [u32; 8192],
+    notes: &mut [u32],
     mode: u32,
     q: u32,
     c: Cursor,

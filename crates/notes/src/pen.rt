@@ -49,8 +49,8 @@ fn put_note(payload: &mut [u8], at: Bits, texts: &[u8], n: Note) -> Bits
 }
 
 // The note of event i.
-fn note_at(notes: &[u32; 8192], i: usize) -> Note
-    requires { ⌜ i < 2048 ⌝ }
+fn note_at(notes: &[u32], i: usize) -> Note
+    requires { ⌜ 4 * i + 4 ≤ length (now notes) ⌝ }
     ensures { λ r. ⌜ r ≡ noteIn (now (notes .entry)) i ⌝ }
 {
     let j = 4 * i;
@@ -66,8 +66,8 @@ fn note_at(notes: &[u32; 8192], i: usize) -> Note
 }
 
 // The notes of the first n events, and the place past them.
-pub fn put_notes(payload: &mut [u8], at: Bits, texts: &[u8], notes: &[u32; 8192], n: usize) -> Bits
-    requires { ⌜ (Room (now payload) (at .0) (length (spells (now texts) (now notes) 0 n))) × (n ≤ 2048) ⌝ }
+pub fn put_notes(payload: &mut [u8], at: Bits, texts: &[u8], notes: &[u32], n: usize) -> Bits
+    requires { ⌜ (Room (now payload) (at .0) (length (spells (now texts) (now notes) 0 n))) × (4 * n ≤ length (now notes)) ⌝ }
     ensures { λ r. ⌜ Wrote (now (payload .entry)) (now (payload .exit)) (at .0) (spells (now (texts .entry)) (now (notes .entry)) 0 n) (r .0) ⌝ }
 {
     let mut p = at;

@@ -14,10 +14,10 @@ size-requires : tie.Need-size-requires
 size-requires c κs = search (needs, coded-ways)
 
 enum-known-e : tie.Need-enum-known-e
-enum-known-e c = search needs
+enum-known-e c = search (needs, coded-ways)
 
 enum-known-n : tie.Need-enum-known-n
-enum-known-n c = search needs
+enum-known-n c = search (needs, coded-ways)
 
 number-requires : tie.Need-number-requires
 number-requires c κs = search (needs, coded-ways)
@@ -28,15 +28,17 @@ keep-requires c κs = search (needs, coded-ways)
 add-bits : tie.Need-add-bits
 add-bits c = search (needs, coded-ways)
 
-add-t22 : tie.Need-add-t22
-add-t22 c = search (needs, coded-ways)
+add-t23 : tie.Need-add-t23
+add-t23 c = search (needs, coded-ways)
 
 returns-2 : tie.Need-returns-2
 returns-2 c = search (needs, coded-ways)
 
+same-length : tie.Need-same-length
+same-length c = search needs
+
 returns-3 : tie.Need-returns-3
-returns-3 c =
-    search (coded-go, c .before .before .before .before .before .before .before .before .before .before .before .before .before .pre, c .before .before .before .before .before .before .before .before .before .before .unlike .ensures, c .before .before .before .before .before .before .before .before .before .if1 .left, c .before .before .before .before .before .before .before .before .size .ensures .0, c .before .before .before .before .before .before .before .before .size .ensures .1, c .before .before .before .before .before .before .n .given .1, c .before .before .before .before .number .ensures, c .before .before .keep .ensures)
+returns-3 c = search (coded-go, c .before .before .before .before .before .before .before .before .before .before .before .before .before .before .before .before .pre, c .before .before .before .before .before .before .before .before .before .before .before .before .unlike .ensures, c .before .before .before .before .before .before .before .before .before .before .before .if1 .left, c .before .before .before .before .before .before .before .before .before .before .size .ensures .0, c .before .before .before .before .before .before .before .before .before .before .size .ensures .1, c .before .before .before .before .before .before .before .before .n .given .1, c .before .before .before .before .before .before .number .ensures, c .before .before .before .before .keep .ensures)
 
 pub coded-spec : {M : Type 1} → statement M
 coded-spec =
@@ -50,6 +52,7 @@ coded-spec =
     number-requires
     keep-requires
     add-bits
-    add-t22
+    add-t23
     returns-2
+    same-length
     returns-3)

@@ -16,13 +16,23 @@ just-requires c κs = search (needs, mark-ways)
 keep-requires : tie.Need-keep-requires
 keep-requires c κs = search (needs, mark-ways)
 
-add-t16 : tie.Need-add-t16
-add-t16 c = search (needs, mark-ways)
+add-t17 : tie.Need-add-t17
+add-t17 c = search (needs, mark-ways)
+
+same-length : tie.Need-same-length
+same-length c = search needs
 
 returns-2 : tie.Need-returns-2
-returns-2 c =
-    search (mark-go, c .before .before .before .before .before .before .before .pre, c .before .before .before .before .unlike .ensures, c .before .before .before .if1 .left, c .before .before .just .ensures, c .keep .ensures)
+returns-2 c = search (mark-go, c .before .before .before .before .before .before .before .before .before .before .pre, c .before .before .before .before .before .before .unlike .ensures, c .before .before .before .before .before .if1 .left, c .before .before .before .before .just .ensures, c .before .before .keep .ensures)
 
 pub mark-spec : {M : Type 1} → statement M
 mark-spec =
-    tie.close (tie.spec unlike-requires returns just-requires keep-requires add-t16 returns-2)
+    tie.close
+    (tie.spec
+    unlike-requires
+    returns
+    just-requires
+    keep-requires
+    add-t17
+    same-length
+    returns-2)

@@ -37,15 +37,17 @@ mul-bits c = search (needs, text-ways)
 add-bits-2 : tie.Need-add-bits-2
 add-bits-2 c = search (needs, text-ways)
 
-add-t19 : tie.Need-add-t19
-add-t19 c = search (needs, text-ways)
+add-t20 : tie.Need-add-t20
+add-t20 c = search (needs, text-ways)
 
-add-t21 : tie.Need-add-t21
-add-t21 c = search (needs, text-ways)
+add-t22 : tie.Need-add-t22
+add-t22 c = search (needs, text-ways)
+
+same-length : tie.Need-same-length
+same-length c = search needs
 
 returns-3 : tie.Need-returns-3
-returns-3 c =
-    search (needs, text-go, c .before .before .before .before .before .before .before .before .before .before .before .before .pre, c .before .before .before .before .before .before .before .before .before .unlike .ensures, c .before .before .before .before .before .before .before .before .if1 .left, c .before .before .before .before .before .before .before .text-fault .ensures, c .before .before .before .before .before .before .if2 .left, c .before .before .size5 .ensures, c .before .before .before .before .before .text-note .ensures, c .before .before .before .keep .ensures)
+returns-3 c = search (needs, text-go, c .before .before .before .before .before .before .before .before .before .before .before .before .before .before .before .pre, c .before .before .before .before .before .before .before .before .before .before .before .unlike .ensures, c .before .before .before .before .before .before .before .before .before .before .if1 .left, c .before .before .before .before .before .before .before .before .before .text-fault .ensures, c .before .before .before .before .before .before .before .before .if2 .left, c .before .before .size5 .ensures, c .before .before .before .before .before .before .before .text-note .ensures, c .before .before .before .before .before .keep .ensures)
 
 pub text-value-spec : {M : Type 1} → statement M
 text-value-spec =
@@ -62,6 +64,7 @@ text-value-spec =
     add-bits
     mul-bits
     add-bits-2
-    add-t19
-    add-t21
+    add-t20
+    add-t22
+    same-length
     returns-3)
