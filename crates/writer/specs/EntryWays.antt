@@ -72,10 +72,10 @@ finish-used L X N c r = let i = r .inside in let d = r .few in let s = r .short 
 pub finish-bits : (L X N : List ℕ) (c : Cursor) → Ready L X N c → FitsIn w32 (8 + c .bits)
 finish-bits L X N c r = let i = r .inside in let d = r .few in let s = r .small in record { fits = omega arith }
 
-pub finish-few : (L X N : List ℕ) (c : Cursor) → Ready L X N c → c .event ≤ 2048
-finish-few L X N c r = let i = r .inside in let d = r .few in omega arith
+pub finish-room : (L X N : List ℕ) (c : Cursor) → Ready L X N c → 4 * c .event ≤ length N
+finish-room L X N c r = let i = r .inside in let d = r .sized in omega arith
 
-pub ruleset finish-ways = (finish-refused, finish-fits, finish-short, finish-done, finish-place, finish-used, finish-bits, finish-few)
+pub ruleset finish-ways = (finish-refused, finish-fits, finish-short, finish-done, finish-place, finish-used, finish-bits, finish-room)
 
 -- write
 module _ (t : List ℕ) (name kind mode : ℕ) (L X : List ℕ) (room : ℕ) (f : faultT.Fault) (h : Fronted t name kind mode L f) where
@@ -83,54 +83,59 @@ module _ (t : List ℕ) (name kind mode : ℕ) (L X : List ℕ) (room : ℕ) (f 
       → Writes (writing t name kind mode L X room) mode (eventsIn L) (length X) room a P
   write-refused n p w a e P z = unmade-writes _ mode (eventsIn L) (length X) room n p a P ((rw w at (h .is)) X room) e z
 
-  module _ (w : f ≡ fv.No) where
-    fine : Fine t name kind mode L
-    fine = rw w at (h .is)
+pub write-fine : (t : List ℕ) (name kind mode : ℕ) (L : List ℕ) (f : faultT.Fault) → Fronted t name kind mode L f → f ≡ fv.No → Fine t name kind mode L
+write-fine t name kind mode L f h w = rw w at (h .is)
 
-    pub write-ready : (N : List ℕ) → length N ≡ 8192 → Ready L X N origin
-    write-ready N e = let s = fine .shape in record { sized = e; few = s .few; inside = omega arith; used = omega arith; short = omega arith; small = omega arith }
+-- no event too many, so there is room for each one's note
+pub write-room : (t : List ℕ) (name kind mode : ℕ) (L : List ℕ) → Fine t name kind mode L → 4 * eventsIn L ≤ 8192
+write-room t name kind mode L h = let s = h .shape .few in omega arith
 
-    pub write-right : Right t
-    write-right = record { is = fine .enters .table-right }
+-- the walk
+module _ (t : List ℕ) (name kind mode : ℕ) (L X : List ℕ) (room : ℕ) (fine : Fine t name kind mode L) where
+  pub write-ready : (N : List ℕ) → 4 * eventsIn L ≤ length N → Ready L X N origin
+  write-ready N e = let s = fine .shape in record { sized = e; few = s .few; inside = omega arith; used = omega arith; short = omega arith; small = omega arith }
 
-    pub write-type : kind < typesIn t
-    write-type = let k = fine .enters .type-known in omega (arith, types-are t)
+  pub write-right : Right t
+  write-right = record { is = fine .enters .table-right }
 
-    root : write (modeIs mode) (heldOf t) (planOf t name kind) (listOf L) X ≡ element· t mode 63 name kind (eventsAt L 0) (textsAt X 0)
-    unfolding element· inside· eventsAt textsAt
-    root =
-        let n : eventsIn L - 0 ≡ eventsIn L = omega arith in
-        rw n (steps.particle-element (modeIs mode) (heldOf t) (tableOf t) (listOf L) X 63 name kind)
+  pub write-type : kind < typesIn t
+  write-type = let k = fine .enters .type-known in omega (arith, types-are t)
 
-    count : length (listOf L) ≡ eventsIn L
-    unfolding eventsAt
-    count = let n : eventsIn L - 0 ≡ eventsIn L = omega arith in rw n at (events-count L 0)
+  root : write (modeIs mode) (heldOf t) (planOf t name kind) (listOf L) X ≡ element· t mode 63 name kind (eventsAt L 0) (textsAt X 0)
+  unfolding element· inside· eventsAt textsAt
+  root =
+      let n : eventsIn L - 0 ≡ eventsIn L = omega arith in
+      rw n (steps.particle-element (modeIs mode) (heldOf t) (tableOf t) (listOf L) X 63 name kind)
 
-    walked : writing t name kind mode L X room ≡ spent (eventsIn L) (element· t mode 63 name kind (eventsAt L 0) (textsAt X 0)) (roomed room (modeIs mode))
-    unfolding written
-    walked = let g = fine in writing-entered t name kind mode L X room (modeIs mode) (g .enters) (g .mode-is) (g .shape) ∙ rw (root, count)
+  count : length (listOf L) ≡ eventsIn L
+  unfolding eventsAt
+  count = let n : eventsIn L - 0 ≡ eventsIn L = omega arith in rw n at (events-count L 0)
 
-    module _ (N : List ℕ) (r : Step) (M : List ℕ) (g : Walks L X (element· t mode 63 name kind) origin N r M) where
-      pub write-stopped : (n p : ℕ) → r ≡ Refuse n p → (a : code.Answer) → answerIs a ≡ declines n p [] → (P : List ℕ) → P ≡ replicate room 0
+  walked : writing t name kind mode L X room ≡ spent (eventsIn L) (element· t mode 63 name kind (eventsAt L 0) (textsAt X 0)) (roomed room (modeIs mode))
+  unfolding written
+  walked = let g = fine in writing-entered t name kind mode L X room (modeIs mode) (g .enters) (g .mode-is) (g .shape) ∙ rw (root, count)
+
+  module _ (N : List ℕ) (r : Step) (M : List ℕ) (g : Walks L X (element· t mode 63 name kind) origin N r M) where
+    pub write-stopped : (n p : ℕ) → r ≡ Refuse n p → (a : code.Answer) → answerIs a ≡ declines n p [] → (P : List ℕ) → P ≡ replicate room 0
+        → Writes (writing t name kind mode L X room) mode (eventsIn L) (length X) room a P
+    unfolding spent
+    write-stopped n p y a e P z =
+        let k = stopped g n p y in
+        let i = k .inside in
+        let back : eventsIn L - (eventsIn L - p) ≡ p = omega arith in
+        unmade-writes _ mode (eventsIn L) (length X) room n p a P (walked ∙ rw (k .out, back)) e z
+
+    module _ (c : Cursor) (y : r ≡ Go c) where
+      pub write-done : (same : ℕ) → same ≡ room → (a : code.Answer) (P : List ℕ) → Writes (ends L X c same (modeIs mode) (between X M origin c)) mode (eventsIn L) (length X) same a P
           → Writes (writing t name kind mode L X room) mode (eventsIn L) (length X) room a P
-      unfolding spent
-      write-stopped n p y a e P z =
-          let k = stopped g n p y in
-          let i = k .inside in
-          let back : eventsIn L - (eventsIn L - p) ≡ p = omega arith in
-          unmade-writes _ mode (eventsIn L) (length X) room n p a P (walked ∙ rw (k .out, back)) e z
+      write-done same e a P v =
+          let u : Writes (ends L X c room (modeIs mode) (between X M origin c)) mode (eventsIn L) (length X) room a P = rw e at v in
+          let k = went g c y .out in
+          let z : writing t name kind mode L X room ≡ ends L X c room (modeIs mode) (between X M origin c) = walked ∙ ap (λ (o : Out). spent (eventsIn L) o (roomed room (modeIs mode))) k in
+          rw z u
 
-      module _ (c : Cursor) (y : r ≡ Go c) where
-        pub write-done : (same : ℕ) → same ≡ room → (a : code.Answer) (P : List ℕ) → Writes (ends L X c same (modeIs mode) (between X M origin c)) mode (eventsIn L) (length X) same a P
-            → Writes (writing t name kind mode L X room) mode (eventsIn L) (length X) room a P
-        write-done same e a P v =
-            let u : Writes (ends L X c room (modeIs mode) (between X M origin c)) mode (eventsIn L) (length X) room a P = rw e at v in
-            let k = went g c y .out in
-            let z : writing t name kind mode L X room ≡ ends L X c room (modeIs mode) (between X M origin c) = walked ∙ ap (λ (o : Out). spent (eventsIn L) o (roomed room (modeIs mode))) k in
-            rw z u
-
-pub write-mode : (t : List ℕ) (name kind mode : ℕ) (L : List ℕ) (f : faultT.Fault) → Fronted t name kind mode L f → f ≡ fv.No → mode ≤ 2
-write-mode t name kind mode L f h w = let g : Fine t name kind mode L = rw w at (h .is) in g .mode-small
+pub write-mode : (t : List ℕ) (name kind mode : ℕ) (L : List ℕ) → Fine t name kind mode L → mode ≤ 2
+write-mode t name kind mode L h = h .mode-small
 
 module _ (L X : List ℕ) (o : Out) (N : List ℕ) (r : Step) (M : List ℕ) (g : Walked L X o origin N r M) (c : Cursor) (y : r ≡ Go c) where
   pub write-bits : c .bits ≡ length (between X M origin c)
@@ -139,7 +144,14 @@ module _ (L X : List ℕ) (o : Out) (N : List ℕ) (r : Step) (M : List ℕ) (g 
   pub write-on : Ready L X M c
   write-on = went g c y .ready
 
+-- into a payload that is as long
+pub write-into : (t : List ℕ) (name kind mode : ℕ) (L X : List ℕ) (same room E T : ℕ) (a : code.Answer) (P : List ℕ) → same ≡ room
+    → Writes (writing t name kind mode L X same) mode E T same a P → Writes (writing t name kind mode L X room) mode E T room a P
+write-into t name kind mode L X same room E T a P e v = rw e at v
+
 pub zeros-are : (s : List ℕ) (n : ℕ) → s ≡ replicate n 0 → Zeros s
 zeros-are s n e = record { is = e ∙ ap (λ (k : ℕ). replicate k 0) (sym (ap length e ∙ length-replicate n 0)) }
 
-pub ruleset write-ways = (write-refused, write-ready, write-right, write-type, write-mode, write-stopped, write-bits, write-on, write-done, zeros-are)
+pub ruleset front-ways = (write-refused, write-fine, write-room, zeros-are)
+
+pub ruleset write-ways = (write-ready, write-right, write-type, write-mode, write-stopped, write-bits, write-on, write-done, zeros-are)

@@ -3,7 +3,7 @@ use notes::pen::put_notes;
 use wire::Bits;
 ghost use mathlib.Core.Path.{_≡_};
 ghost use mathlib.Core.List.{_∷_};
-ghost use Prim.Native.Nat.{_+_, _/_, _≤_};
+ghost use Prim.Native.Nat.{_+_, _*_, _/_, _≤_};
 ghost use lib.ListN.{length};
 ghost use Rattle.model.specs.Pack.{pack};
 ghost use Rattle.model.specs.Whole.{modeByte, filled};
@@ -23,8 +23,8 @@ fn first(mode: u32) -> u8
     0x8F
 }
 
-pub fn draw(payload: &mut [u8], mode: u32, texts: &[u8], notes: &[u32; 8192], n: usize)
-    requires { ⌜ (Zeros (now payload)) × (1 + (length (spells (now texts) (now notes) 0 n) + 7) / 8 ≤ length (now payload)) × (length (spells (now texts) (now notes) 0 n) ≤ 100000000) × (n ≤ 2048) ⌝ }
+pub fn draw(payload: &mut [u8], mode: u32, texts: &[u8], notes: &[u32], n: usize)
+    requires { ⌜ (Zeros (now payload)) × (1 + (length (spells (now texts) (now notes) 0 n) + 7) / 8 ≤ length (now payload)) × (length (spells (now texts) (now notes) 0 n) ≤ 100000000) × (4 * n ≤ length (now notes)) ⌝ }
     ensures { λ _. ⌜ now (payload .exit) ≡ filled (length (now (payload .entry))) (modeByte (modeIs mode) ∷ pack (spells (now (texts .entry)) (now (notes .entry)) 0 n)) ⌝ }
 {
     let x = first(mode);

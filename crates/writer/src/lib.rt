@@ -17,13 +17,14 @@ use wire::Bits;
 use wire::Bytes;
 ghost use mathlib.Core.Path.{_≡_};
 ghost use mathlib.Core.List.{[]};
-ghost use Prim.Native.Nat.{_≤_};
+ghost use Prim.Native.Nat.{_*_, _≤_};
 ghost use lib.ListN.{length};
 ghost use Rattle.model.specs.Write.{wrote};
 ghost use Rattle.model.specs.Whole.{declines, roomed, spent, writing};
 ghost use Rattle.notes.specs.Notes.{modeIs};
 ghost use Rattle.notes.specs.Walk.{eventsIn, eventsAt, textsAt, between, Ready};
 ghost use Rattle.writer.specs.Answers.{answerIs, says, Writes, origin};
+ghost use Rattle.writer.specs.Front.{Fine};
 ghost use Rattle.writer.specs.Ink.{Zeros};
 
 // The whole answer; no path, as no element is open. On a refusal all but number and place is 0.
@@ -66,7 +67,7 @@ fn accepted(mode: u32, events: u32, text: u32, bits: u32) -> Answer
 fn finish(
     events: &[u32],
     texts: &[u8],
-    notes: &[u32; 8192],
+    notes: &[u32],
     mode: u32,
     c: Cursor,
     payload: &mut [u8],
@@ -81,6 +82,42 @@ fn finish(
     let n = c.event;
     draw(payload, mode, texts, notes, n);
     accepted(mode, n as u32, c.used as u32, 8 + c.bits)
+}
+
+// The walk, with room for every event's note, then what it came to, into a payload that is zero.
+fn noted(
+    table: &[u32],
+    root_name: u32,
+    root_type: u32,
+    mode: u32,
+    events: &[u32],
+    texts: &[u8],
+    notes: &mut [u32],
+    payload: &mut [u8],
+) -> Answer
+    requires { ⌜ (Fine (now table) «root_name» «root_type» mode (now events)) × (Zeros (now payload)) × (4 * eventsIn (now events) ≤ length (now notes)) ⌝ }
+    ensures { λ r. ⌜ Writes (writing (now (table .entry)) «root_name» «root_type» mode (now (events .entry)) (now (texts .entry)) (length (now (payload .entry)))) mode (eventsIn (now (events .entry))) (length (now (texts .entry))) (length (now (payload .entry))) r (now (payload .exit)) ⌝ }
+{
+    let start = Cursor {
+        event: 0,
+        used: 0,
+        bits: 0,
+    };
+    let r = element(
+        table,
+        events,
+        texts,
+        notes,
+        mode,
+        root_name,
+        root_type,
+        63,
+        start,
+    );
+    match r {
+        Step::Refuse(n, p) => refused(n, p),
+        Step::Go(c) => finish(events, texts, notes, mode, c, payload),
+    }
 }
 
 // THE WRITER: a list of events and texts, into a payload whose root has a name and a type of the table. It asks nothing of what it is given.
@@ -100,25 +137,28 @@ pub fn write(
     if let Fault::At(n, p) = f {
         return refused(n, p);
     }
-    let mut notes = [0u32; 8192];
-    let start = Cursor {
-        event: 0,
-        used: 0,
-        bits: 0,
-    };
-    let r = element(
+    if events.len() <= 512 {
+        let mut few = [0u32; 512];
+        return noted(
+            table,
+            root_name,
+            root_type,
+            mode,
+            events,
+            texts,
+            &mut few,
+            payload,
+        );
+    }
+    let mut all = [0u32; 8192];
+    noted(
         table,
-        events,
-        texts,
-        &mut notes,
-        mode,
         root_name,
         root_type,
-        63,
-        start,
-    );
-    match r {
-        Step::Refuse(n, p) => refused(n, p),
-        Step::Go(c) => finish(events, texts, &notes, mode, c, payload),
-    }
+        mode,
+        events,
+        texts,
+        &mut all,
+        payload,
+    )
 }

@@ -23,7 +23,7 @@ ghost use Rattle.writer.specs.Meaning.{required·, optional·, attribute
 pub fn value(
     events: &[u32],
     texts: &[u8],
-    notes: &mut [u32; 8192],
+    notes: &mut [u32],
     kind: u32,
     b: u32,
     c: u32,
@@ -41,14 +41,7 @@ pub fn value(
 }
 
 // A branch v of a choice.
-pub fn pick(
-    events: &[u32],
-    texts: &[u8],
-    notes: &mut [u32; 8192],
-    count: u32,
-    v: u32,
-    at: Cursor,
-) -> Step
+pub fn pick(events: &[u32], texts: &[u8], notes: &mut [u32], count: u32, v: u32, at: Cursor) -> Step
     requires { ⌜ (Ready (now events) (now texts) (now notes) at) × (v ≡ getD (now events) (4 * at .event + 1) 0) ⌝ }
     ensures { λ r. ⌜ Walks (now (events .entry)) (now (texts .entry)) (alone (picked count)) at (now (notes .entry)) r (now (notes .exit)) ⌝ }
 {
@@ -60,7 +53,7 @@ pub fn pick(
 pub fn count(
     events: &[u32],
     texts: &[u8],
-    notes: &mut [u32; 8192],
+    notes: &mut [u32],
     least: u32,
     most: u32,
     v: u32,
@@ -77,7 +70,7 @@ pub fn count(
 pub fn required(
     events: &[u32],
     texts: &[u8],
-    notes: &mut [u32; 8192],
+    notes: &mut [u32],
     name: u32,
     kind: u32,
     b: u32,
@@ -104,7 +97,7 @@ fn flag(q: u32) -> u32
 pub fn optional(
     events: &[u32],
     texts: &[u8],
-    notes: &mut [u32; 8192],
+    notes: &mut [u32],
     name: u32,
     kind: u32,
     b: u32,
@@ -132,7 +125,7 @@ pub fn one(
     table: &[u32],
     events: &[u32],
     texts: &[u8],
-    notes: &mut [u32; 8192],
+    notes: &mut [u32],
     i: u32,
     at: Cursor,
 ) -> Step
@@ -155,7 +148,7 @@ pub fn all(
     table: &[u32],
     events: &[u32],
     texts: &[u8],
-    notes: &mut [u32; 8192],
+    notes: &mut [u32],
     first: u32,
     n: u32,
     at: Cursor,

@@ -1,6 +1,8 @@
 -- The loop: what is walked from here on is what was to be walked from the first row on.
 use Prim.Native.Nat.{_≤_, _-_}
+use mathlib.Core.Path.{_≡_, refl, _∙_}
 use native.Mathlib.Omega.{arith}
+use lib.ListN.{length}
 use Rattle.table.specs.Rows.{attributesFrom}
 use Rattle.notes.specs.Walk.{eventsAt, textsAt, Ready}
 use Rattle.writer.specs.Meaning.{attributes·}
@@ -12,7 +14,7 @@ use Rattle.writer.proofs.simple.all.Tie as tie
 
 abbrev Inv-loop : tie.InvT-loop
 Inv-loop table events texts notes₀ first n c₀ i₀ notes c i =
-    (i ≤ n) × (Ready events texts notes c) × Leads events texts (attributes· (attributesFrom table n first) (eventsAt events (c₀ .event)) (textsAt texts (c₀ .used))) c₀ notes₀ (left events texts table first n i c) c notes
+    (length notes ≡ length notes₀) × (i ≤ n) × (Ready events texts notes c) × Leads events texts (attributes· (attributesFrom table n first) (eventsAt events (c₀ .event)) (textsAt texts (c₀ .used))) c₀ notes₀ (left events texts table first n i c) c notes
 
 abbrev μ-loop : tie.MeasureT-loop
 μ-loop table events texts notes₀ first n c₀ i₀ notes c i = n - i
@@ -32,6 +34,9 @@ enum-known-r c = search needs
 enum-told : tie.Need-enum-told Inv-loop μ-loop
 enum-told c = search needs
 
+same-length : tie.Need-same-length Inv-loop μ-loop
+same-length c = search needs
+
 returns : tie.Need-returns Inv-loop μ-loop
 returns c = search (needs, all-ways)
 
@@ -43,6 +48,9 @@ loop-less c = search (needs, all-ways)
 
 loop-again : tie.Need-loop-again Inv-loop μ-loop
 loop-again c = search (needs, all-ways)
+
+same-length-2 : tie.Need-same-length-2 Inv-loop μ-loop
+same-length-2 c = search needs
 
 returns-2 : tie.Need-returns-2 Inv-loop μ-loop
 returns-2 c = search (needs, all-ways)
@@ -58,8 +66,10 @@ all-spec =
     one-requires
     enum-known-r
     enum-told
+    same-length
     returns
     add-i
     loop-less
     loop-again
+    same-length-2
     returns-2)

@@ -10,8 +10,11 @@ times-requires c κs = search (needs, counted-way)
 coded-requires : tie.Need-coded-requires
 coded-requires c κs = search (needs, counted-way)
 
+same-length : tie.Need-same-length
+same-length c = search needs
+
 returns : tie.Need-returns
 returns c = search (needs, counted-way)
 
 pub count-spec : {M : Type 1} → statement M
-count-spec = tie.close (tie.spec times-requires coded-requires returns)
+count-spec = tie.close (tie.spec times-requires coded-requires same-length returns)

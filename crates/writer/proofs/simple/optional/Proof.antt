@@ -25,15 +25,24 @@ enum-known-r c = search needs
 enum-told : tie.Need-enum-told
 enum-told c = search needs
 
+same-length : tie.Need-same-length
+same-length c = search needs
+
 returns : tie.Need-returns
 returns c = search (needs, optional-ways)
 
+same-length-2 : tie.Need-same-length-2
+same-length-2 c = search needs
+
 returns-2 : tie.Need-returns-2
 returns-2 c =
-    search (optional-absent, c .before .before .before .before .before .before .before .word .ensures, c .before .before .before .before .before .before .flag .ensures, c .before .before .before .before .coded .ensures, c .before .before .r .given .1, c .if1 .taken)
+    search (optional-absent, c .before .before .before .before .before .before .before .before .before .word .ensures, c .before .before .before .before .before .before .before .before .flag .ensures, c .before .before .before .before .before .before .coded .ensures, c .before .before .r .given .1, c .if1 .taken)
 
 value-requires : tie.Need-value-requires
 value-requires c κs = search (needs, optional-ways)
+
+same-length-3 : tie.Need-same-length-3
+same-length-3 c = search needs
 
 returns-3 : tie.Need-returns-3
 returns-3 c = search (needs, optional-ways)
@@ -49,7 +58,10 @@ optional-spec =
     coded-requires
     enum-known-r
     enum-told
+    same-length
     returns
+    same-length-2
     returns-2
     value-requires
+    same-length-3
     returns-3)

@@ -7,8 +7,11 @@ use Rattle.writer.proofs.simple.pick.Tie as tie
 coded-requires : tie.Need-coded-requires
 coded-requires c κs = search (needs, picked-way)
 
+same-length : tie.Need-same-length
+same-length c = search needs
+
 returns : tie.Need-returns
 returns c = search (needs, picked-way)
 
 pub pick-spec : {M : Type 1} → statement M
-pick-spec = tie.close (tie.spec coded-requires returns)
+pick-spec = tie.close (tie.spec coded-requires same-length returns)

@@ -28,8 +28,14 @@ enum-told c = search needs
 text-value-requires : tie.Need-text-value-requires
 text-value-requires c κs = search (needs, value-ways)
 
+same-length : tie.Need-same-length
+same-length c = search needs
+
 returns : tie.Need-returns
 returns c = search (needs, value-ways)
+
+same-length-2 : tie.Need-same-length-2
+same-length-2 c = search needs
 
 returns-2 : tie.Need-returns-2
 returns-2 c = search (needs, value-ways)
@@ -46,5 +52,7 @@ value-spec =
     coded-requires
     enum-told
     text-value-requires
+    same-length
     returns
+    same-length-2
     returns-2)

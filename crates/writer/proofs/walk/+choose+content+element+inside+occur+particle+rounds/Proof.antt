@@ -2,6 +2,7 @@
 use Prim.Native.Nat.{ℕ, _<_, _≤_, _+_, _-_, _*_}
 use mathlib.Core.Path.{_≡_, refl}
 use native.Mathlib.Omega.{arith}
+use lib.ListN.{length}
 use borrow.Author.Needs.{needs}
 use Rattle.notes.specs.Walk.{eventsAt, textsAt, Ready}
 use Rattle.writer.specs.Meaning.{rounds·}
@@ -174,6 +175,16 @@ choose-enum-told : (t : ℕ) → choose-lts.Need-enum-told (
 ) (choose-at t) choose.Post
 choose-enum-told t c = search needs
 
+choose-same-length : (t : ℕ) → choose-lts.Need-same-length (
+  word-reads.Asked,
+  word-reads.Learnt,
+  pick-reads.Asked,
+  pick-reads.Learnt,
+  particle-below t,
+  particle.Post,
+) (choose-at t) choose.Post
+choose-same-length t c = search needs
+
 choose-returns : (t : ℕ) → choose-lts.Need-returns (
   word-reads.Asked,
   word-reads.Learnt,
@@ -203,6 +214,16 @@ choose-particle-requires : (t : ℕ) → choose-lts.Need-particle-requires (
   particle.Post,
 ) (choose-at t) choose.Post
 choose-particle-requires t c κs = search (needs, choose-ways)
+
+choose-same-length-2 : (t : ℕ) → choose-lts.Need-same-length-2 (
+  word-reads.Asked,
+  word-reads.Learnt,
+  pick-reads.Asked,
+  pick-reads.Learnt,
+  particle-below t,
+  particle.Post,
+) (choose-at t) choose.Post
+choose-same-length-2 t c = search needs
 
 choose-returns-2 : (t : ℕ) → choose-lts.Need-returns-2 (
   word-reads.Asked,
@@ -284,6 +305,16 @@ content-returns : (t : ℕ) → content-lts.Need-returns (
 ) (content-at t) content.Post
 content-returns t c = search (needs, content-ways)
 
+content-same-length : (t : ℕ) → content-lts.Need-same-length (
+  content-reads.Asked,
+  content-reads.Learnt,
+  value-reads.Asked,
+  value-reads.Learnt,
+  particle-below t,
+  particle.Post,
+) (content-at t) content.Post
+content-same-length t c = search needs
+
 content-returns-2 : (t : ℕ) → content-lts.Need-returns-2 (
   content-reads.Asked,
   content-reads.Learnt,
@@ -293,6 +324,16 @@ content-returns-2 : (t : ℕ) → content-lts.Need-returns-2 (
   particle.Post,
 ) (content-at t) content.Post
 content-returns-2 t c = search (needs, content-ways)
+
+content-same-length-2 : (t : ℕ) → content-lts.Need-same-length-2 (
+  content-reads.Asked,
+  content-reads.Learnt,
+  value-reads.Asked,
+  value-reads.Learnt,
+  particle-below t,
+  particle.Post,
+) (content-at t) content.Post
+content-same-length-2 t c = search needs
 
 content-returns-3 : (t : ℕ) → content-lts.Need-returns-3 (
   content-reads.Asked,
@@ -430,7 +471,7 @@ element-returns-2 : (t : ℕ) → element-lts.Need-returns-2 (
   close-reads.Asked,
   close-reads.Learnt,
 ) (element-at t) element.Post
-element-returns-2 t c = search (element-unheld, c .before .before .before .before .before .before .before .before .before .pre .1 .0, c .before .before .before .before .before .word .ensures, c .before .before .before .before .flag-in .ensures, c .before .before .before .unlike .ensures, c .before .before .if1 .left, c .before .held .ensures, c .if2 .taken)
+element-returns-2 t c = search (element-unheld, c .before .before .before .before .before .before .before .before .before .before .pre .1 .0, c .before .before .before .before .before .word .ensures, c .before .before .before .before .flag-in .ensures, c .before .before .before .unlike .ensures, c .before .before .if1 .left, c .before .held .ensures, c .if2 .taken)
 
 element-add-t18 : (t : ℕ) → element-lts.Need-add-t18 (
   word-reads.Asked,
@@ -496,6 +537,22 @@ element-enum-told : (t : ℕ) → element-lts.Need-enum-told (
 ) (element-at t) element.Post
 element-enum-told t c = search needs
 
+element-same-length : (t : ℕ) → element-lts.Need-same-length (
+  word-reads.Asked,
+  word-reads.Learnt,
+  flag-in-reads.Asked,
+  flag-in-reads.Learnt,
+  unlike-reads.Asked,
+  unlike-reads.Learnt,
+  held-reads.Asked,
+  held-reads.Learnt,
+  inside-below t,
+  inside.Post,
+  close-reads.Asked,
+  close-reads.Learnt,
+) (element-at t) element.Post
+element-same-length t c = search needs
+
 element-returns-3 : (t : ℕ) → element-lts.Need-returns-3 (
   word-reads.Asked,
   word-reads.Learnt,
@@ -510,7 +567,7 @@ element-returns-3 : (t : ℕ) → element-lts.Need-returns-3 (
   close-reads.Asked,
   close-reads.Learnt,
 ) (element-at t) element.Post
-element-returns-3 t c = search (element-stop, c .before .before .before .before .before .before .before .before .before .before .before .before .before .pre .1 .0, c .before .before .before .before .before .before .before .before .before .word .ensures, c .before .before .before .before .before .before .before .before .flag-in .ensures, c .before .before .before .before .before .before .before .unlike .ensures, c .before .before .before .before .before .before .if1 .left, c .before .before .before .before .before .held .ensures, c .before .before .before .before .if2 .left, c .before .before .inside .ensures, c .enum-told .given .1)
+element-returns-3 t c = search (element-stop, c .before .before .before .before .before .before .before .before .before .before .before .before .before .before .before .before .pre .1 .0, c .before .before .before .before .before .before .before .before .before .before .before .word .ensures, c .before .before .before .before .before .before .before .before .before .before .flag-in .ensures, c .before .before .before .before .before .before .before .before .before .unlike .ensures, c .before .before .before .before .before .before .before .before .if1 .left, c .before .before .before .before .before .before .before .held .ensures, c .before .before .before .before .before .before .if2 .left, c .before .before .before .before .inside .ensures, c .enum-told .given .1)
 
 element-close-requires : (t : ℕ) → element-lts.Need-close-requires (
   word-reads.Asked,
@@ -526,7 +583,23 @@ element-close-requires : (t : ℕ) → element-lts.Need-close-requires (
   close-reads.Asked,
   close-reads.Learnt,
 ) (element-at t) element.Post
-element-close-requires t c κs = (search (element-kept, c .before .before .before .before .inside .ensures, c .before .before .r .given .1, c .before .before .before .before .before .before .before .before .before .before .before .before .before .before .before .pre .1 .0), search (element-sealing, c .before .before .before .before .inside .ensures, c .before .before .r .given .1))
+element-close-requires t c κs = (search (element-kept, c .before .before .before .before .before .before .inside .ensures, c .before .before .r .given .1, c .before .before .before .before .before .before .before .before .before .before .before .before .before .before .before .before .before .before .pre .1 .0), search (element-sealing, c .before .before .before .before .before .before .inside .ensures, c .before .before .r .given .1))
+
+element-same-length-2 : (t : ℕ) → element-lts.Need-same-length-2 (
+  word-reads.Asked,
+  word-reads.Learnt,
+  flag-in-reads.Asked,
+  flag-in-reads.Learnt,
+  unlike-reads.Asked,
+  unlike-reads.Learnt,
+  held-reads.Asked,
+  held-reads.Learnt,
+  inside-below t,
+  inside.Post,
+  close-reads.Asked,
+  close-reads.Learnt,
+) (element-at t) element.Post
+element-same-length-2 t c = search needs
 
 element-returns-4 : (t : ℕ) → element-lts.Need-returns-4 (
   word-reads.Asked,
@@ -542,7 +615,7 @@ element-returns-4 : (t : ℕ) → element-lts.Need-returns-4 (
   close-reads.Asked,
   close-reads.Learnt,
 ) (element-at t) element.Post
-element-returns-4 t c = search (element-go, c .before .before .before .before .before .before .before .before .before .before .before .before .before .before .before .before .pre .1 .0, c .before .before .before .before .before .before .before .before .before .before .before .before .word .ensures, c .before .before .before .before .before .before .before .before .before .before .before .flag-in .ensures, c .before .before .before .before .before .before .before .before .before .before .unlike .ensures, c .before .before .before .before .before .before .before .before .before .if1 .left, c .before .before .before .before .before .before .before .before .held .ensures, c .before .before .before .before .before .before .before .if2 .left, c .before .before .before .before .before .inside .ensures, c .before .before .before .r .given .1, c .close .ensures)
+element-returns-4 t c = search (element-go, c .before .before .before .before .before .before .before .before .before .before .before .before .before .before .before .before .before .before .before .before .before .pre .1 .0, c .before .before .before .before .before .before .before .before .before .before .before .before .before .before .before .before .word .ensures, c .before .before .before .before .before .before .before .before .before .before .before .before .before .before .before .flag-in .ensures, c .before .before .before .before .before .before .before .before .before .before .before .before .before .before .unlike .ensures, c .before .before .before .before .before .before .before .before .before .before .before .before .before .if1 .left, c .before .before .before .before .before .before .before .before .before .before .before .before .held .ensures, c .before .before .before .before .before .before .before .before .before .before .before .if2 .left, c .before .before .before .before .before .before .before .before .before .inside .ensures, c .before .before .before .before .before .r .given .1, c .before .before .close .ensures)
 
 inside-span-requires : (t : ℕ) → inside-lts.Need-span-requires (
   span-reads.Asked,
@@ -584,6 +657,16 @@ inside-enum-told : (t : ℕ) → inside-lts.Need-enum-told (
 ) (inside-at t) inside.Post
 inside-enum-told t c = search needs
 
+inside-same-length : (t : ℕ) → inside-lts.Need-same-length (
+  span-reads.Asked,
+  span-reads.Learnt,
+  all-reads.Asked,
+  all-reads.Learnt,
+  content-below t,
+  content.Post,
+) (inside-at t) inside.Post
+inside-same-length t c = search needs
+
 inside-returns : (t : ℕ) → inside-lts.Need-returns (
   span-reads.Asked,
   span-reads.Learnt,
@@ -603,6 +686,16 @@ inside-content-requires : (t : ℕ) → inside-lts.Need-content-requires (
   content.Post,
 ) (inside-at t) inside.Post
 inside-content-requires t c κs = search (needs, inside-ways)
+
+inside-same-length-2 : (t : ℕ) → inside-lts.Need-same-length-2 (
+  span-reads.Asked,
+  span-reads.Learnt,
+  all-reads.Asked,
+  all-reads.Learnt,
+  content-below t,
+  content.Post,
+) (inside-at t) inside.Post
+inside-same-length-2 t c = search needs
 
 inside-returns-2 : (t : ℕ) → inside-lts.Need-returns-2 (
   span-reads.Asked,
@@ -674,6 +767,16 @@ occur-enum-told : (t : ℕ) → occur-lts.Need-enum-told (
 ) (occur-at t) occur.Post
 occur-enum-told t c = search needs
 
+occur-same-length : (t : ℕ) → occur-lts.Need-same-length (
+  word-reads.Asked,
+  word-reads.Learnt,
+  count-reads.Asked,
+  count-reads.Learnt,
+  rounds-below t,
+  rounds.Post,
+) (occur-at t) occur.Post
+occur-same-length t c = search needs
+
 occur-returns : (t : ℕ) → occur-lts.Need-returns (
   word-reads.Asked,
   word-reads.Learnt,
@@ -693,6 +796,16 @@ occur-rounds-requires : (t : ℕ) → occur-lts.Need-rounds-requires (
   rounds.Post,
 ) (occur-at t) occur.Post
 occur-rounds-requires t c κs = search (needs, occur-ways)
+
+occur-same-length-2 : (t : ℕ) → occur-lts.Need-same-length-2 (
+  word-reads.Asked,
+  word-reads.Learnt,
+  count-reads.Asked,
+  count-reads.Learnt,
+  rounds-below t,
+  rounds.Post,
+) (occur-at t) occur.Post
+occur-same-length-2 t c = search needs
 
 occur-returns-2 : (t : ℕ) → occur-lts.Need-returns-2 (
   word-reads.Asked,
@@ -798,7 +911,7 @@ particle-element-requires : (t : ℕ) → particle-lts.Need-element-requires (
   occur-below t,
   occur.Post,
 ) (particle-at t) particle.Post
-particle-element-requires t c κs = (omega arith, (c .before .before .before .before .before .before .before .before .before .pre .1 .0, c .before .before .before .before .before .before .before .before .before .pre .1 .1, search (row-type, c .before .before .before .before .particle .ensures, c .before .before .before .before .before .before .before .before .before .pre .1 .1, c .before .before .before .before .before .before .before .before .before .pre .1 .2, c .before .before .name .given .1), omega arith))
+particle-element-requires t c κs = (omega arith, (c .before .before .before .before .before .before .before .before .before .before .pre .1 .0, c .before .before .before .before .before .before .before .before .before .before .pre .1 .1, search (row-type, c .before .before .before .before .particle .ensures, c .before .before .before .before .before .before .before .before .before .before .pre .1 .1, c .before .before .before .before .before .before .before .before .before .before .pre .1 .2, c .before .before .name .given .1), omega arith))
 
 particle-enum-known-first : (t : ℕ) → particle-lts.Need-enum-known-first (
   too-deep-reads.Asked,
@@ -830,7 +943,7 @@ particle-rounds-requires : (t : ℕ) → particle-lts.Need-rounds-requires (
   occur-below t,
   occur.Post,
 ) (particle-at t) particle.Post
-particle-rounds-requires t c κs = (omega arith, (c .before .before .before .before .before .before .before .before .before .pre .1 .0, c .before .before .before .before .before .before .before .before .before .pre .1 .1, search (row-sequence, c .before .before .before .before .particle .ensures, c .before .before .before .before .before .before .before .before .before .pre .1 .1, c .before .before .before .before .before .before .before .before .before .pre .1 .2, c .before .before .first .given .1), omega arith))
+particle-rounds-requires t c κs = (omega arith, (c .before .before .before .before .before .before .before .before .before .before .pre .1 .0, c .before .before .before .before .before .before .before .before .before .before .pre .1 .1, search (row-sequence, c .before .before .before .before .particle .ensures, c .before .before .before .before .before .before .before .before .before .before .pre .1 .1, c .before .before .before .before .before .before .before .before .before .before .pre .1 .2, c .before .before .first .given .1), omega arith))
 
 particle-enum-known-first-2 : (t : ℕ) → particle-lts.Need-enum-known-first-2 (
   too-deep-reads.Asked,
@@ -862,7 +975,7 @@ particle-choose-requires : (t : ℕ) → particle-lts.Need-choose-requires (
   occur-below t,
   occur.Post,
 ) (particle-at t) particle.Post
-particle-choose-requires t c κs = (omega arith, (c .before .before .before .before .before .before .before .before .before .pre .1 .0, c .before .before .before .before .before .before .before .before .before .pre .1 .1, search (row-choice, c .before .before .before .before .particle .ensures, c .before .before .before .before .before .before .before .before .before .pre .1 .1, c .before .before .before .before .before .before .before .before .before .pre .1 .2, c .before .before .first2 .given .1), omega arith))
+particle-choose-requires t c κs = (omega arith, (c .before .before .before .before .before .before .before .before .before .before .pre .1 .0, c .before .before .before .before .before .before .before .before .before .before .pre .1 .1, search (row-choice, c .before .before .before .before .particle .ensures, c .before .before .before .before .before .before .before .before .before .before .pre .1 .1, c .before .before .before .before .before .before .before .before .before .before .pre .1 .2, c .before .before .first2 .given .1), omega arith))
 
 particle-enum-known-child : (t : ℕ) → particle-lts.Need-enum-known-child (
   too-deep-reads.Asked,
@@ -894,7 +1007,23 @@ particle-occur-requires : (t : ℕ) → particle-lts.Need-occur-requires (
   occur-below t,
   occur.Post,
 ) (particle-at t) particle.Post
-particle-occur-requires t c κs = (omega arith, (c .before .before .before .before .before .before .before .before .before .pre .1 .0, c .before .before .before .before .before .before .before .before .before .pre .1 .1, search (row-child, c .before .before .before .before .particle .ensures, c .before .before .before .before .before .before .before .before .before .pre .1 .1, c .before .before .before .before .before .before .before .before .before .pre .1 .2, c .before .before .child .given .1), omega arith))
+particle-occur-requires t c κs = (omega arith, (c .before .before .before .before .before .before .before .before .before .before .pre .1 .0, c .before .before .before .before .before .before .before .before .before .before .pre .1 .1, search (row-child, c .before .before .before .before .particle .ensures, c .before .before .before .before .before .before .before .before .before .before .pre .1 .1, c .before .before .before .before .before .before .before .before .before .before .pre .1 .2, c .before .before .child .given .1), omega arith))
+
+particle-same-length : (t : ℕ) → particle-lts.Need-same-length (
+  too-deep-reads.Asked,
+  too-deep-reads.Learnt,
+  particle-reads.Asked,
+  particle-reads.Learnt,
+  element-below t,
+  element.Post,
+  rounds-below t,
+  rounds.Post,
+  choose-below t,
+  choose.Post,
+  occur-below t,
+  occur.Post,
+) (particle-at t) particle.Post
+particle-same-length t c = search needs
 
 particle-returns-2 : (t : ℕ) → particle-lts.Need-returns-2 (
   too-deep-reads.Asked,
@@ -912,6 +1041,22 @@ particle-returns-2 : (t : ℕ) → particle-lts.Need-returns-2 (
 ) (particle-at t) particle.Post
 particle-returns-2 t c = search (needs, particle-ways)
 
+particle-same-length-2 : (t : ℕ) → particle-lts.Need-same-length-2 (
+  too-deep-reads.Asked,
+  too-deep-reads.Learnt,
+  particle-reads.Asked,
+  particle-reads.Learnt,
+  element-below t,
+  element.Post,
+  rounds-below t,
+  rounds.Post,
+  choose-below t,
+  choose.Post,
+  occur-below t,
+  occur.Post,
+) (particle-at t) particle.Post
+particle-same-length-2 t c = search needs
+
 particle-returns-3 : (t : ℕ) → particle-lts.Need-returns-3 (
   too-deep-reads.Asked,
   too-deep-reads.Learnt,
@@ -928,6 +1073,22 @@ particle-returns-3 : (t : ℕ) → particle-lts.Need-returns-3 (
 ) (particle-at t) particle.Post
 particle-returns-3 t c = search (needs, particle-ways)
 
+particle-same-length-3 : (t : ℕ) → particle-lts.Need-same-length-3 (
+  too-deep-reads.Asked,
+  too-deep-reads.Learnt,
+  particle-reads.Asked,
+  particle-reads.Learnt,
+  element-below t,
+  element.Post,
+  rounds-below t,
+  rounds.Post,
+  choose-below t,
+  choose.Post,
+  occur-below t,
+  occur.Post,
+) (particle-at t) particle.Post
+particle-same-length-3 t c = search needs
+
 particle-returns-4 : (t : ℕ) → particle-lts.Need-returns-4 (
   too-deep-reads.Asked,
   too-deep-reads.Learnt,
@@ -943,6 +1104,22 @@ particle-returns-4 : (t : ℕ) → particle-lts.Need-returns-4 (
   occur.Post,
 ) (particle-at t) particle.Post
 particle-returns-4 t c = search (needs, particle-ways)
+
+particle-same-length-4 : (t : ℕ) → particle-lts.Need-same-length-4 (
+  too-deep-reads.Asked,
+  too-deep-reads.Learnt,
+  particle-reads.Asked,
+  particle-reads.Learnt,
+  element-below t,
+  element.Post,
+  rounds-below t,
+  rounds.Post,
+  choose-below t,
+  choose.Post,
+  occur-below t,
+  occur.Post,
+) (particle-at t) particle.Post
+particle-same-length-4 t c = search needs
 
 particle-returns-5 : (t : ℕ) → particle-lts.Need-returns-5 (
   too-deep-reads.Asked,
@@ -962,7 +1139,7 @@ particle-returns-5 t c = search (needs, particle-ways)
 
 abbrev rounds-Inv-loop : rounds-lts.InvT-loop
 rounds-Inv-loop table events texts notes₀ mode first step n depth at₀ i₀ j₀ notes at i j =
-    (j ≤ n) × (Ready events texts notes at) × (i ≡ first + step * j) × Leads events texts (rounds· table mode depth n first step (eventsAt events (at₀ .event)) (textsAt texts (at₀ .used))) at₀ notes₀ (leftR events texts table mode depth n step j i at) at notes
+    (length notes ≡ length notes₀) × (j ≤ n) × (Ready events texts notes at) × (i ≡ first + step * j) × Leads events texts (rounds· table mode depth n first step (eventsAt events (at₀ .event)) (textsAt texts (at₀ .used))) at₀ notes₀ (leftR events texts table mode depth n step j i at) at notes
 
 abbrev rounds-μ-loop : rounds-lts.MeasureT-loop
 rounds-μ-loop table events texts notes₀ mode first step n depth at₀ i₀ j₀ notes at i j = n - j
@@ -1002,6 +1179,16 @@ rounds-enum-told :
     rounds-Inv-loop
     rounds-μ-loop
 rounds-enum-told t c = search needs
+
+rounds-same-length :
+    (t : ℕ) →
+    rounds-lts.Need-same-length
+    (particle-below t, particle.Post)
+    (rounds-at t)
+    rounds.Post
+    rounds-Inv-loop
+    rounds-μ-loop
+rounds-same-length t c = search needs
 
 rounds-returns :
     (t : ℕ) →
@@ -1053,6 +1240,16 @@ rounds-loop-again :
     rounds-μ-loop
 rounds-loop-again t c = search (needs, rounds-ways)
 
+rounds-same-length-2 :
+    (t : ℕ) →
+    rounds-lts.Need-same-length-2
+    (particle-below t, particle.Post)
+    (rounds-at t)
+    rounds.Post
+    rounds-Inv-loop
+    rounds-μ-loop
+rounds-same-length-2 t c = search needs
+
 rounds-returns-2 :
     (t : ℕ) →
     rounds-lts.Need-returns-2
@@ -1081,9 +1278,11 @@ pub +choose+content+element+inside+occur+particle+rounds-spec : {M : Type 1} →
     (choose-pick-requires t)
     (choose-enum-known-r t)
     (choose-enum-told t)
+    (choose-same-length t)
     (choose-returns t)
     (choose-add-particle t)
     (choose-particle-requires t)
+    (choose-same-length-2 t)
     (choose-returns-2 t))
     (λ t. content-lts.spec (
       content-reads.Asked,
@@ -1102,7 +1301,9 @@ pub +choose+content+element+inside+occur+particle+rounds-spec : {M : Type 1} →
     (content-enum-known-i t)
     (content-particle-requires t)
     (content-returns t)
+    (content-same-length t)
     (content-returns-2 t)
+    (content-same-length-2 t)
     (content-returns-3 t))
     (λ t. element-lts.spec (
       word-reads.Asked,
@@ -1132,8 +1333,10 @@ pub +choose+content+element+inside+occur+particle+rounds-spec : {M : Type 1} →
     (element-inside-requires t)
     (element-enum-known-r t)
     (element-enum-told t)
+    (element-same-length t)
     (element-returns-3 t)
     (element-close-requires t)
+    (element-same-length-2 t)
     (element-returns-4 t))
     (λ t. inside-lts.spec (
       span-reads.Asked,
@@ -1149,8 +1352,10 @@ pub +choose+content+element+inside+occur+particle+rounds-spec : {M : Type 1} →
     (inside-all-requires t)
     (inside-enum-known-r t)
     (inside-enum-told t)
+    (inside-same-length t)
     (inside-returns t)
     (inside-content-requires t)
+    (inside-same-length-2 t)
     (inside-returns-2 t))
     (λ t. occur-lts.spec (
       word-reads.Asked,
@@ -1168,8 +1373,10 @@ pub +choose+content+element+inside+occur+particle+rounds-spec : {M : Type 1} →
     (occur-count-requires t)
     (occur-enum-known-r t)
     (occur-enum-told t)
+    (occur-same-length t)
     (occur-returns t)
     (occur-rounds-requires t)
+    (occur-same-length-2 t)
     (occur-returns-2 t))
     (λ t. particle-lts.spec (
       too-deep-reads.Asked,
@@ -1199,9 +1406,13 @@ pub +choose+content+element+inside+occur+particle+rounds-spec : {M : Type 1} →
     (particle-choose-requires t)
     (particle-enum-known-child t)
     (particle-occur-requires t)
+    (particle-same-length t)
     (particle-returns-2 t)
+    (particle-same-length-2 t)
     (particle-returns-3 t)
+    (particle-same-length-3 t)
     (particle-returns-4 t)
+    (particle-same-length-4 t)
     (particle-returns-5 t))
     λ t. rounds-lts.spec
     (particle-below t, particle.Post)
@@ -1213,9 +1424,11 @@ pub +choose+content+element+inside+occur+particle+rounds-spec : {M : Type 1} →
     (rounds-particle-requires t)
     (rounds-enum-known-r t)
     (rounds-enum-told t)
+    (rounds-same-length t)
     (rounds-returns t)
     (rounds-add-i t)
     (rounds-add-j t)
     (rounds-loop-less t)
     (rounds-loop-again t)
+    (rounds-same-length-2 t)
     (rounds-returns-2 t)
