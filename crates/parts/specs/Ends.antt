@@ -7,19 +7,15 @@ use native.Mathlib.Omega.{arith}
 use borrow.Author.Tests.{ltb-true, ltb-false, not-true, not-false}
 use lib.Dec.{ltb, eqb}
 use Rattle.wire.specs.declared.Bits.{Bits}
-use Rattle.model.specs.Model.{Event, event, start, end, Mark, Nodes, Answer, events, texts, slotsOf, bytesOf, _then_}
+use Rattle.model.specs.Model.{Event, start, end, Mark, Nodes, Answer, events, texts, slotsOf, bytesOf, _then_}
 use Rattle.model.specs.Model.Nodes.{none, leaf, node}
 use Rattle.model.specs.Model.Answer.{given, refused}
 use Rattle.model.specs.Read.{Room, less, lessOne, onto, after, stored, met, ended, closed, Into, entered}
 use Rattle.model.specs.Trees.{slots-then, bytes-then, events-then, texts-then}
 use Rattle.parts.specs.declared.Cursor.{Cursor}
-use Rattle.parts.specs.declared.Path.{Path}
 use Rattle.parts.specs.declared.Step.{Step}
-use Rattle.parts.specs.declared.Step.the-variants.{Go, Refuse}
-use Rattle.parts.specs.declared.Walk.{Walk}
-use Rattle.parts.specs.Paths.{namesOf, outer, Popped}
-use Rattle.parts.specs.Out.{roomOf, stepView, outcome, walks, Stores, ending, Closes}
-use Rattle.parts.specs.Laws.{outcome-go, outcome-stop}
+use Rattle.parts.specs.declared.Step.the-variants.{Refuse}
+use Rattle.parts.specs.Out.{roomOf, stepView, outcome, Stores, ending, Closes}
 use Rattle.parts.specs.StoreWays.{stored-full, stored-in}
 
 pub meets-coded : (coded : Bool) (at wall : ℕ) → coded ≡ true → eqb at wall ≡ met coded at wall
@@ -42,29 +38,17 @@ module _ (coded : Bool) (body wall : ℕ) (r : Room) (ρ : List ℕ) (q : ℕ) w
   ending-met h = rw h
 
 -- close
-module _ (coded : Bool) (body : Bits) (wall : ℕ) (c : Cursor) (path : Path) (E : List ℕ) (m : Bool) (e : m ≡ met coded (c .at .0) wall) where
-  pub close-short : (w : Walk) → not m ≡ true → w ≡ walks (Refuse 11 body) path → Closes coded (body .0) wall c path E w E
+module _ (coded : Bool) (body : Bits) (wall : ℕ) (c : Cursor) (E : List ℕ) (m : Bool) (e : m ≡ met coded (c .at .0) wall) where
+  pub close-short : not m ≡ true → Closes coded (body .0) wall c E (Refuse 11 body) E
   unfolding stepView outcome
-  close-short w h g = record { says = λ T. rw (g, ending-short coded (body .0) wall (roomOf E T c) (namesOf path) (c .at .0) (sym e ∙ not-true m h)) }
+  close-short h = record { says = λ T π. rw (ending-short coded (body .0) wall (roomOf E T c) π (c .at .0) (sym e ∙ not-true m h)) }
 
-  module _ (h : not m ≡ false) (s : Step) (E′ : List ℕ) (k : Stores 6 0 0 (c .at .0) c E s E′) where
-    ending-is : (T : List ℕ) → ending coded (body .0) wall (roomOf E T c) (namesOf path) (c .at .0)
-        ≡ stored (roomOf E T c) (namesOf path) (c .at .0) (event 6 0 0 (c .at .0 - c .at .0)) [] (c .at .0)
-    ending-is T =
-        let z : c .at .0 - c .at .0 ≡ 0 = omega arith in
-        rw z (ending-met coded (body .0) wall (roomOf E T c) (namesOf path) (c .at .0) (sym e ∙ not-false m h))
+  pub close-met : (s : Step) (E′ : List ℕ) → not m ≡ false → Stores 6 0 0 (c .at .0) c E s E′ → Closes coded (body .0) wall c E s E′
+  close-met s E′ h k =
+      let z : c .at .0 - c .at .0 ≡ 0 = omega arith in
+      record { says = λ T π. rw (ending-met coded (body .0) wall (roomOf E T c) π (c .at .0) (sym e ∙ not-false m h)) (rw z at (k .says T π)) }
 
-    pub close-stop : (n : ℕ) (p : Bits) (w : Walk) → s ≡ Refuse n p → w ≡ walks s path → Closes coded (body .0) wall c path E w E′
-    close-stop n p w g i = record {
-      says = λ T. rw (i, ending-is T) (outcome-stop s (namesOf path) E′ T _ c (namesOf path) E T (k .says T (namesOf path)) n p g (outer (namesOf path)));
-    }
-
-    pub close-go : (d : Cursor) (q : Path) (w : Walk) → s ≡ Go d → Popped path q → w ≡ walks s q → Closes coded (body .0) wall c path E w E′
-    close-go d q w g i j = record {
-      says = λ T. rw (j, ending-is T, i .names) (outcome-go s (namesOf path) E′ T _ c (namesOf path) E T (k .says T (namesOf path)) d g (outer (namesOf path)));
-    }
-
-pub ruleset close-ways = (close-short, close-stop, close-go)
+pub ruleset close-ways = (close-short, close-met)
 
 -- trees that leave the same
 same-left : (a b : Nodes) (q : ℕ) (c : Cursor) (π E T : List ℕ) → slotsOf a ≡ slotsOf b → bytesOf a ≡ bytesOf b → events a ≡ events b → texts a ≡ texts b

@@ -1,4 +1,4 @@
--- What a part of the reader leaves (`stepView`, `view`) and what the meaning says it leaves (`outcome`): a contract is an equation of the
+-- What a part of the reader leaves (`stepView`) and what the meaning says it leaves (`outcome`): a contract is an equation of the
 -- two. On a refusal neither speaks of the buffers.
 use Prim.Native.Nat.{ℕ, _+_, _-_, _*_, _/_, min}
 use mathlib.Core.Path.{_≡_}
@@ -16,9 +16,6 @@ use Rattle.model.specs.Whole.{eventWords}
 use Rattle.parts.specs.declared.Cursor.{Cursor}
 use Rattle.parts.specs.declared.Step.{Step}
 use Rattle.parts.specs.declared.Step.the-variants.{Go, Refuse}
-use Rattle.parts.specs.declared.Path.{Path}
-use Rattle.parts.specs.declared.Walk.{Walk}
-use Rattle.parts.specs.Paths.{namesOf, outer}
 
 -- events that so many words hold
 abbrev pub slotsIn : ℕ → ℕ
@@ -36,12 +33,6 @@ pub data Out : Type 0 where
 unfoldable pub stepView : Step → List ℕ → List ℕ → List ℕ → Out
 stepView (Go c) π E T = went (c .at .0) (c .count) (c .used) π E T
 stepView (Refuse n at) π E T = stopped n (at .0) π
-
-abbrev pub view : Walk → List ℕ → List ℕ → Out
-view w E T = stepView (w .step) (namesOf (w .path)) E T
-
-abbrev pub walks : Step → Path → Walk
-walks s p = record { step = s; path = p }
 
 -- a tree's events and texts laid into the buffers, from the cursor on; π is the path where it goes on
 unfoldable pub outcome : Answer → Cursor → List ℕ → List ℕ → List ℕ → Out
@@ -67,9 +58,9 @@ pub record Notes (present next : ℕ) (a : Attribute) (b : ℕ → ℕ) (wall : 
       ≡ outcome (after (roomOf E T c) (stored (roomOf E T c) π (c .at .0) (event 2 (a .name) present (next - c .at .0)) [] next)
       (λ u p. read b mode held (maybe present (value (a .kind) (a .b) (a .c) done) done) u π wall p)) c π E T
 
--- the end of an element: 11 where its declared end is not met, then End; where it goes on the innermost name is gone
+-- the end of an element: 11 where its declared end is not met, then End
 unfoldable pub ending : Bool → ℕ → ℕ → Room → List ℕ → ℕ → Answer
 ending coded body wall r π at = cond (met coded at wall) (stored r π at end [] at) (refused 11 body π)
 
-pub record Closes (coded : Bool) (body wall : ℕ) (c : Cursor) (p : Path) (E : List ℕ) (w : Walk) (E′ : List ℕ) : Type 0 where
-  pub says : (T : List ℕ) → view w E′ T ≡ outcome (ending coded body wall (roomOf E T c) (namesOf p) (c .at .0)) c (outer (namesOf p)) E T
+pub record Closes (coded : Bool) (body wall : ℕ) (c : Cursor) (E : List ℕ) (s : Step) (E′ : List ℕ) : Type 0 where
+  pub says : (T π : List ℕ) → stepView s π E′ T ≡ outcome (ending coded body wall (roomOf E T c) π (c .at .0)) c π E T

@@ -1,5 +1,5 @@
 -- The path as an array and a count: its names, the innermost first, as the meanings have them.
-use Prim.Native.Nat.{ℕ, zero, suc, _+_, _-_}
+use Prim.Native.Nat.{ℕ, zero, suc, _+_}
 use mathlib.Core.Path.{_≡_}
 use mathlib.Core.List.{List, [], _∷_}
 use lib.ListN.{getD}
@@ -13,15 +13,6 @@ back l (suc n) = getD l n 0 ∷ back l n
 unfoldable pub namesOf : Path → List ℕ
 namesOf p = back (p .names) (p .count)
 
--- all but the innermost
-unfoldable pub outer : List ℕ → List ℕ
-outer [] = []
-outer (x ∷ l) = l
-
 pub record Pushed (p : Path) (x : ℕ) (r : Path) : Type 0 where
   pub names : namesOf r ≡ x ∷ namesOf p
   pub count : r .count ≡ p .count + 1
-
-pub record Popped (p r : Path) : Type 0 where
-  pub names : namesOf r ≡ outer (namesOf p)
-  pub count : r .count ≡ p .count - 1

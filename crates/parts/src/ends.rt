@@ -1,10 +1,7 @@
 // The end of an element.
 use crate::Cursor;
-use crate::Path;
 use crate::Step;
-use crate::Walk;
 use crate::storing::store;
-use crate::walked;
 use wire::Bits;
 ghost use mathlib.Core.Path.{_≡_};
 ghost use Rattle.model.specs.Read.{met};
@@ -17,18 +14,14 @@ fn meets(coded: bool, at: Bits, end: Bits) -> bool
     if coded { at.0 == end.0 } else { true }
 }
 
-// 11 at the body where the declared end is not met; then End, or 7; and the innermost name goes.
-pub fn close(events: &mut [u32], coded: bool, body: Bits, end: Bits, c: Cursor, path: Path) -> Walk
-    ensures { λ r. ⌜ Closes coded (body .0) (end .0) c path (now (events .entry)) r (now (events .exit)) ⌝ }
+// 11 at the body where the declared end is not met; then End, or 7.
+pub fn close(events: &mut [u32], coded: bool, body: Bits, end: Bits, c: Cursor) -> Step
+    ensures { λ r. ⌜ Closes coded (body .0) (end .0) c (now (events .entry)) r (now (events .exit)) ⌝ }
 {
     let at = c.at;
     let met = meets(coded, at, end);
     if !met {
-        return walked(Step::Refuse(11, body), path);
+        return Step::Refuse(11, body);
     }
-    let s = store(events, c, 6, 0, 0, at);
-    let Step::Go(_) = s else {
-        return walked(s, path);
-    };
-    walked(s, path.pop())
+    store(events, c, 6, 0, 0, at)
 }

@@ -6,10 +6,8 @@ pub mod storing; // storing.rt: one event
 pub mod values; // values.rt: a simple value, with its text
 
 use wire::Bits;
-ghost use mathlib.Core.Path.{_≡_};
 ghost use Prim.Native.Nat.{_<_};
-ghost use Rattle.parts.specs.Paths.{Pushed, Popped};
-ghost use Rattle.parts.specs.Out.{walks};
+ghost use Rattle.parts.specs.Paths.{Pushed};
 
 // Where a reading is: the place in the payload, how many events and how many text bytes are stored.
 pub struct Cursor {
@@ -24,16 +22,10 @@ pub enum Step {
     Refuse(u32, Bits),
 }
 
-// The names of the open elements, the outermost first.
+// The names of the open elements, the outermost first. By value: who opened an element has, at its End, the path without it.
 pub struct Path {
     pub names: [u16; 64],
     pub count: usize,
-}
-
-// A step, and the path that it leaves: of a refusal, the path that is to be told.
-pub struct Walk {
-    pub step: Step,
-    pub path: Path,
 }
 
 // Length coding: never, by a flag, always.
@@ -61,23 +53,4 @@ impl Path {
         self.count = n + 1;
         self
     }
-
-    // The innermost element is closed; of no open element, none.
-    pub fn pop(mut self) -> Path
-        ensures { λ r. ⌜ Popped self r ⌝ }
-    {
-        let n = self.count;
-        if n == 0 {
-            return self;
-        }
-        self.count = n - 1;
-        self
-    }
-}
-
-// A step with its path.
-pub fn walked(step: Step, path: Path) -> Walk
-    ensures { λ r. ⌜ r ≡ walks step path ⌝ }
-{
-    Walk { step, path }
 }

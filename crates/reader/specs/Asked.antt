@@ -1,7 +1,8 @@
 -- What a function of the cycle asks, kept from call to call: by the table's laws, by the head's end, by the path.
 use Prim.Native.Nat.{ℕ, suc, _+_, _-_, _<_, _≤_}
-use mathlib.Core.Path.{_≡_, sym, ap, _∙_, subst}
+use mathlib.Core.Path.{_≡_, sym, _∙_, subst}
 use mathlib.Core.List.{List}
+use mathlib.Core.Bool.{true, false}
 use native.Mathlib.Omega.{arith}
 use lib.ListN.{length}
 use Rattle.wire.specs.Res.{bind, gives, under, Ensures}
@@ -11,7 +12,8 @@ use Rattle.wire.specs.declared.Read as code·read
 use Rattle.wire.specs.declared.Read.the-variants.{Value}
 use Rattle.value.specs.Code.{choiceAt}
 use Rattle.table.specs.Words.{typesIn, particlesIn}
-use Rattle.table.specs.Rows.{tableOf, firstOf, countOf}
+use Rattle.table.specs.Rows.{Row, tableOf, firstOf, countOf}
+use Rattle.table.specs.Rows.Row.{element, sequence, choice, occurs}
 use Rattle.table.specs.Keeps.{RowOk, ContentOk}
 use Rattle.table.specs.Laws.{span-ok, counts-ok, particle-met, content-met}
 use Rattle.table.specs.Views.{contentIs, rowIs}
@@ -19,20 +21,16 @@ use Rattle.table.specs.declared.answers.Content as code·content
 use Rattle.table.specs.declared.answers.Content.the-variants.{Particles}
 use Rattle.table.specs.declared.answers.Particle as code·particle
 use Rattle.table.specs.declared.answers.Particle.the-variants.{Element, Sequence, Choice, Occurs}
-use Rattle.model.specs.Model.{Answer}
 use Rattle.parts.specs.Heads.{Within, Heads}
-use Rattle.parts.specs.Laws.{went-path}
-use Rattle.parts.specs.Out.{view, outcome}
-use Rattle.parts.specs.Paths.{namesOf, Pushed}
-use Rattle.parts.specs.PathLaws.{names-length}
-use Rattle.parts.specs.declared.Cursor.{Cursor}
+use Rattle.parts.specs.Paths.{Pushed}
 use Rattle.parts.specs.declared.Head as code·head
-use Rattle.parts.specs.declared.Head.the-variants.{Sized}
+use Rattle.parts.specs.declared.Head.the-variants.{Bare, Sized, Wrong}
 use Rattle.parts.specs.declared.Mode.{Mode}
 use Rattle.parts.specs.declared.Path.{Path}
-use Rattle.parts.specs.declared.Step.the-variants.{Go}
-use Rattle.parts.specs.declared.Walk.{Walk}
-use Rattle.reader.specs.Meaning.{Ready, Reaches, stride}
+use Rattle.reader.specs.Meaning.{Ready, Fits, Reaches, reachOf, stride}
+use Rattle.reader.specs.declared.cycle.Extent.{Extent}
+use Rattle.reader.specs.declared.cycle.Reach.{Reach}
+use Rattle.reader.specs.declared.cycle.Reach.the-variants.{To}
 use Rattle.reader.specs.Strides.{stride-one, stride-none}
 
 module _ (t s : List ℕ) (wall n d : ℕ) (h : Ready t s wall n d) where
@@ -44,10 +42,18 @@ module _ (t s : List ℕ) (wall n d : ℕ) (h : Ready t s wall n d) where
   ready-element z = record { valid = h .valid; walls = h .walls; places = omega (arith, h .places) }
 
   -- an element's own end is the wall of what is inside it
-  pub ready-end : (mode : Mode) (b : ℕ → ℕ) (at : ℕ) (x : code·head.Head) (body end : Bits) → Heads mode b wall at x → x ≡ Sized body end → Ready t s (end .0) n d
-  ready-end mode b at x body end e g =
-      let w : end .0 ≤ wall = subst (λ (y : code·head.Head). Within wall y) g (e .within) in
-      record { valid = h .valid; walls = omega (arith, h .walls); places = h .places }
+  pub ready-end : (mode : Mode) (b : ℕ → ℕ) (at : ℕ) (x : code·head.Head) (w : Bits) (r : Reach) (y : Extent) → Heads mode b wall at x → w .0 ≡ wall → r ≡ reachOf x w → r ≡ To y
+      → Ready t s (y .end .0) n d
+  ready-end mode b at x w r y e g f i = go x (e .within) (sym i ∙ f)
+    where
+      go : (a : code·head.Head) → Within wall a → To y ≡ reachOf a w → Ready t s (y .end .0) n d
+      go (Bare body) k j =
+          let z : y ≡ record { coded = false; body = body; end = w } = cc in
+          rw (z, g) h
+      go (Sized body end) k j =
+          let z : y ≡ record { coded = true; body = body; end = end } = cc in
+          rw z (record { valid = h .valid; walls = omega (arith, h .walls); places = h .places })
+      go (Wrong m) k j = let z : _≡_ {A = ℕ} 0 1 = cc in absurd (omega arith)
 
   -- rows and types are few; those that the rows name are there
   pub rows-few : particlesIn t ≤ 1024
@@ -59,26 +65,37 @@ module _ (t s : List ℕ) (wall n d : ℕ) (h : Ready t s wall n d) where
   pub content-row : (ty : ℕ) (k : code·content.Content) (i : ℕ) → ty < typesIn t → contentIs k ≡ tableOf t .content ty → k ≡ Particles i → i < particlesIn t
   content-row ty k i g e f = subst (λ (x : code·content.Content). ContentOk (particlesIn t) (contentIs x)) f (content-met t (h .valid) ty g k e)
 
-  module _ (i : ℕ) (r : code·particle.Particle) (g : i < particlesIn t) (e : rowIs r ≡ tableOf t .row i) where
-    row-met : (x : code·particle.Particle) → r ≡ x → RowOk (typesIn t) (particlesIn t) i (rowIs x)
-    row-met x f = subst (λ (x : code·particle.Particle). RowOk (typesIn t) (particlesIn t) i (rowIs x)) f (particle-met t (h .valid) i g r e)
+  -- a row of the table
+  pub row-fits : (i : ℕ) (r : code·particle.Particle) → i < particlesIn t → rowIs r ≡ tableOf t .row i → Fits (typesIn t) (particlesIn t) (rowIs r)
+  row-fits i r g e = go (rowIs r) (particle-met t (h .valid) i g r e)
+    where
+      go : (x : Row) → RowOk (typesIn t) (particlesIn t) i x → Fits (typesIn t) (particlesIn t) x
+      go (element name type) k = (k .name-small, k .type-known)
+      go (sequence first n) k = k .within
+      go (choice first n) k = k .within
+      go (occurs child least most) k = k .within
 
-    pub element-name : (name ty : ℕ) → r ≡ Element name ty → name ≤ 65535
-    element-name name ty f = row-met (Element name ty) f .name-small
+-- what a row that fits names
+module _ (T P : ℕ) (r : code·particle.Particle) (h : Fits T P (rowIs r)) where
+  fits-as : (x : code·particle.Particle) → r ≡ x → Fits T P (rowIs x)
+  fits-as x f = subst (λ (x : code·particle.Particle). Fits T P (rowIs x)) f h
 
-    pub element-type : (name ty : ℕ) → r ≡ Element name ty → ty < typesIn t
-    element-type name ty f = row-met (Element name ty) f .type-known
+  pub element-name : (name ty : ℕ) → r ≡ Element name ty → name ≤ 65535
+  element-name name ty f = fits-as (Element name ty) f .0
 
-    pub sequence-rows : (first m : ℕ) → r ≡ Sequence first m → Reaches (particlesIn t) first 1 m
-    sequence-rows first m f =
-        let k = row-met (Sequence first m) f .within in
-        record { small = omega arith; row = λ j l. rw (stride-one first j) (omega arith) }
+  pub element-type : (name ty : ℕ) → r ≡ Element name ty → ty < T
+  element-type name ty f = fits-as (Element name ty) f .1
 
-    pub choice-rows : (first m : ℕ) → r ≡ Choice first m → first + m ≤ particlesIn t
-    choice-rows first m f = row-met (Choice first m) f .within
+  pub sequence-rows : (first m : ℕ) → r ≡ Sequence first m → Reaches P first 1 m
+  sequence-rows first m f =
+      let k = fits-as (Sequence first m) f in
+      record { small = omega arith; row = λ j l. rw (stride-one first j) (omega arith) }
 
-    pub occurs-row : (child least most : ℕ) → r ≡ Occurs child least most → child < particlesIn t
-    occurs-row child least most f = row-met (Occurs child least most) f .within
+  pub choice-rows : (first m : ℕ) → r ≡ Choice first m → first + m ≤ P
+  choice-rows first m f = fits-as (Choice first m) f
+
+  pub occurs-row : (child least most : ℕ) → r ≡ Occurs child least most → child < P
+  occurs-row child least most f = fits-as (Occurs child least most) f
 
 -- the child of an occurs row, so many times
 pub occurs-rows : (P child m : ℕ) → child < P → Reaches P child 0 m
@@ -111,18 +128,11 @@ module _ (P i k n j : ℕ) (h : Reaches P i k (n - j)) (g : j < n) where
 pub round-fits : (t s : List ℕ) (wall m d : ℕ) → Ready t s wall m d → (i k n j : ℕ) → Reaches (particlesIn t) i k (n - j) → j < n → i + k < 4294967296
 round-fits t s wall m d h i k n j g l = let f = round-row (particlesIn t) i k n j g l in omega (arith, rows-few t s wall m d h, g .small)
 
--- the path: one name longer inside an element; as it was where a walk went on
+-- the path: one name longer inside an element
 pub ready-pushed : (t s : List ℕ) (wall d : ℕ) (path inner : Path) (name : ℕ) → Pushed path name inner → Ready t s wall (path .count + 1) d → Ready t s wall (inner .count) d
 ready-pushed t s wall d path inner name i r = rw (i .count) r
 
 pub path-open : (t s : List ℕ) (wall n d : ℕ) → Ready t s wall (n + 1) d → n < 64
 path-open t s wall n d r = omega (arith, r .places)
 
-pub ready-went : (t s : List ℕ) (wall d : ℕ) (w : Walk) (E′ T′ : List ℕ) (o : Answer) (c : Cursor) (path : Path) (E T : List ℕ) → view w E′ T′ ≡ outcome o c (namesOf path) E T
-    → (e : Cursor) → w .step ≡ Go e → Ready t s wall (path .count) d → Ready t s wall (w .path .count) d
-ready-went t s wall d w E′ T′ o c path E T h e g r =
-    let same : w .path .count ≡ path .count =
-    sym (names-length (w .path)) ∙ ap length (went-path (w .step) (namesOf (w .path)) E′ T′ o c (namesOf path) E T h e g) ∙ names-length path in
-    rw same r
-
-pub ruleset asked-ways = (ready-row, ready-element, ready-end, rows-few, spans-few, content-row, element-name, element-type, sequence-rows, choice-rows, occurs-row, occurs-rows, branch-row, branch-fits, round-row, round-fits, round-next, ready-pushed, path-open, ready-went)
+pub ruleset asked-ways = (ready-row, ready-element, ready-end, rows-few, spans-few, content-row, row-fits, element-name, element-type, sequence-rows, choice-rows, occurs-row, occurs-rows, branch-row, branch-fits, round-row, round-fits, round-next, ready-pushed, path-open)

@@ -1,6 +1,7 @@
 pub mod Zeros
 pub mod Rest
 pub mod Front
+pub mod Told
 pub mod Meaning
 pub mod Strides
 pub mod Asked

@@ -2,39 +2,57 @@
 use Prim.Native.Nat.{ℕ, zero, suc, _+_, _-_, _*_, _<_, _≤_}
 use mathlib.Core.Path.{_≡_}
 use mathlib.Core.List.{List}
-use mathlib.Core.Bool.{Bool}
+use mathlib.Core.Bool.{Bool, true, false}
 use lib.Dec.{ltb}
 use lib.ListN.{length}
 use Rattle.wire.specs.Bits.{bitAt}
+use Rattle.wire.specs.declared.Bits.{Bits}
 use Rattle.table.specs.First.Verdict.{right}
 use Rattle.table.specs.Valid.{verdict}
-use Rattle.table.specs.Rows.{tableOf, heldOf}
+use Rattle.table.specs.Rows.{Row, tableOf, heldOf}
+use Rattle.table.specs.Rows.Row.{element, sequence, choice, occurs}
 use Rattle.model.specs.Model.{event, Answer}
 use Rattle.model.specs.Model.Item.{picked, counted}
 use Rattle.model.specs.Items.{itemAt, headAt}
 use Rattle.model.specs.Read.{Room, after, code, stored, entered, opened, mark}
 use Rattle.model.specs.Steps.{particleAt, roundsAt, contentAt, insideAt}
 use Rattle.parts.specs.Heads.{modeIs}
-use Rattle.parts.specs.Out.{roomOf, view, outcome}
-use Rattle.parts.specs.Paths.{namesOf}
+use Rattle.parts.specs.Out.{roomOf, outcome, ending}
 use Rattle.parts.specs.declared.Cursor.{Cursor}
+use Rattle.parts.specs.declared.Head.{Head}
+use Rattle.parts.specs.declared.Head.the-variants.{Bare, Sized, Wrong}
 use Rattle.parts.specs.declared.Mode.{Mode}
-use Rattle.parts.specs.declared.Path.{Path}
-use Rattle.parts.specs.declared.Walk.{Walk}
+use Rattle.reader.specs.Told.{view}
+use Rattle.reader.specs.declared.cycle.Reach.{Reach}
+use Rattle.reader.specs.declared.cycle.Reach.the-variants as reach
+use Rattle.reader.specs.declared.told.Walk.{Walk}
 
 -- by the room that is left, the path, the wall and the place
 abbrev pub Meaning : Type 0
 Meaning = Room → List ℕ → ℕ → ℕ → Answer
 
--- a function walks as its meaning says, from the cursor on; where it goes on, with the path that it was given
-abbrev pub Walks : Meaning → ℕ → Cursor → Path → List ℕ → List ℕ → Walk → List ℕ → List ℕ → Type 0
-Walks f wall c path E T w E′ T′ = view w E′ T′ ≡ outcome (f (roomOf E T c) (namesOf path) wall (c .at .0)) c (namesOf path) E T
+-- a function walks as its meaning says, from the cursor on, in an element whose path is π; N are the names told
+abbrev pub Walks : Meaning → ℕ → Cursor → List ℕ → List ℕ → List ℕ → Walk → List ℕ → List ℕ → List ℕ → Type 0
+Walks f wall c π E T w N E′ T′ = view w π N E′ T′ ≡ outcome (f (roomOf E T c) π wall (c .at .0)) c π E T
+
+-- what a head says of an element below a wall
+abbrev pub reachOf : Head → Bits → Reach
+reachOf (Bare body) wall = reach.To record { coded = false; body = body; end = wall }
+reachOf (Sized body end) wall = reach.To record { coded = true; body = body; end = end }
+reachOf (Wrong n) wall = reach.Wrong n
 
 -- what is asked: the table is right, the wall is in the payload, and the path has a place for each row that may still be opened
 pub record Ready (t s : List ℕ) (wall n depth : ℕ) : Type 0 where
   pub valid : verdict t ≡ right
   pub walls : wall ≤ 8 * length s
   pub places : n + depth ≤ 64
+
+-- a row names types and rows of a table of T types and P rows
+abbrev pub Fits : (T P : ℕ) → Row → Type 0
+Fits T P (element name type) = (name ≤ 65535) × (type < T)
+Fits T P (sequence first n) = first + n ≤ P
+Fits T P (choice first n) = first + n ≤ P
+Fits T P (occurs child least most) = child < P
 
 -- the row that is j steps of k past the row i
 unfoldable pub stride : ℕ → ℕ → ℕ → ℕ
@@ -50,8 +68,8 @@ module _ (t s : List ℕ) (mode : Mode) where
   abbrev pub b : ℕ → ℕ
   b = bitAt s
 
-  unfoldable pub particle· : ℕ → ℕ → Meaning
-  particle· d i r π wall at = particleAt b (modeIs mode) (heldOf t) (tableOf t) d (tableOf t .row i) r π wall at
+  unfoldable pub particle· : ℕ → Row → Meaning
+  particle· d row r π wall at = particleAt b (modeIs mode) (heldOf t) (tableOf t) d row r π wall at
 
   unfoldable pub rounds· : ℕ → ℕ → ℕ → ℕ → Meaning
   rounds· d i k n r π wall at = roundsAt b (modeIs mode) (heldOf t) (tableOf t) d n (λ j. tableOf t .row (stride i k j)) r π wall at
@@ -62,6 +80,10 @@ module _ (t s : List ℕ) (mode : Mode) where
   unfoldable pub inside· : ℕ → ℕ → Meaning
   inside· d ty r π wall at = insideAt b (modeIs mode) (heldOf t) (tableOf t) d ty r π wall at
 
+  -- what is inside an element, and its end
+  unfoldable pub whole· : ℕ → ℕ → Bool → ℕ → Meaning
+  whole· d ty coded body r π wall at = after r (inside· d ty r π wall at) (λ u q. ending coded body wall u π q)
+
   unfoldable pub enter· : ℕ → ℕ → ℕ → Bool → ℕ → Meaning
   enter· d name ty coded body r π wall at = entered (ltb 0 (r .slots)) (inside· d) (mark name ty coded at body) r π wall body
 
@@ -70,7 +92,7 @@ module _ (t s : List ℕ) (mode : Mode) where
 
   unfoldable pub choose· : ℕ → ℕ → ℕ → Meaning
   choose· d first n r π wall at =
-      code (itemAt (picked n) b wall at) π at (λ (v, ts, q). after r (stored r π at (event 4 v 0 (q - at)) ts q) (λ u p. particle· d (first + v) u π wall p))
+      code (itemAt (picked n) b wall at) π at (λ (v, ts, q). after r (stored r π at (event 4 v 0 (q - at)) ts q) (λ u p. particle· d (tableOf t .row (first + v)) u π wall p))
 
   unfoldable pub occur· : ℕ → ℕ → ℕ → ℕ → Meaning
   occur· d child least most r π wall at =

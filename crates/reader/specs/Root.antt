@@ -14,6 +14,7 @@ use Rattle.table.specs.First.Verdict.{right}
 use Rattle.table.specs.Valid.{verdict}
 use Rattle.table.specs.Words.{typesIn}
 use Rattle.table.specs.Rows.{tableOf, heldOf}
+use Rattle.table.specs.Rows.Row.{element}
 use Rattle.table.specs.Views.{verdictIs}
 use Rattle.table.specs.declared.answers.Verdict as code·verdict
 use Rattle.table.specs.declared.answers.Verdict.the-variants.{Right, Wrong}
@@ -22,7 +23,6 @@ use Rattle.model.specs.Model.Answer.{given, refused}
 use Rattle.model.specs.Read as model
 use Rattle.model.specs.Fit.{read-fits}
 use Rattle.model.specs.Trees.{slots-length, bytes-length}
-use Rattle.model.specs.Steps as steps
 use Rattle.model.specs.Whole as whole
 use Rattle.model.specs.Whole.{modeNumber, modeOf, padding, Reply, accepted, declined, declines, eventWords, eventsLeft, textsLeft, reading}
 use Rattle.model.specs.Entries.{Entered, planOf, words-length}
@@ -31,19 +31,21 @@ use Rattle.model.specs.Buffers.{filled-sets}
 use Rattle.parts.specs.Bytes.{bytes-few}
 use Rattle.parts.specs.Heads.{modeIs}
 use Rattle.parts.specs.Laws.{Went, did-go, did-stop}
-use Rattle.parts.specs.Out.{roomOf, view, outcome}
+use Rattle.parts.specs.Out.{roomOf, outcome}
 use Rattle.parts.specs.Paths.{back, namesOf}
 use Rattle.parts.specs.declared.Cursor.{Cursor}
 use Rattle.parts.specs.declared.Mode.{Mode}
 use Rattle.parts.specs.declared.Path.{Path}
-use Rattle.parts.specs.declared.Step.the-variants.{Go, Refuse}
-use Rattle.parts.specs.declared.Walk.{Walk}
+use Rattle.parts.specs.declared.Step.the-variants as step
 use Rattle.reader.specs.declared.Answer as code
 use Rattle.reader.specs.declared.front.Found.{Found}
 use Rattle.reader.specs.declared.front.Found.the-variants as found
 use Rattle.reader.specs.Answers.{pathIs, answerIs, Replies, told, path-outward, no-path, declined-replies}
 use Rattle.reader.specs.Front.{foundIs}
-use Rattle.reader.specs.Meaning.{Ready, Walks, element·, inside·}
+use Rattle.reader.specs.Told.{view}
+use Rattle.reader.specs.declared.told.Walk.{Walk}
+use Rattle.reader.specs.declared.told.Walk.the-variants.{Go, Refuse, Told}
+use Rattle.reader.specs.Meaning.{Ready, Walks, particle·}
 
 -- a buffer of zeros
 abbrev pub Zeros : List ℕ → Type 0
@@ -53,7 +55,7 @@ pub zeros-cleared : (l m : List ℕ) → m ≡ replicate (length l) 0 → Zeros 
 zeros-cleared l m e = e ∙ ap (λ (n : ℕ). replicate n 0) (sym (length-replicate (length l) 0) ∙ sym (ap length e))
 
 -- what the root asks
-pub root-ready : (t s : List ℕ) (name ty : ℕ) (path : Path) (wall : ℕ) → Entered t name ty → path .count ≡ 0 → wall ≡ 8 * length s → Ready t s wall (path .count + 1) 63
+pub root-ready : (t s : List ℕ) (name ty : ℕ) (path : Path) (wall : ℕ) → Entered t name ty → path .count ≡ 0 → wall ≡ 8 * length s → Ready t s wall (path .count) 64
 root-ready t s name ty path wall h z e = record { valid = h .table-right; walls = omega arith; places = omega arith }
 
 pub root-type : (t : List ℕ) (name ty : ℕ) → Entered t name ty → ty < typesIn t
@@ -69,7 +71,7 @@ payload-short s mode e = short s .says (modeIs mode) e
 
 module _ (t s : List ℕ) (name ty : ℕ) (mode : Mode) (h : Entered t name ty) (m : modeOf s ≡ got (modeIs mode)) (E T : List ℕ) (zE : Zeros E) (zT : Zeros T)
     (c : Cursor) (c8 : c .at .0 ≡ 8) (c0 : c .count ≡ 0) (u0 : c .used ≡ 0) (path : Path) (z : path .count ≡ 0) (wall : ℕ) (x : wall ≡ 8 * length s)
-    (w : Walk) (E₁ T₁ : List ℕ) (k : Walks (element· t s mode 63 name ty) wall c path E T w E₁ T₁) where
+    (w : Walk) (N E₁ T₁ : List ℕ) (k : Walks (particle· t s mode 64 (element name ty)) wall c (namesOf path) E T w N E₁ T₁) where
   abbrev room : model.Room
   room = whole.roomOf (length E) (length T)
 
@@ -79,9 +81,9 @@ module _ (t s : List ℕ) (name ty : ℕ) (mode : Mode) (h : Entered t name ty) 
   abbrev Ans : Answer
   Ans = model.read (bitAt s) (modeIs mode) (heldOf t) (planOf t name ty) room [] (8 * length s) 8
 
-  root-read : element· t s mode 63 name ty room [] (8 * length s) 8 ≡ Ans
-  unfolding element· inside·
-  root-read = sym (steps.particle-element (bitAt s) (modeIs mode) (heldOf t) (tableOf t) room [] (8 * length s) 8 63 name ty)
+  root-read : particle· t s mode 64 (element name ty) room [] (8 * length s) 8 ≡ Ans
+  unfolding particle·
+  root-read = refl
 
   no-names : namesOf path ≡ []
   unfolding namesOf back
@@ -93,14 +95,15 @@ module _ (t s : List ℕ) (name ty : ℕ) (mode : Mode) (h : Entered t name ty) 
       let b : length T - c .used ≡ length T = omega arith in
       λ i. record { slots = a i; bytes = b i }
 
-  root-says : view w E₁ T₁ ≡ outcome Ans c [] E T
+  root-says : view w [] N E₁ T₁ ≡ outcome Ans c [] E T
   root-says =
-      k
-      ∙ (λ i. outcome (element· t s mode 63 name ty (room-is i) (no-names i) (x i) (c8 i)) c (no-names i) E T)
+      (λ i. view w (sym no-names i) N E₁ T₁)
+      ∙ k
+      ∙ (λ i. outcome (particle· t s mode 64 (element name ty) (room-is i) (no-names i) (x i) (c8 i)) c (no-names i) E T)
       ∙ ap (λ (a : Answer). outcome a c [] E T) root-read
 
-  went-on : (d : Cursor) → w .step ≡ Go d → Went Ans c [] E T d (namesOf (w .path)) E₁ T₁
-  went-on d g = did-go (w .step) (namesOf (w .path)) E₁ T₁ Ans c [] E T root-says d g
+  went-on : (d : Cursor) → w ≡ Go d → Went Ans c [] E T d [] E₁ T₁
+  went-on d g = did-go (step.Go d) [] E₁ T₁ Ans c [] E T (rw g at root-says) d refl
 
   fits : (ns : Nodes) (q : ℕ) → Ans ≡ given ns q → (slotsOf ns ≤ room .slots) × (bytesOf ns ≤ room .bytes)
   fits ns q e = rw e at (read-fits (bitAt s) (modeIs mode) (heldOf t) (planOf t name ty) room [] (8 * length s) 8)
@@ -109,18 +112,15 @@ module _ (t s : List ℕ) (name ty : ℕ) (mode : Mode) (h : Entered t name ty) 
   few ns q e = bytes-few (bitAt s) (bit-lt s) (modeIs mode) (heldOf t) (planOf t name ty) room [] (8 * length s) 8 ns q e
 
   -- the bytes used fit a word
-  pub root-used : (d : Cursor) → w .step ≡ Go d → d .used < 4294967296
+  pub root-used : (d : Cursor) → w ≡ Go d → d .used < 4294967296
   root-used d g =
       let v = went-on d g in
       let a = few (v .nodes) (d .at .0) (v .gave) in
       let b = fits (v .nodes) (d .at .0) (v .gave) in
       omega (arith, v .moved .used)
 
-  no-path-left : (d : Cursor) → w .step ≡ Go d → pathIs (w .path) ≡ []
-  no-path-left d g = sym (path-outward (w .path)) ∙ ap reverse (went-on d g .path)
-
   -- accepted
-  pub root-given : (d : Cursor) (ok : Bool) (r : code.Answer) → w .step ≡ Go d → ok ≡ padding s (d .at .0) → ok ≡ true → answerIs r ≡ told mode d (w .path)
+  pub root-given : (d : Cursor) (ok : Bool) (r : code.Answer) → w ≡ Go d → ok ≡ padding s (d .at .0) → ok ≡ true → answerIs r ≡ told mode d path
       → Replies R (length E) (length T) r E₁ T₁
   unfolding whole.outcome eventsLeft textsLeft
   root-given d ok r g e f a =
@@ -131,7 +131,7 @@ module _ (t s : List ℕ) (name ty : ℕ) (mode : Mode) (h : Entered t name ty) 
       let b = fits ns (d .at .0) (v .gave) in
       let counted : d .count ≡ length (events ns) = omega (arith, v .moved .count, slots-length ns) in
       let used : d .used ≡ length (texts ns) = omega (arith, v .moved .used, bytes-length ns) in
-      let none : pathIs (w .path) ≡ [] = no-path-left d g in
+      let none : pathIs path ≡ [] = no-path path z in
       let first : 4 * c .count ≡ 0 = omega arith in
       rw is
       (record {
@@ -147,21 +147,30 @@ module _ (t s : List ℕ) (name ty : ℕ) (mode : Mode) (h : Entered t name ty) 
     cleared n p π e a =
         declined-replies R (length E) (length T) n p π r E₂ T₂ e a (y ∙ ap (λ (i : ℕ). replicate i 0) same-E) (y′ ∙ ap (λ (i : ℕ). replicate i 0) same-T)
 
-    pub root-refused : (n : ℕ) (at : Bits) → w .step ≡ Refuse n at → answerIs r ≡ declines n (at .0) (pathIs (w .path)) → Replies R (length E) (length T) r E₂ T₂
+    pub root-refused : (n : ℕ) (at : Bits) → w ≡ Refuse n at → answerIs r ≡ declines n (at .0) (pathIs path) → Replies R (length E) (length T) r E₂ T₂
     root-refused n at g a =
-        cleared n (at .0) (pathIs (w .path))
-        (reading-refused t name ty s (length E) (length T) h (modeIs mode) m Ans refl n (at .0) (namesOf (w .path)) (did-stop (w .step) (namesOf (w .path)) E₁ T₁ Ans c [] E T root-says n at g)
-        ∙ ap (λ (π : List ℕ). declined n (at .0) π) (path-outward (w .path))) a
+        cleared n (at .0) []
+        (reading-refused t name ty s (length E) (length T) h (modeIs mode) m Ans refl n (at .0) [] (did-stop (step.Refuse n at) [] E₁ T₁ Ans c [] E T (rw g at root-says) n at refl))
+        (a ∙ ap (λ (π : List ℕ). declines n (at .0) π) (no-path path z))
 
-    pub root-left : (d : Cursor) (ok : Bool) → w .step ≡ Go d → ok ≡ padding s (d .at .0) → ok ≡ false → answerIs r ≡ declines 17 (d .at .0) (pathIs (w .path))
+    pub root-told : (n : ℕ) (at : Bits) (count : ℕ) (p : Path) → w ≡ Told n at count → namesOf p ≡ back N count → answerIs r ≡ declines n (at .0) (pathIs p)
+        → Replies R (length E) (length T) r E₂ T₂
+    root-told n at count p g e a =
+        cleared n (at .0) (pathIs p)
+        (reading-refused t name ty s (length E) (length T) h (modeIs mode) m Ans refl n (at .0) (back N count)
+        (did-stop (step.Refuse n at) (back N count) E₁ T₁ Ans c [] E T (rw g at root-says) n at refl)
+        ∙ ap (λ (π : List ℕ). declined n (at .0) (reverse π)) (sym e)
+        ∙ ap (λ (π : List ℕ). declined n (at .0) π) (path-outward p)) a
+
+    pub root-left : (d : Cursor) (ok : Bool) → w ≡ Go d → ok ≡ padding s (d .at .0) → ok ≡ false → answerIs r ≡ declines 17 (d .at .0) (pathIs path)
         → Replies R (length E) (length T) r E₂ T₂
     root-left d ok g e f a =
         let v = went-on d g in
         cleared 17 (d .at .0) []
         (reading-left t name ty s (length E) (length T) h (modeIs mode) m Ans refl (v .nodes) (d .at .0) (v .gave) (sym e ∙ f))
-        (a ∙ ap (λ (π : List ℕ). declines 17 (d .at .0) π) (no-path-left d g))
+        (a ∙ ap (λ (π : List ℕ). declines 17 (d .at .0) π) (no-path path z))
 
-pub ruleset root-ways = (root-ready, root-type, payload-short, root-used, root-given, root-refused, root-left)
+pub ruleset root-ways = (root-ready, root-type, payload-short, root-used, root-given, root-refused, root-told, root-left)
 
 -- before the root: 1, 2, 3, 4, into buffers of zeros
 module _ (t s : List ℕ) (name ty : ℕ) (E T : List ℕ) where

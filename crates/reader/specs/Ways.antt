@@ -1,6 +1,7 @@
 -- Each way through the functions of the cycle, as the code goes it.
 use Prim.Native.Nat.{ℕ, suc, _+_, _-_, _<_, _≤_}
 use mathlib.Core.Path.{_≡_, refl, sym, ap, _∙_}
+use mathlib.Core.Logic.{_⊎_, inl, inr}
 use mathlib.Core.List.{List, [], _∷_}
 use mathlib.Core.Bool.{Bool, true, false}
 use native.Mathlib.Omega.{arith}
@@ -35,48 +36,63 @@ use Rattle.model.specs.Steps as steps
 use Rattle.model.specs.Steps.{particleAt, roundsAt}
 use Rattle.parts.specs.Ends.{entered-left}
 use Rattle.parts.specs.Heads.{modeIs, headIs, Heads}
-use Rattle.parts.specs.Out.{roomOf, stepView, view, walks, outcome, ending, Reads, Stores, Closes}
-use Rattle.parts.specs.Paths.{namesOf, outer, Pushed}
+use Rattle.parts.specs.Out.{roomOf, stepView, outcome, ending, Reads, Stores, Closes}
 use Rattle.parts.specs.declared.Cursor.{Cursor}
 use Rattle.parts.specs.declared.Head as code·head
 use Rattle.parts.specs.declared.Head.the-variants.{Bare, Sized, Wrong}
 use Rattle.parts.specs.declared.Mode.{Mode}
+use Rattle.parts.specs.Paths.{namesOf, Pushed}
 use Rattle.parts.specs.declared.Path.{Path}
 use Rattle.parts.specs.declared.Step.{Step}
-use Rattle.parts.specs.declared.Step.the-variants.{Go, Refuse}
-use Rattle.parts.specs.declared.Walk.{Walk}
-use Rattle.parts.specs.Laws.{went-path, after-stop, after-go, after-next, outcome-none}
+use Rattle.parts.specs.declared.Step.the-variants as step
+use Rattle.parts.specs.Laws.{after-stop, after-go, after-next, outcome-none}
 use Rattle.reader.specs.Strides.{stride-one, stride-none}
-use Rattle.reader.specs.Meaning.{Walks, stride, particle·, rounds·, content·, inside·, enter·, element·, choose·, occur·}
+use Rattle.reader.specs.Told.{walks, stepOf, pathOf, view, Named, Stopped, leaf-view}
+use Rattle.reader.specs.Meaning.{Walks, reachOf, stride, particle·, rounds·, content·, inside·, whole·, enter·, element·, choose·, occur·}
+use Rattle.reader.specs.declared.cycle.Extent.{Extent}
+use Rattle.reader.specs.declared.cycle.Reach.{Reach}
+use Rattle.reader.specs.declared.cycle.Reach.the-variants as reach
+use Rattle.reader.specs.declared.told.Walk.{Walk}
+use Rattle.reader.specs.declared.told.Walk.the-variants.{Go, Refuse}
 
 -- a refusal that a function makes itself; nothing more to read; a leaf's own answer
-module _ (w : Walk) (c : Cursor) (p : Path) (o : Answer) (E T : List ℕ) where
-  stops-at : (n : ℕ) (at : Bits) → w ≡ walks (Refuse n at) p → o ≡ refused n (at .0) (namesOf p) → view w E T ≡ outcome o c (namesOf p) E T
+module _ (c : Cursor) (π : List ℕ) (o : Answer) (N E T : List ℕ) where
+  stops-at : (n : ℕ) (at : Bits) → o ≡ refused n (at .0) π → view (Refuse n at) π N E T ≡ outcome o c π E T
   unfolding stepView outcome
-  stops-at n at g h = rw (g, h)
+  stops-at n at h = rw h
 
-  goes-on : w ≡ walks (Go c) p → o ≡ given none (c .at .0) → view w E T ≡ outcome o c (namesOf p) E T
-  goes-on g h = rw (g, h) (outcome-none c (namesOf p) E T)
+  goes-on : o ≡ given none (c .at .0) → view (Go c) π N E T ≡ outcome o c π E T
+  goes-on h = rw h (outcome-none c π E T)
 
-  as-leaf : (s : Step) (E′ T′ : List ℕ) → w ≡ walks s p → stepView s (namesOf p) E′ T′ ≡ outcome o c (namesOf p) E T → view w E′ T′ ≡ outcome o c (namesOf p) E T
-  as-leaf s E′ T′ g h = rw g h
+  module _ (w : Walk) (s : Step) (g : w ≡ walks s) (E′ T′ : List ℕ) (h : stepView s π E′ T′ ≡ outcome o c π E T) where
+    as-leaf : view w π N E′ T′ ≡ outcome o c π E T
+    as-leaf = leaf-view s w g π N E′ T′ ∙ h
 
-  -- a leaf's refusal, whatever was to follow
-  leaf-stop : (s : Step) (E′ T′ : List ℕ) (n : ℕ) (at : Bits) → stepView s (namesOf p) E′ T′ ≡ outcome o c (namesOf p) E T → s ≡ Refuse n at → w ≡ walks s p
-      → (r : Room) (k : Room → ℕ → Answer) → view w E′ T′ ≡ outcome (after r o k) c (namesOf p) E T
-  leaf-stop s E′ T′ n at h g e r k = rw e (after-stop s (namesOf p) E′ T′ o c (namesOf p) E T h n at g (namesOf p) r k)
+    -- a leaf's refusal, whatever was to follow
+    leaf-stop : (n : ℕ) (at : Bits) → s ≡ step.Refuse n at → (r : Room) (k : Room → ℕ → Answer) → view w π N E′ T′ ≡ outcome (after r o k) c π E T
+    leaf-stop n at e r k = leaf-view s w g π N E′ T′ ∙ after-stop s π E′ T′ o c π E T h n at e π r k
 
 -- a walk's refusal, and what follows where it went on
-module _ (v : Walk) (E′ T′ : List ℕ) (o : Answer) (c : Cursor) (π E T : List ℕ) (h : view v E′ T′ ≡ outcome o c π E T) where
-  pub walk-stop : (n : ℕ) (p : Bits) → v .step ≡ Refuse n p → (ρ : List ℕ) (r : Room) (k : Room → ℕ → Answer) → view v E′ T′ ≡ outcome (after r o k) c ρ E T
-  walk-stop n p g ρ r k = after-stop (v .step) (namesOf (v .path)) E′ T′ o c π E T h n p g ρ r k
+module _ (v : Walk) (π N E′ T′ : List ℕ) (o : Answer) (c : Cursor) (E T : List ℕ) (h : view v π N E′ T′ ≡ outcome o c π E T) where
+  walk-stop : Stopped v → (r : Room) (k : Room → ℕ → Answer) → view v π N E′ T′ ≡ outcome (after r o k) c π E T
+  walk-stop g r k = after-stop (stepOf v) (pathOf v π N) E′ T′ o c π E T h (g .number) (g .place) (g .refused) π r k
 
-  pub walk-go : (e : Cursor) → v .step ≡ Go e → (ρ : List ℕ) (K : Room → List ℕ → ℕ → Answer)
-      → outcome (K (roomOf E′ T′ e) (namesOf (v .path)) (e .at .0)) e ρ E′ T′ ≡ outcome (after (roomOf E T c) o (λ u p. K u π p)) c ρ E T
-  walk-go e g ρ K = after-go (v .step) (namesOf (v .path)) E′ T′ o c π E T h e g ρ K
+  walk-go : (e : Cursor) → v ≡ Go e → (K : Room → List ℕ → ℕ → Answer)
+      → outcome (K (roomOf E′ T′ e) π (e .at .0)) e π E′ T′ ≡ outcome (after (roomOf E T c) o (λ u p. K u π p)) c π E T
+  walk-go e g K = after-go (step.Go e) π E′ T′ o c π E T (rw g at h) e refl π K
 
-  pub walk-path : (e : Cursor) → v .step ≡ Go e → namesOf (v .path) ≡ π
-  walk-path e g = went-path (v .step) (namesOf (v .path)) E′ T′ o c π E T h e g
+-- what a head says, case by case
+module _ (h : code·head.Head) (wall : Bits) where
+  pub reached-wrong : (n : ℕ) → h ≡ Wrong n → reach.Wrong n ≡ reachOf h wall
+  reached-wrong n g = rw g
+
+  pub reached-bare : (body : Bits) → h ≡ Bare body → reach.To record { coded = false; body = body; end = wall } ≡ reachOf h wall
+  reached-bare body g = rw g
+
+  pub reached-sized : (body end : Bits) → h ≡ Sized body end → reach.To record { coded = true; body = body; end = end } ≡ reachOf h wall
+  reached-sized body end g = rw g
+
+pub ruleset reached-ways = (reached-wrong, reached-bare, reached-sized)
 
 -- the code of a branch or of a count, as the code answers it
 module _ (r : code·read.Read) (k : Code) (b : ℕ → ℕ) (wall at : ℕ) (e : readIs r ≡ codeAt k b wall at) where
@@ -97,7 +113,7 @@ module _ {A : Type 0} (x : Res A) (π : List ℕ) (at : ℕ) (k : A → Answer) 
   unfolding code
   code-got a g = rw g
 
-module _ (t s : List ℕ) (mode : Mode) (d wall : ℕ) (c : Cursor) (path : Path) (E T : List ℕ) where
+module _ (t s : List ℕ) (mode : Mode) (d wall : ℕ) (c : Cursor) (Π N E T : List ℕ) where
   abbrev B : ℕ → ℕ
   B = bitAt s
 
@@ -113,36 +129,36 @@ module _ (t s : List ℕ) (mode : Mode) (d wall : ℕ) (c : Cursor) (path : Path
   abbrev R : Room
   R = roomOf E T c
 
-  abbrev Π : List ℕ
-  Π = namesOf path
-
   abbrev at : ℕ
   at = c .at .0
 
-  from : (w : Walk) (E′ T′ : List ℕ) (x y : Answer) → x ≡ y → view w E′ T′ ≡ outcome y c Π E T → view w E′ T′ ≡ outcome x c Π E T
-  from w E′ T′ x y g h = rw g h
+  from : (w : Walk) (N′ E′ T′ : List ℕ) (x y : Answer) → x ≡ y → view w Π N′ E′ T′ ≡ outcome y c Π E T → view w Π N′ E′ T′ ≡ outcome x c Π E T
+  from w N′ E′ T′ x y g h = rw g h
 
   -- content
-  module _ (ty : ℕ) (k : code·content.Content) (e : contentIs k ≡ D .content ty) (w : Walk) where
-    abbrev Content : List ℕ → List ℕ → Type 0
-    Content E′ T′ = Walks (content· t s mode d ty) wall c path E T w E′ T′
+  module _ (ty : ℕ) (k : code·content.Content) (e : contentIs k ≡ D .content ty) where
+    abbrev Content : Walk → List ℕ → List ℕ → List ℕ → Type 0
+    Content w N′ E′ T′ = Walks (content· t s mode d ty) wall c Π E T w N′ E′ T′
 
     content-is : (x : table.Content) → contentIs k ≡ x → D .content ty ≡ x
     content-is x g = sym e ∙ g
 
-    pub content-none : k ≡ Empty → w ≡ walks (Go c) path → Content E T
+    pub content-none : k ≡ Empty → Content (Go c) N E T
     unfolding content·
-    content-none g h = goes-on w c path _ E T h (rw (content-is table.Content.empty (rw g)) (steps.content-empty B M H D R Π wall at d))
+    content-none g = goes-on c Π _ N E T (rw (content-is table.Content.empty (rw g)) (steps.content-empty B M H D R Π wall at d))
 
-    pub content-value : (kind x y : ℕ) (o : Step) (E′ T′ : List ℕ) → k ≡ Simple kind x y → Reads (model.value kind x y done) B wall c E T o E′ T′ → w ≡ walks o path → Content E′ T′
+    pub content-value : (w : Walk) (kind x y : ℕ) (o : Step) (E′ T′ : List ℕ) → k ≡ Simple kind x y → Reads (model.value kind x y done) B wall c E T o E′ T′ → w ≡ walks o → Content w N E′ T′
     unfolding content·
-    content-value kind x y o E′ T′ g h i =
+    content-value w kind x y o E′ T′ g h i =
         rw (content-is (table.Content.simple kind x y) (rw g))
-        (from w E′ T′ _ _ (steps.content-simple B M H D R Π wall at d kind x y) (as-leaf w c path _ E T o E′ T′ i (h .says M H Π)))
+        (from w N E′ T′ _ _ (steps.content-simple B M H D R Π wall at d kind x y) (as-leaf c Π _ N E T w o i E′ T′ (h .says M H Π)))
 
-    pub content-particle : (i : ℕ) (E′ T′ : List ℕ) → k ≡ Particles i → Walks (particle· t s mode d i) wall c path E T w E′ T′ → Content E′ T′
+    pub content-particle : (w : Walk) (i : ℕ) (r : code·particle.Particle) (path inner : Path) (name : ℕ) (N′ E′ T′ : List ℕ) → k ≡ Particles i → rowIs r ≡ D .row i
+        → Π ≡ name ∷ namesOf path → Pushed path name inner → Walks (particle· t s mode d (rowIs r)) wall c (namesOf inner) E T w N′ E′ T′ → Content w N′ E′ T′
     unfolding content· particle·
-    content-particle i E′ T′ g h = rw (content-is (table.Content.particles i) (rw g)) (from w E′ T′ _ _ (steps.content-particles B M H D R Π wall at d i) h)
+    content-particle w i r path inner name N′ E′ T′ g f p j h =
+        rw (content-is (table.Content.particles i) (rw g))
+        (from w N′ E′ T′ _ _ (steps.content-particles B M H D R Π wall at d i) (rw (f, j .names, sym p) at h))
 
   -- what is inside an element
   module _ (ty : ℕ) (o : Step) (E₁ T₁ : List ℕ) (h : Reads (model.attributes (D .attributes ty) done) B wall c E T o E₁ T₁) where
@@ -153,12 +169,22 @@ module _ (t s : List ℕ) (mode : Mode) (d wall : ℕ) (c : Cursor) (path : Path
     unfolding inside· content·
     inside-here = steps.inside-is B M H D R Π wall at d ty
 
-    pub inside-stop : (n : ℕ) (p : Bits) (w : Walk) → o ≡ Refuse n p → w ≡ walks o path → Walks (inside· t s mode d ty) wall c path E T w E₁ T₁
-    inside-stop n p w g i = from w E₁ T₁ _ _ inside-here (leaf-stop w c path attributes E T o E₁ T₁ n p (h .says M H Π) g i R _)
+    pub inside-stop : (n : ℕ) (p : Bits) (w : Walk) → o ≡ step.Refuse n p → w ≡ walks o → Walks (inside· t s mode d ty) wall c Π E T w N E₁ T₁
+    inside-stop n p w g i = from w N E₁ T₁ _ _ inside-here (leaf-stop c Π attributes N E T w o i E₁ T₁ (h .says M H Π) n p g R _)
 
-    pub inside-go : (e : Cursor) (w : Walk) (E₂ T₂ : List ℕ) → o ≡ Go e → Walks (content· t s mode d ty) wall e path E₁ T₁ w E₂ T₂ → Walks (inside· t s mode d ty) wall c path E T w E₂ T₂
-    inside-go e w E₂ T₂ g y =
-        from w E₂ T₂ _ _ inside-here (y ∙ after-next o Π E₁ T₁ attributes c Π E T (h .says M H Π) e g (λ u ρ p. content· t s mode d ty u ρ wall p))
+    pub inside-go : (e : Cursor) (w : Walk) (N₂ E₂ T₂ : List ℕ) → o ≡ step.Go e → Walks (content· t s mode d ty) wall e Π E₁ T₁ w N₂ E₂ T₂ → Walks (inside· t s mode d ty) wall c Π E T w N₂ E₂ T₂
+    inside-go e w N₂ E₂ T₂ g y =
+        from w N₂ E₂ T₂ _ _ inside-here (y ∙ after-next o Π E₁ T₁ attributes c Π E T (h .says M H Π) e g (λ u ρ p. content· t s mode d ty u ρ wall p))
+
+  -- what is inside and the end
+  module _ (ty : ℕ) (coded : Bool) (body : ℕ) (v : Walk) (N₁ E₁ T₁ : List ℕ) (y : Walks (inside· t s mode d ty) wall c Π E T v N₁ E₁ T₁) where
+    pub whole-stop : Stopped v → Walks (whole· t s mode d ty coded body) wall c Π E T v N₁ E₁ T₁
+    unfolding whole·
+    whole-stop g = walk-stop v Π N₁ E₁ T₁ _ c E T y g R _
+
+    pub whole-go : (e : Cursor) (o : Step) (E₂ : List ℕ) (w : Walk) → v ≡ Go e → Closes coded body wall e E₁ o E₂ → w ≡ walks o → Walks (whole· t s mode d ty coded body) wall c Π E T w N₁ E₂ T₁
+    unfolding whole·
+    whole-go e o E₂ w g q i = leaf-view o w i Π N₁ E₂ T₁ ∙ q .says T₁ Π ∙ walk-go v Π N₁ E₁ T₁ _ c E T y e g (λ u ρ p. ending coded body wall u ρ p)
 
   -- a held element
   module _ (name ty : ℕ) (coded : Bool) (body f : ℕ) (o : Step) (E₁ : List ℕ) (i : f ≡ flagOf coded) (h : Stores 1 name f body c E o E₁) where
@@ -168,77 +194,98 @@ module _ (t s : List ℕ) (mode : Mode) (d wall : ℕ) (c : Cursor) (path : Path
     abbrev started : Answer
     started = stored R Π at (start m) [] body
 
-    -- what is inside and the end, after Start
-    abbrev K : Room → List ℕ → ℕ → Answer
-    K u ρ p = after u (inside· t s mode d ty u (name ∷ ρ) wall p) (λ v q. ending coded body wall v (name ∷ ρ) q)
-
     started-is : stepView o Π E₁ T ≡ outcome started c Π E T
     started-is = rw i at (h .says T Π)
 
-    entered-is : outcome (enter· t s mode d name ty coded body R Π wall at) c Π E T ≡ outcome (after R started (λ u p. K u Π p)) c Π E T
-    unfolding enter·
+    entered-is : outcome (enter· t s mode d name ty coded body R Π wall at) c Π E T
+        ≡ outcome (after R started (λ u p. whole· t s mode d ty coded body u (name ∷ Π) wall p)) c Π E T
+    unfolding enter· whole·
     entered-is = entered-left m (inside· t s mode d) R Π wall body c E T
 
-    pub enter-full : (n : ℕ) (p : Bits) (w : Walk) → o ≡ Refuse n p → w ≡ walks o path → Walks (enter· t s mode d name ty coded body) wall c path E T w E₁ T
-    enter-full n p w g j = leaf-stop w c path started E T o E₁ T n p started-is g j R _ ∙ sym entered-is
+    pub enter-full : (n : ℕ) (p : Bits) (w : Walk) → o ≡ step.Refuse n p → w ≡ walks o → Walks (enter· t s mode d name ty coded body) wall c Π E T w N E₁ T
+    enter-full n p w g j = leaf-stop c Π started N E T w o j E₁ T started-is n p g R _ ∙ sym entered-is
 
-    module _ (e : Cursor) (g : o ≡ Go e) (inner : Path) (j : Pushed path name inner) (v : Walk) (E₂ T₂ : List ℕ)
-        (y : Walks (inside· t s mode d ty) wall e inner E₁ T v E₂ T₂) where
-      entered-on : outcome (after (roomOf E₁ T e) (inside· t s mode d ty (roomOf E₁ T e) (namesOf inner) wall (e .at .0)) (λ u q. ending coded body wall u (namesOf inner) q)) e Π E₁ T
-          ≡ outcome (enter· t s mode d name ty coded body R Π wall at) c Π E T
-      entered-on = rw (j .names) (after-go o Π E₁ T started c Π E T started-is e g Π K) ∙ sym entered-is
+    pub enter-go : (e : Cursor) (v : Walk) (N₁ E₂ T₂ : List ℕ) (x : Walk) (N₂ : List ℕ) → o ≡ step.Go e → Walks (whole· t s mode d ty coded body) wall e (name ∷ Π) E₁ T v N₁ E₂ T₂
+        → Named name Π v N₁ x N₂ → Walks (enter· t s mode d name ty coded body) wall c Π E T x N₂ E₂ T₂
+    enter-go e v N₁ E₂ T₂ x N₂ g y q =
+        q .says _ e E₁ T E₂ T₂ y
+        ∙ after-go o Π E₁ T started c Π E T started-is e g Π (λ u ρ p. whole· t s mode d ty coded body u (name ∷ ρ) wall p)
+        ∙ sym entered-is
 
-      pub enter-stop : (n : ℕ) (p : Bits) → v .step ≡ Refuse n p → Walks (enter· t s mode d name ty coded body) wall c path E T v E₂ T₂
-      enter-stop n p k = walk-stop v E₂ T₂ _ e (namesOf inner) E₁ T y n p k Π _ _ ∙ entered-on
-
-      pub enter-go : (z : Cursor) (x : Walk) (E₃ : List ℕ) → v .step ≡ Go z → Closes coded body wall z (v .path) E₂ x E₃
-          → Walks (enter· t s mode d name ty coded body) wall c path E T x E₃ T₂
-      unfolding outer
-      enter-go z x E₃ k q =
-          let back : outer (namesOf (v .path)) ≡ Π = ap outer (walk-path v E₂ T₂ _ e (namesOf inner) E₁ T y z k ∙ j .names) in
-          q .says T₂
-          ∙ ap (λ (σ : List ℕ). outcome (ending coded body wall (roomOf E₂ T₂ z) (namesOf (v .path)) (z .at .0)) z σ E₂ T₂) back
-          ∙ walk-go v E₂ T₂ _ e (namesOf inner) E₁ T y z k Π (λ u ρ p. ending coded body wall u ρ p)
-          ∙ entered-on
-
-  -- an element, by its head
-  module _ (name ty : ℕ) (held : Bool) (k : held ≡ H ty) (x : code·head.Head) (e : Heads mode B wall at x) where
-    abbrev Elem : Walk → List ℕ → List ℕ → Type 0
-    Elem w E′ T′ = Walks (element· t s mode d name ty) wall c path E T w E′ T′
+  -- an element, by its head and what that says
+  module _ (name ty : ℕ) (held : Bool) (k : held ≡ H ty) (x : code·head.Head) (e : Heads mode B wall at x) (outer : Bits) (u : outer .0 ≡ wall) (r : Reach) (f : r ≡ reachOf x outer) where
+    abbrev Elem : Walk → List ℕ → List ℕ → List ℕ → Type 0
+    Elem w N′ E′ T′ = Walks (element· t s mode d name ty) wall c Π E T w N′ E′ T′
 
     head-here : (y : Res items.Head) → headIs ty x ≡ y → headAt M B ty wall at ≡ y
     head-here y g = sym (e .says ty) ∙ g
 
-    pub element-wrong : (n : ℕ) (w : Walk) → x ≡ Wrong n → w ≡ walks (Refuse n (c .at)) path → Elem w E T
+    wrong-here : (n : ℕ) → x ≡ Wrong n → element· t s mode d name ty R Π wall at ≡ refused n at Π
     unfolding element· headIs
-    element-wrong n w g h = stops-at w c path _ E T n (c .at) h (code-fault _ Π at _ n (head-here (fault n) (rw g)))
+    wrong-here n g = code-fault _ Π at _ n (head-here (fault n) (rw g))
 
-    module _ (body : Bits) (g : x ≡ Bare body) where
-      bare-here : element· t s mode d name ty R Π wall at ≡ bare held (inside· t s mode d) (mark name ty false at (body .0)) R Π wall (body .0)
-      unfolding element· headIs opened
-      bare-here = code-got _ Π at _ _ (head-here (got (items.Head.bare ty (body .0))) (rw g)) ∙ rw k
+    bare-here : (body : Bits) → x ≡ Bare body → element· t s mode d name ty R Π wall at ≡ bare held (inside· t s mode d) (mark name ty false at (body .0)) R Π wall (body .0)
+    unfolding element· headIs opened
+    bare-here body g = code-got _ Π at _ _ (head-here (got (items.Head.bare ty (body .0))) (rw g)) ∙ rw k
 
-      pub element-nine : (w : Walk) → held ≡ false → w ≡ walks (Refuse 9 (c .at)) path → Elem w E T
-      unfolding bare
-      element-nine w n h = stops-at w c path _ E T 9 (c .at) h (bare-here ∙ rw n)
+    sized-here : (body end : Bits) → x ≡ Sized body end → element· t s mode d name ty R Π wall at ≡ sized held (inside· t s mode d) (mark name ty true at (body .0)) R Π (end .0) (body .0)
+    unfolding element· headIs opened
+    sized-here body end g = code-got _ Π at _ _ (head-here (got (items.Head.sized ty (body .0) (end .0))) (rw g)) ∙ rw k
 
-      pub element-bare : (w : Walk) (E′ T′ : List ℕ) → held ≡ true → Walks (enter· t s mode d name ty false (body .0)) wall c path E T w E′ T′ → Elem w E′ T′
-      unfolding bare enter·
-      element-bare w E′ T′ n h = from w E′ T′ _ _ (bare-here ∙ rw n) h
+    pub element-wrong : (n : ℕ) → r ≡ reach.Wrong n → Elem (Refuse n (c .at)) N E T
+    element-wrong n g = go x refl (sym g ∙ f)
+      where
+        go : (a : code·head.Head) → x ≡ a → reach.Wrong n ≡ reachOf a outer → Elem (Refuse n (c .at)) N E T
+        go (Bare body) i h = let b : _≡_ {A = ℕ} 0 1 = cc in absurd (omega arith)
+        go (Sized body end) i h = let b : _≡_ {A = ℕ} 0 1 = cc in absurd (omega arith)
+        go (Wrong v) i h = let b : v ≡ n = cc in stops-at c Π _ N E T n (c .at) (wrong-here n (i ∙ ap Wrong b))
 
-    module _ (body end : Bits) (g : x ≡ Sized body end) where
-      sized-here : element· t s mode d name ty R Π wall at ≡ sized held (inside· t s mode d) (mark name ty true at (body .0)) R Π (end .0) (body .0)
-      unfolding element· headIs opened
-      sized-here = code-got _ Π at _ _ (head-here (got (items.Head.sized ty (body .0) (end .0))) (rw g)) ∙ rw k
+    module _ (y : Extent) (g : r ≡ reach.To y) where
+      -- a length is coded, or not
+      abbrev Known : Type 0
+      Known = (element· t s mode d name ty R Π wall at
+          ≡ bare held (inside· t s mode d) (mark name ty false at (y .body .0)) R Π wall (y .body .0)) × (y .coded ≡ false) × (y .end .0 ≡ wall)
 
-      pub element-blank : (o : Step) (w : Walk) (E′ : List ℕ) → held ≡ false → Stores 7 name ty (end .0) c E o E′ → w ≡ walks o path → Elem w E′ T
-      unfolding sized
-      element-blank o w E′ n h i = from w E′ T _ _ (sized-here ∙ rw n) (as-leaf w c path _ E T o E′ T i (h .says T Π))
+      abbrev Coded : Type 0
+      Coded = (element· t s mode d name ty R Π wall at
+          ≡ sized held (inside· t s mode d) (mark name ty true at (y .body .0)) R Π (y .end .0) (y .body .0)) × (y .coded ≡ true)
+
+      here : Known ⊎ Coded
+      here = go x refl (sym g ∙ f)
+        where
+          go : (a : code·head.Head) → x ≡ a → reach.To y ≡ reachOf a outer → Known ⊎ Coded
+          go (Bare body) i h =
+              let b : y ≡ record { coded = false; body = body; end = outer } = cc in
+              inl (rw b (bare-here body i), rw b, rw b u)
+          go (Sized body end) i h =
+              let b : y ≡ record { coded = true; body = body; end = end } = cc in
+              inr (rw b (sized-here body end i), rw b)
+          go (Wrong n) i h = let b : _≡_ {A = ℕ} 0 1 = cc in absurd (omega arith)
 
       -- the wall of what is inside is the element's own end
-      pub element-sized : (w : Walk) (E′ T′ : List ℕ) → held ≡ true → Walks (enter· t s mode d name ty true (body .0)) (end .0) c path E T w E′ T′ → Elem w E′ T′
-      unfolding sized enter·
-      element-sized w E′ T′ n h = from w E′ T′ _ _ (sized-here ∙ rw n) h
+      pub element-held : (w : Walk) (N′ E′ T′ : List ℕ) → held ≡ true → Walks (enter· t s mode d name ty (y .coded) (y .body .0)) (y .end .0) c Π E T w N′ E′ T′ → Elem w N′ E′ T′
+      unfolding bare sized enter·
+      element-held w N′ E′ T′ n h =
+          elim here [
+            | inl b ↦ from w N′ E′ T′ _ _ (b .0 ∙ rw n) (rw (b .1, b .2) at h)
+            | inr b ↦ from w N′ E′ T′ _ _ (b .0 ∙ rw n) (rw (b .1) at h)
+          ]
+
+      pub element-blank : (o : Step) (w : Walk) (E′ : List ℕ) → held ≡ false → y .coded ≡ true → Stores 7 name ty (y .end .0) c E o E′ → w ≡ walks o → Elem w N E′ T
+      unfolding sized
+      element-blank o w E′ n p h i =
+          elim here [
+            | inl b ↦ let z : _≡_ {A = Bool} true false = sym p ∙ b .1 in let z : _≡_ {A = ℕ} 0 1 = cc in absurd (omega arith)
+            | inr b ↦ from w N E′ T _ _ (b .0 ∙ rw n) (as-leaf c Π _ N E T w o i E′ T (h .says T Π))
+          ]
+
+      pub element-nine : held ≡ false → y .coded ≡ false → Elem (Refuse 9 (c .at)) N E T
+      unfolding bare
+      element-nine n p =
+          elim here [
+            | inl b ↦ stops-at c Π _ N E T 9 (c .at) (b .0 ∙ rw n)
+            | inr b ↦ let z : _≡_ {A = Bool} true false = sym (b .1) ∙ p in let z : _≡_ {A = ℕ} 0 1 = cc in absurd (omega arith)
+          ]
 
   -- a choice
   module _ (first n : ℕ) (r : code·read.Read) (e : readIs r ≡ choiceAt B n wall at) where
@@ -246,140 +293,142 @@ module _ (t s : List ℕ) (mode : Mode) (d wall : ℕ) (c : Cursor) (path : Path
     unfolding codeAt
     choice-here = e
 
-    pub choose-fault : (m : ℕ) (w : Walk) → r ≡ read.Refuse m → w ≡ walks (Refuse m (c .at)) path → Walks (choose· t s mode d first n) wall c path E T w E T
+    pub choose-fault : (m : ℕ) → r ≡ read.Refuse m → Walks (choose· t s mode d first n) wall c Π E T (Refuse m (c .at)) N E T
     unfolding choose·
-    choose-fault m w g h =
-        stops-at w c path _ E T m (c .at) h (code-fault _ Π at _ m (steps.item-picked B wall at n ∙ number-fault r (choice n) B wall at choice-here m g))
+    choose-fault m g =
+        stops-at c Π _ N E T m (c .at) (code-fault _ Π at _ m (steps.item-picked B wall at n ∙ number-fault r (choice n) B wall at choice-here m g))
 
     module _ (v : ℕ) (q : Bits) (g : r ≡ Value v q) (o : Step) (E₁ : List ℕ) (h : Stores 4 v 0 (q .0) c E o E₁) where
-      choose-here : choose· t s mode d first n R Π wall at ≡ after R (stored R Π at (event 4 v 0 (q .0 - at)) [] (q .0)) (λ u p. particle· t s mode d (first + v) u Π wall p)
+      choose-here : choose· t s mode d first n R Π wall at ≡ after R (stored R Π at (event 4 v 0 (q .0 - at)) [] (q .0)) (λ u p. particle· t s mode d (D .row (first + v)) u Π wall p)
       unfolding choose·
       choose-here = code-got _ Π at _ _ (steps.item-picked B wall at n ∙ number-value r (choice n) B wall at choice-here v q g)
 
-      pub choose-stop : (m : ℕ) (p : Bits) (w : Walk) → o ≡ Refuse m p → w ≡ walks o path → Walks (choose· t s mode d first n) wall c path E T w E₁ T
-      choose-stop m p w i j = from w E₁ T _ _ choose-here (leaf-stop w c path _ E T o E₁ T m p (h .says T Π) i j R _)
+      pub choose-stop : (m : ℕ) (p : Bits) (w : Walk) → o ≡ step.Refuse m p → w ≡ walks o → Walks (choose· t s mode d first n) wall c Π E T w N E₁ T
+      choose-stop m p w i j = from w N E₁ T _ _ choose-here (leaf-stop c Π _ N E T w o j E₁ T (h .says T Π) m p i R _)
 
-      pub choose-go : (z : Cursor) (w : Walk) (E₂ T₂ : List ℕ) → o ≡ Go z → Walks (particle· t s mode d (first + v)) wall z path E₁ T w E₂ T₂
-          → Walks (choose· t s mode d first n) wall c path E T w E₂ T₂
-      choose-go z w E₂ T₂ i y =
-          from w E₂ T₂ _ _ choose-here (y ∙ after-next o Π E₁ T _ c Π E T (h .says T Π) z i (λ u ρ p. particle· t s mode d (first + v) u ρ wall p))
+      pub choose-go : (z : Cursor) (a : code·particle.Particle) (w : Walk) (N₂ E₂ T₂ : List ℕ) → o ≡ step.Go z → rowIs a ≡ D .row (first + v) → Walks (particle· t s mode d (rowIs a)) wall z Π E₁ T w N₂ E₂ T₂
+          → Walks (choose· t s mode d first n) wall c Π E T w N₂ E₂ T₂
+      choose-go z a w N₂ E₂ T₂ i f y =
+          from w N₂ E₂ T₂ _ _ choose-here (rw f at y ∙ after-next o Π E₁ T _ c Π E T (h .says T Π) z i (λ u ρ p. particle· t s mode d (D .row (first + v)) u ρ wall p))
 
   -- an occurs row
   module _ (child least most : ℕ) (k : code·code.Code) (f : codeIs k ≡ timesCode least most) (r : code·read.Read) (e : readIs r ≡ codeAt (codeIs k) B wall at) where
     times-here : readIs r ≡ codeAt (timesCode least most) B wall at
     times-here = rw f at e
 
-    pub occur-fault : (m : ℕ) (w : Walk) → r ≡ read.Refuse m → w ≡ walks (Refuse m (c .at)) path → Walks (occur· t s mode d child least most) wall c path E T w E T
+    pub occur-fault : (m : ℕ) → r ≡ read.Refuse m → Walks (occur· t s mode d child least most) wall c Π E T (Refuse m (c .at)) N E T
     unfolding occur·
-    occur-fault m w g h =
-        stops-at w c path _ E T m (c .at) h (code-fault _ Π at _ m (steps.item-counted B wall at least most ∙ number-fault r (timesCode least most) B wall at times-here m g))
+    occur-fault m g =
+        stops-at c Π _ N E T m (c .at) (code-fault _ Π at _ m (steps.item-counted B wall at least most ∙ number-fault r (timesCode least most) B wall at times-here m g))
 
     module _ (v : ℕ) (q : Bits) (g : r ≡ Value v q) (o : Step) (E₁ : List ℕ) (h : Stores 5 v 0 (q .0) c E o E₁) where
       occur-here : occur· t s mode d child least most R Π wall at ≡ after R (stored R Π at (event 5 v 0 (q .0 - at)) [] (q .0)) (λ u p. rounds· t s mode d child 0 v u Π wall p)
       unfolding occur·
       occur-here = code-got _ Π at _ _ (steps.item-counted B wall at least most ∙ number-value r (timesCode least most) B wall at times-here v q g)
 
-      pub occur-stop : (m : ℕ) (p : Bits) (w : Walk) → o ≡ Refuse m p → w ≡ walks o path → Walks (occur· t s mode d child least most) wall c path E T w E₁ T
-      occur-stop m p w i j = from w E₁ T _ _ occur-here (leaf-stop w c path _ E T o E₁ T m p (h .says T Π) i j R _)
+      pub occur-stop : (m : ℕ) (p : Bits) (w : Walk) → o ≡ step.Refuse m p → w ≡ walks o → Walks (occur· t s mode d child least most) wall c Π E T w N E₁ T
+      occur-stop m p w i j = from w N E₁ T _ _ occur-here (leaf-stop c Π _ N E T w o j E₁ T (h .says T Π) m p i R _)
 
-      pub occur-go : (z : Cursor) (w : Walk) (E₂ T₂ : List ℕ) → o ≡ Go z → Walks (rounds· t s mode d child 0 v) wall z path E₁ T w E₂ T₂
-          → Walks (occur· t s mode d child least most) wall c path E T w E₂ T₂
-      occur-go z w E₂ T₂ i y = from w E₂ T₂ _ _ occur-here (y ∙ after-next o Π E₁ T _ c Π E T (h .says T Π) z i (λ u ρ p. rounds· t s mode d child 0 v u ρ wall p))
+      pub occur-go : (z : Cursor) (w : Walk) (N₂ E₂ T₂ : List ℕ) → o ≡ step.Go z → Walks (rounds· t s mode d child 0 v) wall z Π E₁ T w N₂ E₂ T₂
+          → Walks (occur· t s mode d child least most) wall c Π E T w N₂ E₂ T₂
+      occur-go z w N₂ E₂ T₂ i y = from w N₂ E₂ T₂ _ _ occur-here (y ∙ after-next o Π E₁ T _ c Π E T (h .says T Π) z i (λ u ρ p. rounds· t s mode d child 0 v u ρ wall p))
 
 -- a particle row
-module _ (t s : List ℕ) (mode : Mode) (d i wall : ℕ) (c : Cursor) (path : Path) (E T : List ℕ) where
-  abbrev Row : Walk → List ℕ → List ℕ → Type 0
-  Row w E′ T′ = Walks (particle· t s mode d i) wall c path E T w E′ T′
+module _ (t s : List ℕ) (mode : Mode) (d wall : ℕ) (c : Cursor) (Π E T : List ℕ) (r : code·particle.Particle) where
+  abbrev Row : Walk → List ℕ → List ℕ → List ℕ → Type 0
+  Row w N′ E′ T′ = Walks (particle· t s mode d (rowIs r)) wall c Π E T w N′ E′ T′
 
-  pub particle-deep : (w : Walk) → d ≡ 0 → w ≡ walks (Refuse 6 (c .at)) path → Row w E T
+  pub particle-deep : (N : List ℕ) → d ≡ 0 → Row (Refuse 6 (c .at)) N E T
   unfolding particle·
-  particle-deep w z g =
-      stops-at w c path _ E T 6 (c .at) g (rw z (steps.particle-deep (bitAt s) (modeIs mode) (heldOf t) (tableOf t) (roomOf E T c) (namesOf path) wall (c .at .0) (tableOf t .row i)))
+  particle-deep N z =
+      stops-at c Π _ N E T 6 (c .at) (rw z (steps.particle-deep (bitAt s) (modeIs mode) (heldOf t) (tableOf t) (roomOf E T c) Π wall (c .at .0) (rowIs r)))
 
-  module _ (z : d ≡ 0 → ⊥) (r : code·particle.Particle) (e : rowIs r ≡ tableOf t .row i) (w : Walk) (E′ T′ : List ℕ) where
+  module _ (z : d ≡ 0 → ⊥) (w : Walk) (N′ E′ T′ : List ℕ) where
     abbrev P : table.Row → Answer
-    P row = particleAt (bitAt s) (modeIs mode) (heldOf t) (tableOf t) (suc (d - 1)) row (roomOf E T c) (namesOf path) wall (c .at .0)
+    P row = particleAt (bitAt s) (modeIs mode) (heldOf t) (tableOf t) (suc (d - 1)) row (roomOf E T c) Π wall (c .at .0)
 
     -- a row of a kind, one row deeper
-    row-here : (row : table.Row) (o : Answer) → rowIs r ≡ row → P row ≡ o → view w E′ T′ ≡ outcome o c (namesOf path) E T → Row w E′ T′
+    row-here : (row : table.Row) (o : Answer) → rowIs r ≡ row → P row ≡ o → view w Π N′ E′ T′ ≡ outcome o c Π E T → Row w N′ E′ T′
     unfolding particle·
     row-here row o g h y =
         let down : d ≡ suc (d - 1) = omega arith in
-        let is : tableOf t .row i ≡ row = sym e ∙ g in
-        rw (down, is, h) y
+        rw (down, g, h) y
 
-    pub particle-element : (name ty : ℕ) → r ≡ Element name ty → Walks (element· t s mode (d - 1) name ty) wall c path E T w E′ T′ → Row w E′ T′
+    pub particle-element : (name ty : ℕ) → r ≡ Element name ty → Walks (element· t s mode (d - 1) name ty) wall c Π E T w N′ E′ T′ → Row w N′ E′ T′
     unfolding element· inside·
     particle-element name ty g y =
         row-here (table.Row.element name ty) _ (rw g)
-        (steps.particle-element (bitAt s) (modeIs mode) (heldOf t) (tableOf t) (roomOf E T c) (namesOf path) wall (c .at .0) (d - 1) name ty) y
+        (steps.particle-element (bitAt s) (modeIs mode) (heldOf t) (tableOf t) (roomOf E T c) Π wall (c .at .0) (d - 1) name ty) y
 
-    pub particle-sequence : (first n : ℕ) → r ≡ Sequence first n → Walks (rounds· t s mode (d - 1) first 1 n) wall c path E T w E′ T′ → Row w E′ T′
+    pub particle-sequence : (first n : ℕ) → r ≡ Sequence first n → Walks (rounds· t s mode (d - 1) first 1 n) wall c Π E T w N′ E′ T′ → Row w N′ E′ T′
     unfolding rounds·
     particle-sequence first n g y =
         row-here (table.Row.sequence first n) _ (rw g)
-        (steps.particle-sequence (bitAt s) (modeIs mode) (heldOf t) (tableOf t) (roomOf E T c) (namesOf path) wall (c .at .0) (d - 1) first n
-        ∙ (λ a. roundsAt (bitAt s) (modeIs mode) (heldOf t) (tableOf t) (d - 1) n (λ j. tableOf t .row (sym (stride-one first j) a)) (roomOf E T c) (namesOf path) wall (c .at .0))) y
+        (steps.particle-sequence (bitAt s) (modeIs mode) (heldOf t) (tableOf t) (roomOf E T c) Π wall (c .at .0) (d - 1) first n
+        ∙ (λ a. roundsAt (bitAt s) (modeIs mode) (heldOf t) (tableOf t) (d - 1) n (λ j. tableOf t .row (sym (stride-one first j) a)) (roomOf E T c) Π wall (c .at .0))) y
 
-    pub particle-choice : (first n : ℕ) → r ≡ Choice first n → Walks (choose· t s mode (d - 1) first n) wall c path E T w E′ T′ → Row w E′ T′
+    pub particle-choice : (first n : ℕ) → r ≡ Choice first n → Walks (choose· t s mode (d - 1) first n) wall c Π E T w N′ E′ T′ → Row w N′ E′ T′
     unfolding choose· particle·
     particle-choice first n g y =
         row-here (table.Row.choice first n) _ (rw g)
-        (steps.particle-choice (bitAt s) (modeIs mode) (heldOf t) (tableOf t) (roomOf E T c) (namesOf path) wall (c .at .0) (d - 1) first n) y
+        (steps.particle-choice (bitAt s) (modeIs mode) (heldOf t) (tableOf t) (roomOf E T c) Π wall (c .at .0) (d - 1) first n) y
 
-    pub particle-occurs : (child least most : ℕ) → r ≡ Occurs child least most → Walks (occur· t s mode (d - 1) child least most) wall c path E T w E′ T′ → Row w E′ T′
+    pub particle-occurs : (child least most : ℕ) → r ≡ Occurs child least most → Walks (occur· t s mode (d - 1) child least most) wall c Π E T w N′ E′ T′ → Row w N′ E′ T′
     unfolding occur· rounds·
     particle-occurs child least most g y =
         row-here (table.Row.occurs child least most) _ (rw g)
-        (steps.particle-occurs (bitAt s) (modeIs mode) (heldOf t) (tableOf t) (roomOf E T c) (namesOf path) wall (c .at .0) (d - 1) child least most
-        ∙ (λ a. code (itemAt (counted least most) (bitAt s) wall (c .at .0)) (namesOf path) (c .at .0)
-        (λ x. after (roomOf E T c) (stored (roomOf E T c) (namesOf path) (c .at .0) (event 5 (x .0) 0 (x .2 - c .at .0)) (x .1) (x .2))
-        (λ u p. roundsAt (bitAt s) (modeIs mode) (heldOf t) (tableOf t) (d - 1) (x .0) (λ j. tableOf t .row (sym (stride-none child j) a)) u (namesOf path) wall p)))) y
+        (steps.particle-occurs (bitAt s) (modeIs mode) (heldOf t) (tableOf t) (roomOf E T c) Π wall (c .at .0) (d - 1) child least most
+        ∙ (λ a. code (itemAt (counted least most) (bitAt s) wall (c .at .0)) Π (c .at .0)
+        (λ x. after (roomOf E T c) (stored (roomOf E T c) Π (c .at .0) (event 5 (x .0) 0 (x .2 - c .at .0)) (x .1) (x .2))
+        (λ u p. roundsAt (bitAt s) (modeIs mode) (heldOf t) (tableOf t) (d - 1) (x .0) (λ j. tableOf t .row (sym (stride-none child j) a)) u Π wall p)))) y
 
 -- rounds: what is left, from the row i on, after j of n rows
-module _ (t s : List ℕ) (mode : Mode) (d wall k n i j : ℕ) (c : Cursor) (path : Path) (E T : List ℕ) where
+module _ (t s : List ℕ) (mode : Mode) (d wall k n i j : ℕ) (c : Cursor) (Π E T : List ℕ) where
   -- and what there was at the start
-  abbrev pub Left : ℕ → Cursor → Path → List ℕ → List ℕ → Type 0
-  Left i₀ c₀ p₀ E₀ T₀ =
-      outcome (rounds· t s mode d i₀ k n (roomOf E₀ T₀ c₀) (namesOf p₀) wall (c₀ .at .0)) c₀ (namesOf p₀) E₀ T₀
-      ≡ outcome (rounds· t s mode d i k (n - j) (roomOf E T c) (namesOf path) wall (c .at .0)) c (namesOf path) E T
+  abbrev pub Left : ℕ → Cursor → List ℕ → List ℕ → Type 0
+  Left i₀ c₀ E₀ T₀ =
+      outcome (rounds· t s mode d i₀ k n (roomOf E₀ T₀ c₀) Π wall (c₀ .at .0)) c₀ Π E₀ T₀
+      ≡ outcome (rounds· t s mode d i k (n - j) (roomOf E T c) Π wall (c .at .0)) c Π E T
 
-  rounds-all : n ≤ j → rounds· t s mode d i k (n - j) (roomOf E T c) (namesOf path) wall (c .at .0) ≡ given none (c .at .0)
+  rounds-all : n ≤ j → rounds· t s mode d i k (n - j) (roomOf E T c) Π wall (c .at .0) ≡ given none (c .at .0)
   unfolding rounds·
   rounds-all h =
       let m : n - j ≡ 0 = omega arith in
-      rw m (steps.rounds-none (bitAt s) (modeIs mode) (heldOf t) (tableOf t) (roomOf E T c) (namesOf path) wall (c .at .0) d (λ a. tableOf t .row (stride i k a)))
+      rw m (steps.rounds-none (bitAt s) (modeIs mode) (heldOf t) (tableOf t) (roomOf E T c) Π wall (c .at .0) d (λ a. tableOf t .row (stride i k a)))
 
-  rounds-next : j < n → rounds· t s mode d i k (n - j) (roomOf E T c) (namesOf path) wall (c .at .0)
-      ≡ after (roomOf E T c) (particle· t s mode d i (roomOf E T c) (namesOf path) wall (c .at .0)) (λ u p. rounds· t s mode d (i + k) k (n - (j + 1)) u (namesOf path) wall p)
+  rounds-next : j < n → rounds· t s mode d i k (n - j) (roomOf E T c) Π wall (c .at .0)
+      ≡ after (roomOf E T c) (particle· t s mode d (tableOf t .row i) (roomOf E T c) Π wall (c .at .0)) (λ u p. rounds· t s mode d (i + k) k (n - (j + 1)) u Π wall p)
   unfolding rounds· particle· stride
   rounds-next h =
       let m : n - j ≡ suc (n - (j + 1)) = omega arith in
-      rw m (steps.rounds-more (bitAt s) (modeIs mode) (heldOf t) (tableOf t) (roomOf E T c) (namesOf path) wall (c .at .0) d (n - (j + 1)) (λ a. tableOf t .row (stride i k a)))
+      rw m (steps.rounds-more (bitAt s) (modeIs mode) (heldOf t) (tableOf t) (roomOf E T c) Π wall (c .at .0) d (n - (j + 1)) (λ a. tableOf t .row (stride i k a)))
 
-  module _ (i₀ : ℕ) (c₀ : Cursor) (p₀ : Path) (E₀ T₀ : List ℕ) (inv : Left i₀ c₀ p₀ E₀ T₀) where
-    pub rounds-end : (w : Walk) → n ≤ j → w ≡ walks (Go c) path → Walks (rounds· t s mode d i₀ k n) wall c₀ p₀ E₀ T₀ w E T
-    rounds-end w h g = goes-on w c path _ E T g (rounds-all h) ∙ sym inv
+  module _ (i₀ : ℕ) (c₀ : Cursor) (E₀ T₀ : List ℕ) (inv : Left i₀ c₀ E₀ T₀) where
+    pub rounds-end : (N : List ℕ) → n ≤ j → Walks (rounds· t s mode d i₀ k n) wall c₀ Π E₀ T₀ (Go c) N E T
+    rounds-end N h = goes-on c Π _ N E T (rounds-all h) ∙ sym inv
 
-    module _ (w : Walk) (E′ T′ : List ℕ) (h : j < n) (g : Walks (particle· t s mode d i) wall c path E T w E′ T′) where
-      pub rounds-stop : (m : ℕ) (p : Bits) → w .step ≡ Refuse m p → Walks (rounds· t s mode d i₀ k n) wall c₀ p₀ E₀ T₀ w E′ T′
-      rounds-stop m p a = rw (inv, rounds-next h) (walk-stop w E′ T′ _ c (namesOf path) E T g m p a (namesOf path) _ _)
+    module _ (r : code·particle.Particle) (f : rowIs r ≡ tableOf t .row i) (w : Walk) (N′ E′ T′ : List ℕ) (h : j < n) (g : Walks (particle· t s mode d (rowIs r)) wall c Π E T w N′ E′ T′) where
+      round : Walks (particle· t s mode d (tableOf t .row i)) wall c Π E T w N′ E′ T′
+      round = rw f at g
 
-      pub rounds-again : (e : Cursor) → w .step ≡ Go e
-          → outcome (rounds· t s mode d i₀ k n (roomOf E₀ T₀ c₀) (namesOf p₀) wall (c₀ .at .0)) c₀ (namesOf p₀) E₀ T₀
-          ≡ outcome (rounds· t s mode d (i + k) k (n - (j + 1)) (roomOf E′ T′ e) (namesOf (w .path)) wall (e .at .0)) e (namesOf (w .path)) E′ T′
+      pub rounds-stop : Stopped w → Walks (rounds· t s mode d i₀ k n) wall c₀ Π E₀ T₀ w N′ E′ T′
+      rounds-stop a = rw (inv, rounds-next h) (walk-stop w Π N′ E′ T′ _ c E T round a _ _)
+
+      pub rounds-again : (e : Cursor) → w ≡ Go e
+          → outcome (rounds· t s mode d i₀ k n (roomOf E₀ T₀ c₀) Π wall (c₀ .at .0)) c₀ Π E₀ T₀
+          ≡ outcome (rounds· t s mode d (i + k) k (n - (j + 1)) (roomOf E′ T′ e) Π wall (e .at .0)) e Π E′ T′
       rounds-again e a =
-          rw (inv, rounds-next h)
-          (sym (walk-go w E′ T′ _ c (namesOf path) E T g e a (namesOf path) (λ u ρ p. rounds· t s mode d (i + k) k (n - (j + 1)) u ρ wall p))
-          ∙ ap (λ (σ : List ℕ). outcome (rounds· t s mode d (i + k) k (n - (j + 1)) (roomOf E′ T′ e) (namesOf (w .path)) wall (e .at .0)) e σ E′ T′) (sym (walk-path w E′ T′ _ c (namesOf path) E T g e a)))
+          rw (inv, rounds-next h) (sym (walk-go w Π N′ E′ T′ _ c E T round e a (λ u ρ p. rounds· t s mode d (i + k) k (n - (j + 1)) u ρ wall p)))
 
 pub ruleset content-ways = (content-none, content-value, content-particle)
 
 pub ruleset inside-ways = (inside-stop, inside-go)
 
-pub ruleset enter-ways = (enter-full, enter-stop, enter-go)
+pub ruleset enter-ways = (enter-full, enter-go)
 
-pub ruleset element-ways = (element-wrong, element-nine, element-bare, element-blank, element-sized)
+pub ruleset whole-ways = (whole-stop, whole-go)
+
+pub ruleset element-ways = (element-wrong, element-held, element-blank, element-nine)
 
 pub ruleset choose-ways = (choose-fault, choose-stop, choose-go)
 

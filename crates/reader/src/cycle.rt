@@ -1,17 +1,19 @@
 // The cycle: an element reads what is inside it, that reads particle rows, and a particle row reads elements. `depth` rows may still be
-// opened; it falls at each row, so the cycle ends.
+// opened; it falls at each row, so the cycle ends. The path goes down by value, copied where a row is entered and pushed where what is inside
+// holds rows; a success hands none back, as who called has its own. Each function but `particle` and `rounds` is called at one place.
+use crate::told::Walk;
+use crate::told::named;
+use crate::told::walked;
 use parts::Cursor;
 use parts::Head;
 use parts::Mode;
 use parts::Path;
 use parts::Step;
-use parts::Walk;
 use parts::attributes::all;
 use parts::ends::close;
 use parts::heads::head;
 use parts::storing::store;
 use parts::values::value;
-use parts::walked;
 use table::Content;
 use table::Particle;
 use table::rows;
@@ -21,10 +23,14 @@ use value::reading::code;
 use wire::Bits;
 use wire::Read;
 ghost use mathlib.Core.Path.{_≡_};
+ghost use mathlib.Core.List.{_∷_};
 ghost use Prim.Native.Nat.{_+_, _≤_, _<_};
+ghost use lib.ListN.{length};
 ghost use Rattle.table.specs.Words.{typesIn, particlesIn};
+ghost use Rattle.table.specs.Views.{rowIs};
 ghost use Rattle.model.specs.Model.{flagOf};
-ghost use Rattle.reader.specs.Meaning.{Ready, Reaches, Walks, enter·, element·, inside·, content·, particle·, choose·, occur·, rounds·};
+ghost use Rattle.parts.specs.Paths.{namesOf};
+ghost use Rattle.reader.specs.Meaning.{Ready, Fits, Reaches, Walks, reachOf, enter·, whole·, element·, inside·, content·, particle·, choose·, occur·, rounds·};
 
 // A Start's second word.
 fn flag(coded: bool) -> u32
@@ -33,12 +39,51 @@ fn flag(coded: bool) -> u32
     if coded { 1 } else { 0 }
 }
 
-// A held element whose body begins at a place: Start, what is inside below the wall, End.
+// Whether a length is coded, where the body begins, and the wall of what is inside.
+pub struct Extent {
+    pub coded: bool,
+    pub body: Bits,
+    pub end: Bits,
+}
+
+// The number of a wrong head; or what a head says of an element.
+pub enum Reach {
+    Wrong(u32),
+    To(Extent),
+}
+
+// A head below a wall.
+fn reached(h: Head, wall: Bits) -> Reach
+    ensures { λ r. ⌜ r ≡ reachOf h wall ⌝ }
+{
+    match h {
+        Head::Wrong(n) => Reach::Wrong(n),
+        Head::Bare(body) => {
+            let x = Extent {
+                coded: false,
+                body,
+                end: wall,
+            };
+            Reach::To(x)
+        }
+        Head::Sized(body, end) => {
+            let x = Extent {
+                coded: true,
+                body,
+                end,
+            };
+            Reach::To(x)
+        }
+    }
+}
+
+// A held element whose body begins at a place: Start, then the rest of it, whose refusals it names.
 fn enter(
     table: &[u32],
     payload: &[u8],
     events: &mut [u32],
     texts: &mut [u8],
+    told: &mut [u16],
     mode: Mode,
     depth: u32,
     wall: Bits,
@@ -49,40 +94,79 @@ fn enter(
     coded: bool,
     body: Bits,
 ) -> Walk
-    requires { ⌜ (Ready (now table) (now payload) (wall .0) (path .count + 1) depth) × (name ≤ 65535) × (t < typesIn (now table)) ⌝ }
-    ensures { λ r. ⌜ Walks (enter· (now (table .entry)) (now (payload .entry)) mode depth name t coded (body .0)) (wall .0) c path (now (events .entry)) (now (texts .entry)) r (now (events .exit)) (now (texts .exit)) ⌝ }
+    requires { ⌜ (Ready (now table) (now payload) (wall .0) (path .count + 1) depth) × (length (now told) ≡ 64) × (name ≤ 65535) × (t < typesIn (now table)) ⌝ }
+    ensures { λ r. ⌜ Walks (enter· (now (table .entry)) (now (payload .entry)) mode depth name t coded (body .0)) (wall .0) c (namesOf path) (now (events .entry)) (now (texts .entry)) r (now (told .exit)) (now (events .exit)) (now (texts .exit)) ⌝ }
 {
     let s = store(events, c, 1, name, flag(coded), body);
     let Step::Go(d) = s else {
-        return walked(s, path);
+        return walked(s);
     };
-    let inner = path.push(name as u16);
-    let w = inside(
+    let w = whole(
         table,
         payload,
         events,
         texts,
+        told,
         mode,
         depth,
         wall,
         d,
-        inner,
+        path,
+        name,
         t,
+        coded,
+        body,
     );
-    let v = w.step;
-    let p = w.path;
-    let Step::Go(e) = v else {
-        return w;
-    };
-    close(events, coded, body, wall, e, p)
+    named(told, path, name, w)
 }
 
-// An element of a name and a type: its head, then Start, a Blank or a refusal.
-pub fn element(
+// What is inside an element of a name, below the wall, and its End.
+fn whole(
     table: &[u32],
     payload: &[u8],
     events: &mut [u32],
     texts: &mut [u8],
+    told: &mut [u16],
+    mode: Mode,
+    depth: u32,
+    wall: Bits,
+    c: Cursor,
+    path: Path,
+    name: u32,
+    t: u32,
+    coded: bool,
+    body: Bits,
+) -> Walk
+    requires { ⌜ (Ready (now table) (now payload) (wall .0) (path .count + 1) depth) × (length (now told) ≡ 64) × (name ≤ 65535) × (t < typesIn (now table)) ⌝ }
+    ensures { λ r. ⌜ Walks (whole· (now (table .entry)) (now (payload .entry)) mode depth t coded (body .0)) (wall .0) c (name ∷ namesOf path) (now (events .entry)) (now (texts .entry)) r (now (told .exit)) (now (events .exit)) (now (texts .exit)) ⌝ }
+{
+    let v = inside(
+        table,
+        payload,
+        events,
+        texts,
+        told,
+        mode,
+        depth,
+        wall,
+        c,
+        path,
+        name,
+        t,
+    );
+    let Walk::Go(e) = v else {
+        return v;
+    };
+    walked(close(events, coded, body, wall, e))
+}
+
+// An element of a name and a type: its head, then Start, a Blank or a refusal.
+fn element(
+    table: &[u32],
+    payload: &[u8],
+    events: &mut [u32],
+    texts: &mut [u8],
+    told: &mut [u16],
     mode: Mode,
     depth: u32,
     wall: Bits,
@@ -91,41 +175,26 @@ pub fn element(
     name: u32,
     t: u32,
 ) -> Walk
-    requires { ⌜ (Ready (now table) (now payload) (wall .0) (path .count + 1) depth) × (name ≤ 65535) × (t < typesIn (now table)) ⌝ }
-    ensures { λ r. ⌜ Walks (element· (now (table .entry)) (now (payload .entry)) mode depth name t) (wall .0) c path (now (events .entry)) (now (texts .entry)) r (now (events .exit)) (now (texts .exit)) ⌝ }
+    requires { ⌜ (Ready (now table) (now payload) (wall .0) (path .count + 1) depth) × (length (now told) ≡ 64) × (name ≤ 65535) × (t < typesIn (now table)) ⌝ }
+    ensures { λ r. ⌜ Walks (element· (now (table .entry)) (now (payload .entry)) mode depth name t) (wall .0) c (namesOf path) (now (events .entry)) (now (texts .entry)) r (now (told .exit)) (now (events .exit)) (now (texts .exit)) ⌝ }
 {
     let at = c.at;
     let held = rows::held(table, t);
     let h = head(payload, mode, wall, at);
-    match h {
-        Head::Wrong(n) => walked(Step::Refuse(n, at), path),
-        Head::Bare(body) => {
+    let r = reached(h, wall);
+    match r {
+        Reach::Wrong(n) => Walk::Refuse(n, at),
+        Reach::To(x) => {
+            let coded = x.coded;
+            let body = x.body;
+            let end = x.end;
             if held {
                 return enter(
                     table,
                     payload,
                     events,
                     texts,
-                    mode,
-                    depth,
-                    wall,
-                    c,
-                    path,
-                    name,
-                    t,
-                    false,
-                    body,
-                );
-            }
-            walked(Step::Refuse(9, at), path)
-        }
-        Head::Sized(body, end) => {
-            if held {
-                return enter(
-                    table,
-                    payload,
-                    events,
-                    texts,
+                    told,
                     mode,
                     depth,
                     end,
@@ -133,104 +202,125 @@ pub fn element(
                     path,
                     name,
                     t,
-                    true,
+                    coded,
                     body,
                 );
             }
-            walked(store(events, c, 7, name, t, end), path)
+            if coded {
+                return walked(store(events, c, 7, name, t, end));
+            }
+            Walk::Refuse(9, at)
         }
     }
 }
 
-// What is inside an element of a type: attributes, then content.
+// What is inside an element of a name and a type: attributes, then content.
 fn inside(
     table: &[u32],
     payload: &[u8],
     events: &mut [u32],
     texts: &mut [u8],
+    told: &mut [u16],
     mode: Mode,
     depth: u32,
     wall: Bits,
     c: Cursor,
     path: Path,
+    name: u32,
     t: u32,
 ) -> Walk
-    requires { ⌜ (Ready (now table) (now payload) (wall .0) (path .count) depth) × (t < typesIn (now table)) ⌝ }
-    ensures { λ r. ⌜ Walks (inside· (now (table .entry)) (now (payload .entry)) mode depth t) (wall .0) c path (now (events .entry)) (now (texts .entry)) r (now (events .exit)) (now (texts .exit)) ⌝ }
+    requires { ⌜ (Ready (now table) (now payload) (wall .0) (path .count + 1) depth) × (length (now told) ≡ 64) × (name ≤ 65535) × (t < typesIn (now table)) ⌝ }
+    ensures { λ r. ⌜ Walks (inside· (now (table .entry)) (now (payload .entry)) mode depth t) (wall .0) c (name ∷ namesOf path) (now (events .entry)) (now (texts .entry)) r (now (told .exit)) (now (events .exit)) (now (texts .exit)) ⌝ }
 {
     let s = all(table, payload, events, texts, wall, c, t);
     let Step::Go(d) = s else {
-        return walked(s, path);
+        return walked(s);
     };
-    content(table, payload, events, texts, mode, depth, wall, d, path, t)
+    content(
+        table,
+        payload,
+        events,
+        texts,
+        told,
+        mode,
+        depth,
+        wall,
+        d,
+        path,
+        name,
+        t,
+    )
 }
 
-// The content of a type.
+// The content of a type, in an element of a name: only rows are read with the path that has the name.
 fn content(
     table: &[u32],
     payload: &[u8],
     events: &mut [u32],
     texts: &mut [u8],
+    told: &mut [u16],
     mode: Mode,
     depth: u32,
     wall: Bits,
     c: Cursor,
     path: Path,
+    name: u32,
     t: u32,
 ) -> Walk
-    requires { ⌜ (Ready (now table) (now payload) (wall .0) (path .count) depth) × (t < typesIn (now table)) ⌝ }
-    ensures { λ r. ⌜ Walks (content· (now (table .entry)) (now (payload .entry)) mode depth t) (wall .0) c path (now (events .entry)) (now (texts .entry)) r (now (events .exit)) (now (texts .exit)) ⌝ }
+    requires { ⌜ (Ready (now table) (now payload) (wall .0) (path .count + 1) depth) × (length (now told) ≡ 64) × (name ≤ 65535) × (t < typesIn (now table)) ⌝ }
+    ensures { λ r. ⌜ Walks (content· (now (table .entry)) (now (payload .entry)) mode depth t) (wall .0) c (name ∷ namesOf path) (now (events .entry)) (now (texts .entry)) r (now (told .exit)) (now (events .exit)) (now (texts .exit)) ⌝ }
 {
     let k = rows::content(table, t);
     match k {
-        Content::Empty => walked(Step::Go(c), path),
-        Content::Simple(kind, x, y) => walked(
-            value(payload, events, texts, wall, c, kind, x, y),
-            path,
-        ),
-        Content::Particles(i) => particle(
-            table,
-            payload,
-            events,
-            texts,
-            mode,
-            depth,
-            wall,
-            c,
-            path,
-            i,
-        ),
+        Content::Empty => Walk::Go(c),
+        Content::Simple(kind, x, y) => walked(value(payload, events, texts, wall, c, kind, x, y)),
+        Content::Particles(i) => {
+            particle(
+                table,
+                payload,
+                events,
+                texts,
+                told,
+                mode,
+                depth,
+                wall,
+                c,
+                path.push(name as u16),
+                rows::particle(table, i),
+            )
+        }
     }
 }
 
 // A particle row; 6 where none may be opened any more.
-fn particle(
+pub fn particle(
     table: &[u32],
     payload: &[u8],
     events: &mut [u32],
     texts: &mut [u8],
+    told: &mut [u16],
     mode: Mode,
     depth: u32,
     wall: Bits,
     c: Cursor,
     path: Path,
-    i: u32,
+    row: Particle,
 ) -> Walk
-    requires { ⌜ (Ready (now table) (now payload) (wall .0) (path .count) depth) × (i < particlesIn (now table)) ⌝ }
-    ensures { λ r. ⌜ Walks (particle· (now (table .entry)) (now (payload .entry)) mode depth i) (wall .0) c path (now (events .entry)) (now (texts .entry)) r (now (events .exit)) (now (texts .exit)) ⌝ }
+    requires { ⌜ (Ready (now table) (now payload) (wall .0) (path .count) depth) × (length (now told) ≡ 64) × (Fits (typesIn (now table)) (particlesIn (now table)) (rowIs row)) ⌝ }
+    ensures { λ r. ⌜ Walks (particle· (now (table .entry)) (now (payload .entry)) mode depth (rowIs row)) (wall .0) c (namesOf path) (now (events .entry)) (now (texts .entry)) r (now (told .exit)) (now (events .exit)) (now (texts .exit)) ⌝ }
 {
     let at = c.at;
     if depth == 0 {
-        return walked(Step::Refuse(6, at), path);
+        return Walk::Refuse(6, at);
     }
     let d = depth - 1;
-    let row = rows::particle(table, i);
     match row {
         Particle::Element(name, t) => element(
             table,
             payload,
             events,
             texts,
+            told,
             mode,
             d,
             wall,
@@ -244,6 +334,7 @@ fn particle(
             payload,
             events,
             texts,
+            told,
             mode,
             d,
             wall,
@@ -258,6 +349,7 @@ fn particle(
             payload,
             events,
             texts,
+            told,
             mode,
             d,
             wall,
@@ -271,6 +363,7 @@ fn particle(
             payload,
             events,
             texts,
+            told,
             mode,
             d,
             wall,
@@ -289,6 +382,7 @@ fn choose(
     payload: &[u8],
     events: &mut [u32],
     texts: &mut [u8],
+    told: &mut [u16],
     mode: Mode,
     depth: u32,
     wall: Bits,
@@ -297,29 +391,31 @@ fn choose(
     first: u32,
     n: u32,
 ) -> Walk
-    requires { ⌜ (Ready (now table) (now payload) (wall .0) (path .count) depth) × (first + n ≤ particlesIn (now table)) ⌝ }
-    ensures { λ r. ⌜ Walks (choose· (now (table .entry)) (now (payload .entry)) mode depth first n) (wall .0) c path (now (events .entry)) (now (texts .entry)) r (now (events .exit)) (now (texts .exit)) ⌝ }
+    requires { ⌜ (Ready (now table) (now payload) (wall .0) (path .count) depth) × (length (now told) ≡ 64) × (first + n ≤ particlesIn (now table)) ⌝ }
+    ensures { λ r. ⌜ Walks (choose· (now (table .entry)) (now (payload .entry)) mode depth first n) (wall .0) c (namesOf path) (now (events .entry)) (now (texts .entry)) r (now (told .exit)) (now (events .exit)) (now (texts .exit)) ⌝ }
 {
     let at = c.at;
     let r = choice(payload, wall, at, n);
     match r {
-        Read::Refuse(e) => walked(Step::Refuse(e, at), path),
+        Read::Refuse(e) => Walk::Refuse(e, at),
         Read::Value(v, next) => {
             let s = store(events, c, 4, v, 0, next);
             let Step::Go(d) = s else {
-                return walked(s, path);
+                return walked(s);
             };
+            let row = rows::particle(table, first + v);
             particle(
                 table,
                 payload,
                 events,
                 texts,
+                told,
                 mode,
                 depth,
                 wall,
                 d,
                 path,
-                first + v,
+                row,
             )
         }
     }
@@ -331,6 +427,7 @@ fn occur(
     payload: &[u8],
     events: &mut [u32],
     texts: &mut [u8],
+    told: &mut [u16],
     mode: Mode,
     depth: u32,
     wall: Bits,
@@ -340,23 +437,24 @@ fn occur(
     least: u32,
     most: u32,
 ) -> Walk
-    requires { ⌜ (Ready (now table) (now payload) (wall .0) (path .count) depth) × (child < particlesIn (now table)) ⌝ }
-    ensures { λ r. ⌜ Walks (occur· (now (table .entry)) (now (payload .entry)) mode depth child least most) (wall .0) c path (now (events .entry)) (now (texts .entry)) r (now (events .exit)) (now (texts .exit)) ⌝ }
+    requires { ⌜ (Ready (now table) (now payload) (wall .0) (path .count) depth) × (length (now told) ≡ 64) × (child < particlesIn (now table)) ⌝ }
+    ensures { λ r. ⌜ Walks (occur· (now (table .entry)) (now (payload .entry)) mode depth child least most) (wall .0) c (namesOf path) (now (events .entry)) (now (texts .entry)) r (now (told .exit)) (now (events .exit)) (now (texts .exit)) ⌝ }
 {
     let at = c.at;
     let r = code(payload, wall, at, times(least, most));
     match r {
-        Read::Refuse(e) => walked(Step::Refuse(e, at), path),
+        Read::Refuse(e) => Walk::Refuse(e, at),
         Read::Value(v, next) => {
             let s = store(events, c, 5, v, 0, next);
             let Step::Go(d) = s else {
-                return walked(s, path);
+                return walked(s);
             };
             rounds(
                 table,
                 payload,
                 events,
                 texts,
+                told,
                 mode,
                 depth,
                 wall,
@@ -376,6 +474,7 @@ fn rounds(
     payload: &[u8],
     events: &mut [u32],
     texts: &mut [u8],
+    told: &mut [u16],
     mode: Mode,
     depth: u32,
     wall: Bits,
@@ -385,35 +484,33 @@ fn rounds(
     step: u32,
     n: u32,
 ) -> Walk
-    requires { ⌜ (Ready (now table) (now payload) (wall .0) (path .count) depth) × Reaches (particlesIn (now table)) first step n ⌝ }
-    ensures { λ r. ⌜ Walks (rounds· (now (table .entry)) (now (payload .entry)) mode depth first step n) (wall .0) c path (now (events .entry)) (now (texts .entry)) r (now (events .exit)) (now (texts .exit)) ⌝ }
+    requires { ⌜ (Ready (now table) (now payload) (wall .0) (path .count) depth) × (length (now told) ≡ 64) × (Reaches (particlesIn (now table)) first step n) ⌝ }
+    ensures { λ r. ⌜ Walks (rounds· (now (table .entry)) (now (payload .entry)) mode depth first step n) (wall .0) c (namesOf path) (now (events .entry)) (now (texts .entry)) r (now (told .exit)) (now (events .exit)) (now (texts .exit)) ⌝ }
 {
     let mut cursor = c;
-    let mut way = path;
     let mut i = first;
     let mut j: u32 = 0;
     while j < n {
+        let row = rows::particle(table, i);
         let w = particle(
             table,
             payload,
             events,
             texts,
+            told,
             mode,
             depth,
             wall,
             cursor,
-            way,
-            i,
+            path,
+            row,
         );
-        let s = w.step;
-        let p = w.path;
-        let Step::Go(d) = s else {
+        let Walk::Go(d) = w else {
             return w;
         };
         cursor = d;
-        way = p;
         i += step;
         j += 1;
     }
-    walked(Step::Go(cursor), way)
+    Walk::Go(cursor)
 }

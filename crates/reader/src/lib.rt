@@ -3,19 +3,22 @@ mod clear; // clear.rt: lent buffers made zero
 mod cycle; // cycle.rt: elements, what is inside them, particle rows
 mod front; // front.rt: the mode byte
 mod rest; // rest.rt: what is left after the root
+mod told; // told.rt: what a walk answers, and the path of a refusal
 
 use clear::both;
-use cycle::element;
+use cycle::particle;
 use front::Found;
 use front::mode_of;
 use parts::Cursor;
 use parts::Mode;
 use parts::Path;
-use parts::Step;
 use rest::padding;
+use table::Particle;
 use table::Verdict;
 use table::check;
 use table::rows::types;
+use told::Walk;
+use told::copied;
 use wire::Bits;
 use wire::Bytes;
 ghost use mathlib.Core.Path.{_≡_};
@@ -27,6 +30,7 @@ ghost use Rattle.table.specs.Valid.{verdict};
 ghost use Rattle.model.specs.Entries.{Entered};
 ghost use Rattle.model.specs.Whole.{modeNumber, modeOf, declines, reading};
 ghost use Rattle.parts.specs.Heads.{modeIs};
+ghost use Rattle.parts.specs.Paths.{back, namesOf};
 ghost use Rattle.reader.specs.Answers.{pathIs, answerIs, told, Replies};
 ghost use Rattle.reader.specs.Root.{Zeros};
 
@@ -49,6 +53,16 @@ fn nowhere() -> Path
         names: [0u16; 64],
         count: 0,
     }
+}
+
+// The path that was told.
+fn heard(told: &[u16], count: usize) -> Path
+    requires { ⌜ length (now told) ≡ 64 ⌝ }
+    ensures { λ r. ⌜ namesOf r ≡ back (now (told .entry)) count ⌝ }
+{
+    let mut names = [0u16; 64];
+    copied(&mut names, told);
+    Path { names, count }
 }
 
 fn refused(number: u32, place: usize, path: Path) -> Answer
@@ -115,36 +129,41 @@ fn root(
         used: 0,
     };
     let path = nowhere();
-    let w = element(
+    let mut told = [0u16; 64];
+    let row = Particle::Element(name, t);
+    let w = particle(
         table,
         payload,
         events,
         texts,
+        &mut told,
         mode,
-        63,
+        64,
         wall,
         c,
         path,
-        name,
-        t,
+        row,
     );
-    let s = w.step;
-    let p = w.path;
-    match s {
-        Step::Refuse(n, at) => {
+    match w {
+        Walk::Refuse(n, at) => {
             let place = at.0 as usize;
             both(events, texts);
-            refused(n, place, p)
+            refused(n, place, path)
         }
-        Step::Go(d) => {
+        Walk::Told(n, at, count) => {
+            let place = at.0 as usize;
+            both(events, texts);
+            refused(n, place, heard(&told, count))
+        }
+        Walk::Go(d) => {
             let at = d.at;
             let ok = padding(payload, at);
             if ok {
-                return accepted(mode, d, p);
+                return accepted(mode, d, path);
             }
             let place = at.0 as usize;
             both(events, texts);
-            refused(17, place, p)
+            refused(17, place, path)
         }
     }
 }

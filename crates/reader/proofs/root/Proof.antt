@@ -1,24 +1,28 @@
--- `root` answers what the reading comes to after the mode byte: accepted, refused, or 17. Each answer is a way of specs/Root.
+-- `root` answers what the reading comes to after the mode byte: accepted, refused with no path or with the path told, or 17. Each answer is a way of specs/Root.
+use mathlib.Core.Path.{_∙_}
 use native.Mathlib.Omega.{arith}
 use borrow.Author.Needs.{needs}
-use Rattle.reader.specs.Root.{root-ways, payload-short, root-given, root-refused, root-left}
+use Rattle.reader.specs.Root.{root-ways, payload-short, root-given, root-refused, root-told, root-left}
 use Rattle.reader.proofs.root.Statement.{statement}
 use Rattle.reader.proofs.root.Tie as tie
 
-mul-t23 : tie.Need-mul-t23
-mul-t23 c = omega (arith, payload-short _ _ (c .before .before .before .before .pre .1))
+mul-t27 : tie.Need-mul-t27
+mul-t27 c = omega (arith, payload-short _ _ (c .before .before .before .before .pre .1))
 
-cast-t24 : tie.Need-cast-t24
-cast-t24 c = omega (arith, payload-short _ _ (c .before .before .before .before .pre .1))
+cast-t28 : tie.Need-cast-t28
+cast-t28 c = omega (arith, payload-short _ _ (c .before .before .before .before .pre .1))
 
 nowhere-requires : tie.Need-nowhere-requires
 nowhere-requires c κs = search needs
 
-element-requires : tie.Need-element-requires
-element-requires c κs = search (needs, root-ways)
+slice-aggregate-particle : tie.Need-slice-aggregate-particle
+slice-aggregate-particle c = search needs
 
-enum-known-s : tie.Need-enum-known-s
-enum-known-s c = search needs
+particle-requires : tie.Need-particle-requires
+particle-requires c κs = search (needs, root-ways)
+
+enum-known-w : tie.Need-enum-known-w
+enum-known-w c = search needs
 
 cast-place : tie.Need-cast-place
 cast-place c = search needs
@@ -29,8 +33,26 @@ both-requires c κs = search needs
 refused-requires : tie.Need-refused-requires
 refused-requires c κs = search needs
 
-enum-known-s-2 : tie.Need-enum-known-s-2
-enum-known-s-2 c = search needs
+enum-known-w-2 : tie.Need-enum-known-w-2
+enum-known-w-2 c = search needs
+
+cast-place-2 : tie.Need-cast-place-2
+cast-place-2 c = search needs
+
+both-requires-2 : tie.Need-both-requires-2
+both-requires-2 c κs = search needs
+
+slice-aggregate-heard : tie.Need-slice-aggregate-heard
+slice-aggregate-heard c = search needs
+
+heard-requires : tie.Need-heard-requires
+heard-requires c κs = search needs
+
+refused-requires-2 : tie.Need-refused-requires-2
+refused-requires-2 c κs = search needs
+
+enum-known-w-3 : tie.Need-enum-known-w-3
+enum-known-w-3 c = search needs
 
 padding-requires : tie.Need-padding-requires
 padding-requires c κs = search (needs, root-ways)
@@ -46,16 +68,16 @@ same-length-2 c = search needs
 
 returns : tie.Need-returns
 returns c =
-    search (root-given, c .before .before .before .before .before .before .before .before .before .before .before .before .before .before .before .before .before .before .before .before .pre .0, c .before .before .before .before .before .before .before .before .before .before .before .before .before .before .before .before .before .before .before .before .pre .1, c .before .before .before .before .before .before .before .before .before .before .before .before .before .before .before .before .before .before .before .before .pre .2, c .before .before .before .before .before .before .before .before .before .before .before .before .before .before .before .before .before .before .before .before .pre .3, c .before .before .before .before .before .before .before .before .before .before .before .before .before .before .before .nowhere .ensures, c .before .before .before .before .before .before .before .before .before .before .before .before .element .ensures, c .before .before .before .before .before .s2 .given .1, c .before .before .padding .ensures, c .before .if1 .taken, c .accepted .ensures)
+    search (root-given, c .before .before .before .before .before .before .before .before .before .before .before .before .before .before .before .before .before .before .before .before .before .pre .0, c .before .before .before .before .before .before .before .before .before .before .before .before .before .before .before .before .before .before .before .before .before .pre .1, c .before .before .before .before .before .before .before .before .before .before .before .before .before .before .before .before .before .before .before .before .before .pre .2, c .before .before .before .before .before .before .before .before .before .before .before .before .before .before .before .before .before .before .before .before .before .pre .3, c .before .before .before .before .before .before .before .before .before .before .before .before .before .before .before .before .nowhere .ensures, c .before .before .before .before .before .before .before .before .before .before .before .before .particle .ensures, c .before .before .before .before .before .w3 .given .1, c .before .before .padding .ensures, c .before .if1 .taken, c .accepted .ensures)
 
-cast-place-2 : tie.Need-cast-place-2
-cast-place-2 c = search needs
+cast-place-3 : tie.Need-cast-place-3
+cast-place-3 c = search needs
 
-both-requires-2 : tie.Need-both-requires-2
-both-requires-2 c κs = search needs
+both-requires-3 : tie.Need-both-requires-3
+both-requires-3 c κs = search needs
 
-refused-requires-2 : tie.Need-refused-requires-2
-refused-requires-2 c κs = search needs
+refused-requires-3 : tie.Need-refused-requires-3
+refused-requires-3 c κs = search needs
 
 same-length-3 : tie.Need-same-length-3
 same-length-3 c = search needs
@@ -65,42 +87,63 @@ same-length-4 c = search needs
 
 returns-2 : tie.Need-returns-2
 returns-2 c =
-    search (root-refused, c .before .before .before .before .before .before .before .before .before .before .before .before .before .before .before .before .before .before .before .before .before .before .before .before .before .pre .0, c .before .before .before .before .before .before .before .before .before .before .before .before .before .before .before .before .before .before .before .before .before .before .before .before .before .pre .1, c .before .before .before .before .before .before .before .before .before .before .before .before .before .before .before .before .before .before .before .before .before .before .before .before .before .pre .2, c .before .before .before .before .before .before .before .before .before .before .before .before .before .before .before .before .before .before .before .before .before .before .before .before .before .pre .3, c .before .before .before .before .before .before .before .before .before .before .before .before .before .before .before .before .before .before .before .before .nowhere .ensures, c .before .before .before .before .before .before .before .before .before .before .before .before .before .before .before .before .before .element .ensures, c .before .before .before .before .before .before .before .before .before .before .before .before .before .before .before .before .before .element .kept .1 .1 .0, c .before .before .before .before .before .before .before .before .before .before .before .before .before .before .before .before .before .element .kept .1 .1 .1 .0, c .before .before .before .before .before .before .before .before .before .before .s .given .1, c .before .before .before .before .before .both .ensures .0, c .before .before .before .before .before .both .ensures .1, c .refused .ensures)
+    search (root-refused, c .before .before .before .before .before .before .before .before .before .before .before .before .before .before .before .before .before .before .before .before .before .before .before .before .before .before .pre .0, c .before .before .before .before .before .before .before .before .before .before .before .before .before .before .before .before .before .before .before .before .before .before .before .before .before .before .pre .1, c .before .before .before .before .before .before .before .before .before .before .before .before .before .before .before .before .before .before .before .before .before .before .before .before .before .before .pre .2, c .before .before .before .before .before .before .before .before .before .before .before .before .before .before .before .before .before .before .before .before .before .before .before .before .before .before .pre .3, c .before .before .before .before .before .before .before .before .before .before .before .before .before .before .before .before .before .before .before .before .before .nowhere .ensures, c .before .before .before .before .before .before .before .before .before .before .before .before .before .before .before .before .before .particle .ensures, c .before .before .before .before .before .before .before .before .before .before .before .before .before .before .before .before .before .particle .kept .1 .1 .0, c .before .before .before .before .before .before .before .before .before .before .before .before .before .before .before .before .before .particle .kept .1 .1 .1 .0, c .before .before .before .before .before .before .before .before .before .before .w .given .1, c .before .before .before .before .before .both .ensures .0, c .before .before .before .before .before .both .ensures .1, c .refused .ensures)
 
 same-length-5 : tie.Need-same-length-5
-same-length-5 c = search needs
+same-length-5 c =
+    c .before .before .before .before .before .before .before .both2 .kept .0 ∙ c .before .before .before .before .before .before .before .before .before .before .before .before .before .before .before .before .before .before .before .particle .kept .1 .1 .0
 
 same-length-6 : tie.Need-same-length-6
 same-length-6 c = search needs
 
 returns-3 : tie.Need-returns-3
 returns-3 c =
-    search (root-left, c .before .before .before .before .before .before .before .before .before .before .before .before .before .before .before .before .before .before .before .before .before .before .before .before .before .before .before .before .pre .0, c .before .before .before .before .before .before .before .before .before .before .before .before .before .before .before .before .before .before .before .before .before .before .before .before .before .before .before .before .pre .1, c .before .before .before .before .before .before .before .before .before .before .before .before .before .before .before .before .before .before .before .before .before .before .before .before .before .before .before .before .pre .2, c .before .before .before .before .before .before .before .before .before .before .before .before .before .before .before .before .before .before .before .before .before .before .before .before .before .before .before .before .pre .3, c .before .before .before .before .before .before .before .before .before .before .before .before .before .before .before .before .before .before .before .before .before .before .before .nowhere .ensures, c .before .before .before .before .before .before .before .before .before .before .before .before .before .before .before .before .before .before .before .before .element .ensures, c .before .before .before .before .before .before .before .before .before .before .before .before .before .before .before .before .before .before .before .before .element .kept .1 .1 .0, c .before .before .before .before .before .before .before .before .before .before .before .before .before .before .before .before .before .before .before .before .element .kept .1 .1 .1 .0, c .before .before .before .before .before .before .before .before .before .before .before .before .before .s2 .given .1, c .before .before .before .before .before .before .before .before .before .before .padding .ensures, c .before .before .before .before .before .before .before .before .before .if1 .left, c .before .before .before .before .before .both2 .ensures .0, c .before .before .before .before .before .both2 .ensures .1, c .refused2 .ensures)
+    search (root-told, c .before .before .before .before .before .before .before .before .before .before .before .before .before .before .before .before .before .before .before .before .before .before .before .before .before .before .before .before .pre .0, c .before .before .before .before .before .before .before .before .before .before .before .before .before .before .before .before .before .before .before .before .before .before .before .before .before .before .before .before .pre .1, c .before .before .before .before .before .before .before .before .before .before .before .before .before .before .before .before .before .before .before .before .before .before .before .before .before .before .before .before .pre .2, c .before .before .before .before .before .before .before .before .before .before .before .before .before .before .before .before .before .before .before .before .before .before .before .before .before .before .before .before .pre .3, c .before .before .before .before .before .before .before .before .before .before .before .before .before .before .before .before .before .before .before .before .before .before .before .nowhere .ensures, c .before .before .before .before .before .before .before .before .before .before .before .before .before .before .before .before .before .before .before .particle .ensures, c .before .before .before .before .before .before .before .before .before .before .before .before .before .before .before .before .before .before .before .particle .kept .1 .1 .0, c .before .before .before .before .before .before .before .before .before .before .before .before .before .before .before .before .before .before .before .particle .kept .1 .1 .1 .0, c .before .before .before .before .before .before .before .before .before .before .before .before .w2 .given .1, c .before .before .before .before .before .before .before .both2 .ensures .0, c .before .before .before .before .before .before .before .both2 .ensures .1, c .before .heard .ensures, c .refused2 .ensures)
+
+same-length-7 : tie.Need-same-length-7
+same-length-7 c = search needs
+
+same-length-8 : tie.Need-same-length-8
+same-length-8 c = search needs
+
+returns-4 : tie.Need-returns-4
+returns-4 c =
+    search (root-left, c .before .before .before .before .before .before .before .before .before .before .before .before .before .before .before .before .before .before .before .before .before .before .before .before .before .before .before .before .before .pre .0, c .before .before .before .before .before .before .before .before .before .before .before .before .before .before .before .before .before .before .before .before .before .before .before .before .before .before .before .before .before .pre .1, c .before .before .before .before .before .before .before .before .before .before .before .before .before .before .before .before .before .before .before .before .before .before .before .before .before .before .before .before .before .pre .2, c .before .before .before .before .before .before .before .before .before .before .before .before .before .before .before .before .before .before .before .before .before .before .before .before .before .before .before .before .before .pre .3, c .before .before .before .before .before .before .before .before .before .before .before .before .before .before .before .before .before .before .before .before .before .before .before .before .nowhere .ensures, c .before .before .before .before .before .before .before .before .before .before .before .before .before .before .before .before .before .before .before .before .particle .ensures, c .before .before .before .before .before .before .before .before .before .before .before .before .before .before .before .before .before .before .before .before .particle .kept .1 .1 .0, c .before .before .before .before .before .before .before .before .before .before .before .before .before .before .before .before .before .before .before .before .particle .kept .1 .1 .1 .0, c .before .before .before .before .before .before .before .before .before .before .before .before .before .w3 .given .1, c .before .before .before .before .before .before .before .before .before .before .padding .ensures, c .before .before .before .before .before .before .before .before .before .if1 .left, c .before .before .before .before .before .both3 .ensures .0, c .before .before .before .before .before .both3 .ensures .1, c .refused3 .ensures)
 
 pub root-spec : {M : Type 1} → statement M
 root-spec =
     tie.close
     (tie.spec
-    mul-t23
-    cast-t24
+    mul-t27
+    cast-t28
     nowhere-requires
-    element-requires
-    enum-known-s
+    slice-aggregate-particle
+    particle-requires
+    enum-known-w
     cast-place
     both-requires
     refused-requires
-    enum-known-s-2
+    enum-known-w-2
+    cast-place-2
+    both-requires-2
+    slice-aggregate-heard
+    heard-requires
+    refused-requires-2
+    enum-known-w-3
     padding-requires
     accepted-requires
     same-length
     same-length-2
     returns
-    cast-place-2
-    both-requires-2
-    refused-requires-2
+    cast-place-3
+    both-requires-3
+    refused-requires-3
     same-length-3
     same-length-4
     returns-2
     same-length-5
     same-length-6
-    returns-3)
+    returns-3
+    same-length-7
+    same-length-8
+    returns-4)
