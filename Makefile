@@ -1,5 +1,5 @@
 # Two commands for everybody (run, test), two for C programmers (host, install), the rest for those who work here.
-.PHONY: test run host install fuzz peer fmt face quotes
+.PHONY: test run host install fuzz bench peer fmt face quotes
 
 PREFIX = /usr/local
 CFLAGS = -O2
@@ -54,6 +54,11 @@ quotes: host $(TRIALS:%=target/c/%)
 # The proved C calls against the peer, from a new seed, for about 5 million cases.
 fuzz:
 	rt staticlib host >/dev/null && cd peer && cargo build --release --quiet --features host_write --bin calls && target/release/calls 5000000 $$(date +%s)
+
+# The proved C calls against the peer's fast ones: times, instruction counts and growth. `make bench >docs/FIGURES.md` renews that page.
+bench:
+	@$(MAKE) --no-print-directory $(ARCHIVE) >&2
+	@cd peer && cargo build --profile speed --locked --offline --quiet --features host_write --bin speed && target/speed/speed
 
 # The second, independent implementation: its tests, the demands as properties, and the vectors asked again.
 peer:

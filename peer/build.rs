@@ -9,7 +9,9 @@ fn main() {
         link("leaves", &format!("{built}/libprobe.a"));
     }
     if std::env::var_os("CARGO_FEATURE_HOST").is_some() {
-        link("calls", &std::env::var("HOST_ARCHIVE").unwrap_or(format!("{built}/libhost.a")));
+        let archive = std::env::var("HOST_ARCHIVE").unwrap_or(format!("{built}/libhost.a"));
+        link("calls", &archive);
+        link("speed", &archive);
     }
 }
 

@@ -18,6 +18,8 @@ pub mod listing;
 pub mod model;
 pub mod reader;
 pub mod rng;
+pub mod speed;
+pub mod swift;
 pub mod table;
 pub mod trials;
 pub mod utf8;

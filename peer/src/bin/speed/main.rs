@@ -1,0 +1,71 @@
+//! `speed`: the proved C calls against the peer's fast ones, timed in turn and counted by callgrind, as a page of Markdown.
+//! `speed counts` makes each call once; `speed` runs that under valgrind.
+
+mod counts;
+mod page;
+#[path = "../calls/proved.rs"]
+mod proved;
+mod sides;
+mod times;
+
+use peer::calls::{Call, Case};
+use peer::speed::{growing, standard};
+
+/// A call to be measured, and where it stands on the page.
+pub struct Item {
+    /// What the payload is, or what grows.
+    pub name: String,
+    /// Payload bytes and events, or the size of what grows.
+    pub size: String,
+    /// Words of the table.
+    pub words: usize,
+    /// The call itself.
+    pub case: Case,
+    /// What it belongs to.
+    pub part: Part,
+}
+
+/// The tables of the page.
+#[derive(Clone, Copy, PartialEq, Eq)]
+pub enum Part {
+    /// The comparison proper.
+    Inputs,
+    /// One measure grows, to this size.
+    Growth(usize),
+}
+
+/// Everything that is measured, in order.
+fn items() -> Vec<Item> {
+    let mut items = vec![];
+    for input in standard() {
+        let (bytes, events) = input.sizes();
+        for table in input.tables() {
+            for case in [input.reading(&table), input.writing(&table)] {
+                let size = format!("{bytes}, {events}");
+                items.push(Item { name: input.name.clone(), size, words: table.len(), case, part: Part::Inputs });
+            }
+        }
+    }
+    for growth in growing() {
+        for call in [Call::Read, Call::Write] {
+            for (size, input, table) in &growth.steps {
+                let case = if call == Call::Read { input.reading(table) } else { input.writing(table) };
+                let name = growth.measure.to_string();
+                items.push(Item { name, size: size.to_string(), words: table.len(), case, part: Part::Growth(*size) });
+            }
+        }
+    }
+    items
+}
+
+fn main() {
+    let items = items();
+    if std::env::args().nth(1).as_deref() == Some("counts") {
+        counts::make_calls(&items);
+        return;
+    }
+    items.iter().for_each(|item| sides::check(&item.case));
+    let counts = counts::under_callgrind(items.len());
+    let times: Vec<_> = items.iter().map(|item| times::medians(&item.case)).collect();
+    page::print(&items, &times, &counts);
+}

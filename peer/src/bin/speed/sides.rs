@@ -1,0 +1,232 @@
+//! The sides of the comparison: the proved calls, the peer's fast ones, and a plain pass over the same bytes. Each has a function of its
+//! own name, which callgrind can tell apart.
+
+use crate::proved::Library;
+use peer::calls::{Call, Calls, Case};
+use peer::{host, swift};
+
+/// Who is asked.
+#[derive(Clone, Copy, PartialEq, Eq)]
+pub enum Side {
+    /// The proved library.
+    Proved,
+    /// The peer's fast calls.
+    Peer,
+    /// What no call can do without: output cleared, table words converted and compared.
+    Plain,
+    /// The judge: plain code with wide loads, which converts words as the proved calls do.
+    Judge,
+}
+
+/// In the order in which they are asked.
+pub const SIDES: [Side; 4] = [Side::Proved, Side::Peer, Side::Plain, Side::Judge];
+
+/// The functions whose instructions count.
+pub const FUNCTIONS: [&str; 7] =
+    ["bim_read", "bim_write", "swift_read", "swift_write", "plain_pass", "judge_read", "judge_write"];
+
+/// A case's buffers, the same for every side.
+pub struct Buffers {
+    inputs: Vec<Vec<u8>>,
+    outputs: Vec<Vec<u8>>,
+    words: Vec<u32>,
+}
+
+impl Buffers {
+    pub fn of(case: &Case) -> Self {
+        let outputs = case.rooms.iter().map(|&room| vec![0xdd; room]).collect();
+        Buffers { inputs: case.inputs.clone(), outputs, words: vec![0; 8964 + 8192] }
+    }
+
+    /// Asks a side.
+    #[inline(always)]
+    pub fn ask(&mut self, case: &Case, side: Side) -> u32 {
+        match side {
+            Side::Proved => self.call(case, &Library::default()),
+            Side::Peer => self.call(case, &Swift),
+            Side::Judge => self.call(case, &Judge),
+            Side::Plain => plain_pass(
+                &self.inputs[0],
+                self.inputs.get(2).map(|_| &self.inputs[1][..]),
+                &mut self.words,
+                &mut self.outputs,
+            ),
+        }
+    }
+
+    #[inline(always)]
+    fn call(&mut self, case: &Case, calls: &impl Calls) -> u32 {
+        match (case.call, &self.inputs[..], &mut self.outputs[..]) {
+            (Call::Read, [table, payload], [events, texts, area]) => {
+                calls.read(table, case.root, payload, events, texts, area)
+            }
+            (Call::Write, [table, events, texts], [payload, area]) => {
+                calls.write(table, case.root, case.mode, events, texts, payload, area)
+            }
+            _ => panic!("{case:?} is neither read nor written"),
+        }
+    }
+}
+
+/// Both sides answer a case as the judge does, byte for byte.
+pub fn check(case: &Case) {
+    let mut judged = Buffers::of(case);
+    let number = judged.call(case, &Judge);
+    for side in [Side::Proved, Side::Peer] {
+        let mut buffers = Buffers::of(case);
+        assert_eq!(buffers.ask(case, side), number);
+        assert!(buffers.outputs == judged.outputs, "other bytes than the judge's");
+    }
+}
+
+/// Clears the output, converts the table's words and a list's, and compares each table word once.
+#[no_mangle]
+#[inline(never)]
+fn plain_pass(table: &[u8], list: Option<&[u8]>, words: &mut [u32], outputs: &mut [Vec<u8>]) -> u32 {
+    outputs.iter_mut().for_each(|output| output.fill(0));
+    let (table_words, list_words) = words.split_at_mut(8964);
+    let table_words = &mut table_words[..table.len() / 4];
+    convert(table, table_words);
+    if let Some(list) = list {
+        convert(list, &mut list_words[..list.len() / 4]);
+    }
+    table_words.iter().fold(0, |over, &word| over + u32::from(word > 65_536))
+}
+
+#[inline(always)]
+fn convert(bytes: &[u8], words: &mut [u32]) {
+    for (word, bytes) in words.iter_mut().zip(bytes.as_chunks::<4>().0) {
+        *word = u32::from_be_bytes(*bytes);
+    }
+}
+
+#[no_mangle]
+#[inline(never)]
+fn swift_read(
+    table: &[u8],
+    root: (u32, u32),
+    payload: &[u8],
+    events: &mut [u8],
+    texts: &mut [u8],
+    area: &mut [u8],
+) -> u32 {
+    swift::read(table, root.0, root.1, payload, events, texts, area)
+}
+
+#[no_mangle]
+#[inline(never)]
+fn swift_write(
+    table: &[u8],
+    root: (u32, u32),
+    mode: u32,
+    events: &[u8],
+    texts: &[u8],
+    payload: &mut [u8],
+    area: &mut [u8],
+) -> u32 {
+    swift::write(table, root.0, root.1, mode, events, texts, payload, area)
+}
+
+#[no_mangle]
+#[inline(never)]
+fn judge_read(
+    table: &[u8],
+    root: (u32, u32),
+    payload: &[u8],
+    events: &mut [u8],
+    texts: &mut [u8],
+    area: &mut [u8],
+) -> u32 {
+    host::read(table, root.0, root.1, payload, events, texts, area)
+}
+
+#[no_mangle]
+#[inline(never)]
+fn judge_write(
+    table: &[u8],
+    root: (u32, u32),
+    mode: u32,
+    events: &[u8],
+    texts: &[u8],
+    payload: &mut [u8],
+    area: &mut [u8],
+) -> u32 {
+    host::write(table, root.0, root.1, mode, events, texts, payload, area)
+}
+
+struct Swift;
+
+impl Calls for Swift {
+    fn check_table(&self, table: &[u8], area: &mut [u8]) -> u32 {
+        swift::check_table(table, area)
+    }
+
+    #[inline(always)]
+    fn read(
+        &self,
+        table: &[u8],
+        root: (u32, u32),
+        payload: &[u8],
+        events: &mut [u8],
+        texts: &mut [u8],
+        area: &mut [u8],
+    ) -> u32 {
+        swift_read(table, root, payload, events, texts, area)
+    }
+
+    #[inline(always)]
+    fn write(
+        &self,
+        table: &[u8],
+        root: (u32, u32),
+        mode: u32,
+        events: &[u8],
+        texts: &[u8],
+        payload: &mut [u8],
+        area: &mut [u8],
+    ) -> u32 {
+        swift_write(table, root, mode, events, texts, payload, area)
+    }
+
+    fn writes(&self) -> bool {
+        true
+    }
+}
+
+/// The peer itself.
+struct Judge;
+
+impl Calls for Judge {
+    fn check_table(&self, table: &[u8], area: &mut [u8]) -> u32 {
+        host::check_table(table, area)
+    }
+
+    fn read(
+        &self,
+        table: &[u8],
+        root: (u32, u32),
+        payload: &[u8],
+        events: &mut [u8],
+        texts: &mut [u8],
+        area: &mut [u8],
+    ) -> u32 {
+        judge_read(table, root, payload, events, texts, area)
+    }
+
+    fn write(
+        &self,
+        table: &[u8],
+        root: (u32, u32),
+        mode: u32,
+        events: &[u8],
+        texts: &[u8],
+        payload: &mut [u8],
+        area: &mut [u8],
+    ) -> u32 {
+        judge_write(table, root, mode, events, texts, payload, area)
+    }
+
+    fn writes(&self) -> bool {
+        true
+    }
+}

@@ -1,0 +1,7 @@
+//! What `bin/speed` measures with: calls that a receiver would make, and calls that grow in one measure alone.
+
+mod guide;
+mod inputs;
+mod rows;
+
+pub use inputs::{growing, standard, Growth, Input};

@@ -1,0 +1,56 @@
+//! The C calls once more, for speed: the proved calls' opponent in `bin/speed`. Words are read where they lie, bits by wide loads,
+//! texts eight bytes at a time; nothing is allocated, and only what a call leaves unused is cleared. `host` judges it (tests/swift.rs).
+
+mod bits;
+mod reading;
+mod table;
+mod writing;
+
+pub use reading::read;
+pub use writing::write;
+
+use crate::answer::number;
+use crate::host::AREA_BYTES;
+
+/// Judges a table.
+pub fn check_table(table: &[u8], area: &mut [u8]) -> u32 {
+    let Some(area) = whole_area(area) else {
+        return number::AREA;
+    };
+    match table::Table::new(table) {
+        Ok(_) => {
+            fill_area(area, [0; 6], &[]);
+            number::ACCEPTED
+        }
+        Err(word) => refuse(area, (number::TABLE, word), &[]),
+    }
+}
+
+/// Fills the area of a refusal, and gives its number.
+fn refuse(area: &mut [u8; AREA_BYTES], (number, place): (u32, usize), names: &[u16]) -> u32 {
+    // Places stop at 2^32 - 1.
+    let place = u32::try_from(place).unwrap_or(u32::MAX);
+    fill_area(area, [place, 0, 0, 0, 0, names.len() as u32], names);
+    number
+}
+
+/// The area, if it has its size; any other is cleared.
+fn whole_area(area: &mut [u8]) -> Option<&mut [u8; AREA_BYTES]> {
+    if area.len() != AREA_BYTES {
+        area.fill(0);
+        return None;
+    }
+    area.first_chunk_mut()
+}
+
+/// Six words, then the names, then zeros.
+fn fill_area(area: &mut [u8; AREA_BYTES], words: [u32; 6], names: &[u16]) {
+    let (head, rest) = area.split_at_mut(24);
+    for (bytes, word) in head.as_chunks_mut::<4>().0.iter_mut().zip(words) {
+        *bytes = word.to_be_bytes();
+    }
+    rest.fill(0);
+    for (bytes, name) in rest.as_chunks_mut::<2>().0.iter_mut().zip(names) {
+        *bytes = name.to_be_bytes();
+    }
+}

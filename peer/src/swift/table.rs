@@ -1,0 +1,120 @@
+//! A table read where it lies: rows of big-endian words, and the check of all of them.
+
+use crate::answer::MOST_NAME;
+use crate::codes::UNBOUNDED;
+use crate::table::{content, ATTRIBUTE_ROW, HEADER, MOST_WORDS, PARTICLE_ROW, TYPE_ROW};
+use crate::value;
+
+type TypeRow = [u8; 4 * TYPE_ROW];
+type AttributeRow = [u8; 4 * ATTRIBUTE_ROW];
+type ParticleRow = [u8; 4 * PARTICLE_ROW];
+
+/// A word of a row.
+#[inline(always)]
+pub fn word<const N: usize>(row: &[u8; N], index: usize) -> u32 {
+    u32::from_be_bytes([row[4 * index], row[4 * index + 1], row[4 * index + 2], row[4 * index + 3]])
+}
+
+/// A table that was checked.
+#[derive(Clone, Copy)]
+pub struct Table<'a> {
+    pub types: &'a [TypeRow],
+    pub attributes: &'a [AttributeRow],
+    pub particles: &'a [ParticleRow],
+}
+
+impl<'a> Table<'a> {
+    /// Checks all rows; the fault of a wrong one is then looked for.
+    #[inline(never)]
+    pub fn new(bytes: &'a [u8]) -> Result<Self, usize> {
+        match Table::split(bytes) {
+            Some(table) if table.is_right() => Ok(table),
+            _ => Err(first_fault(bytes)),
+        }
+    }
+
+    /// The rows, where header and length are right.
+    fn split(bytes: &'a [u8]) -> Option<Self> {
+        let (header, rows) = bytes.split_first_chunk::<{ 4 * HEADER }>()?;
+        let [types, attributes, particles] = [1, 2, 3].map(|index| word(header, index) as usize);
+        let header_right =
+            word(header, 0) == 1 && (1..=256).contains(&types) && attributes <= 1024 && particles <= 1024;
+        if !header_right || rows.len() != 4 * (TYPE_ROW * types + ATTRIBUTE_ROW * attributes + PARTICLE_ROW * particles)
+        {
+            return None;
+        }
+        let (types, rows) = rows.split_at(4 * TYPE_ROW * types);
+        let (attributes, particles) = rows.split_at(4 * ATTRIBUTE_ROW * attributes);
+        Some(Table {
+            types: types.as_chunks().0,
+            attributes: attributes.as_chunks().0,
+            particles: particles.as_chunks().0,
+        })
+    }
+
+    fn is_right(&self) -> bool {
+        self.types.iter().all(|row| self.type_right(row))
+            && self.attributes.iter().all(|row| self.attribute_right(row))
+            && self.particles.iter().enumerate().all(|(index, row)| self.particle_right(index as u32, row))
+    }
+
+    #[inline(always)]
+    fn type_right(&self, row: &TypeRow) -> bool {
+        let [held, inside, first, count, a, b, c] = [0, 1, 2, 3, 4, 5, 6].map(|index| word(row, index));
+        let attributes = self.attributes.len() as u32;
+        let front = (held <= 1) & (first <= attributes) & (count <= attributes.wrapping_sub(first));
+        front
+            && match inside {
+                content::EMPTY => a | b | c == 0,
+                content::PARTICLES => ((a as usize) < self.particles.len()) & (b | c == 0),
+                content::SIMPLE => match a {
+                    value::RANGED => b as i32 <= c as i32,
+                    value::ENUMERATION => (b.wrapping_sub(1) < 65_536) & (c == 0),
+                    _ => (a <= value::FLOAT) & (b | c == 0),
+                },
+                _ => false,
+            }
+    }
+
+    #[inline(always)]
+    fn attribute_right(&self, row: &AttributeRow) -> bool {
+        match self.types.get(word(row, 2) as usize) {
+            Some(of_type) => {
+                (word(row, 0) <= MOST_NAME)
+                    & (word(row, 1) <= 1)
+                    & (word(of_type, 1) == content::SIMPLE)
+                    & (word(of_type, 3) == 0)
+            }
+            None => false,
+        }
+    }
+
+    #[inline(always)]
+    fn particle_right(&self, index: u32, row: &ParticleRow) -> bool {
+        let [kind, p, q, r] = [0, 1, 2, 3].map(|index| word(row, index));
+        let particles = self.particles.len() as u32;
+        let child = (p > index) & (p < particles);
+        match kind {
+            0 => (p <= MOST_NAME) & ((q as usize) < self.types.len()) & (r == 0),
+            1 | 2 => child & (q >= kind) & (q <= 64) & (q <= particles.wrapping_sub(p)) & (r == 0),
+            3 => child & (q <= 65_535) & (r.wrapping_sub(1) < UNBOUNDED) & (q <= r),
+            _ => false,
+        }
+    }
+}
+
+/// Where a table that is not right is wrong, as the judge finds it.
+#[cold]
+#[inline(never)]
+fn first_fault(bytes: &[u8]) -> usize {
+    let whole = bytes.len() / 4;
+    let seen = if bytes.len().is_multiple_of(4) && whole <= MOST_WORDS { whole } else { whole.min(HEADER) };
+    let mut words = [0; MOST_WORDS];
+    for (word, bytes) in words[..seen].iter_mut().zip(bytes.as_chunks::<4>().0) {
+        *word = u32::from_be_bytes(*bytes);
+    }
+    match crate::table::check(&words[..seen]) {
+        Err(fault) if fault < seen => fault,
+        _ => whole,
+    }
+}

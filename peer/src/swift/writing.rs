@@ -1,0 +1,394 @@
+//! The writer, for speed: a walk judges every event and packs its code into a word; then the words are put out.
+
+use super::bits::{code5, width, Pen};
+use super::table::{word, Table};
+use super::{fill_area, refuse, whole_area};
+use crate::answer::{kind, number, MOST_BYTES, MOST_EVENTS, MOST_NAME, MOST_OPEN};
+use crate::codes::{MOST_COUNT, MOST_FIXED_SPAN, UNBOUNDED};
+use crate::table::content;
+use crate::value;
+
+/// Writes a list; `payload` and `area` are written.
+#[allow(clippy::too_many_arguments)] // the boundary's names and order are fixed
+pub fn write(
+    table: &[u8],
+    root_name: u32,
+    root_type: u32,
+    mode: u32,
+    events: &[u8],
+    texts: &[u8],
+    payload: &mut [u8],
+    area: &mut [u8],
+) -> u32 {
+    let Some(area) = whole_area(area) else {
+        payload.fill(0);
+        return number::AREA;
+    };
+    let (list, rest) = events.as_chunks::<16>();
+    let written = begin(table, root_name, root_type, mode).and_then(|table| {
+        if !rest.is_empty() || list.len() > MOST_EVENTS {
+            return Err((number::NO_READING, list.len()));
+        }
+        let call = Call { table, mode, list, texts, root_name, root_type };
+        // The place for the codes is no larger than the list asks: it is cleared first.
+        match list.len() {
+            0..=32 => call.run::<32>(payload),
+            33..=256 => call.run::<256>(payload),
+            _ => call.run::<MOST_EVENTS>(payload),
+        }
+    });
+    match written {
+        Ok(bits) => {
+            payload[bits.div_ceil(8)..].fill(0);
+            fill_area(area, [0, mode, list.len() as u32, texts.len() as u32, bits as u32, 0], &[]);
+            number::ACCEPTED
+        }
+        Err(refused) => {
+            payload.fill(0);
+            refuse(area, refused, &[])
+        }
+    }
+}
+
+/// What comes before the list: 1, 2, 22.
+fn begin(table: &[u8], root_name: u32, root_type: u32, mode: u32) -> Result<Table<'_>, (u32, usize)> {
+    let table = Table::new(table).map_err(|word| (number::TABLE, word))?;
+    if root_type as usize >= table.types.len() || root_name > MOST_NAME {
+        return Err((number::ROOT, 0));
+    }
+    if mode > 2 {
+        return Err((number::WRITE_MODE, 0));
+    }
+    Ok(table)
+}
+
+/// The code of an event in a word: text bytes behind it (12 bits), its width (6), its bits (41 at most).
+#[derive(Clone, Copy)]
+struct Piece(u64);
+
+const BITS: u32 = 46;
+const WIDTH: u32 = 6;
+
+impl Piece {
+    #[inline(always)]
+    fn new((bits, width): (u64, u32), text: u32) -> Self {
+        Piece(u64::from(text) << (BITS + WIDTH) | u64::from(width) << BITS | bits)
+    }
+
+    #[inline(always)]
+    fn parts(self) -> (u64, u32, usize) {
+        (self.0 & ((1 << BITS) - 1), (self.0 >> BITS) as u32 & ((1 << WIDTH) - 1), (self.0 >> (BITS + WIDTH)) as usize)
+    }
+}
+
+/// What was asked.
+struct Call<'a> {
+    table: Table<'a>,
+    mode: u32,
+    list: &'a [[u8; 16]],
+    texts: &'a [u8],
+    root_name: u32,
+    root_type: u32,
+}
+
+impl Call<'_> {
+    /// Writes the whole list: the bits that it takes, or a refusal.
+    #[inline(never)]
+    fn run<const MOST: usize>(&self, payload: &mut [u8]) -> Result<usize, (u32, usize)> {
+        let mut pieces = [Piece(0); MOST];
+        let &Call { table, mode, list, texts, root_name, root_type } = self;
+        let pieces = &mut pieces[..list.len()];
+        let mut walk = Walk { table, mode, list, texts, used: 0, next: 0, bits: 8, number: 0, pieces, filled: 0 };
+        if walk.element(root_name, root_type, MOST_OPEN).is_none() {
+            return Err((walk.number, walk.next));
+        }
+        let Walk { used, next, bits, pieces, filled, .. } = walk;
+        if let Some(event) = list.get(next) {
+            let number = if word(event, 0) == kind::BLANK { number::BLANK } else { number::NO_READING };
+            return Err((number, next));
+        }
+        if used < texts.len() {
+            return Err((number::TEXT_BYTES, list.len()));
+        }
+        let bytes = bits.div_ceil(8);
+        if bytes > MOST_BYTES || bytes > payload.len() {
+            return Err((number::PAYLOAD_ROOM, 0));
+        }
+        put_out(&pieces[..filled], texts, [0x0f, 0x4f, 0x8f][mode as usize], &mut payload[..bytes]);
+        Ok(bits)
+    }
+}
+
+/// The codes one behind the other, behind the mode byte.
+fn put_out(pieces: &[Piece], mut texts: &[u8], mode_byte: u8, payload: &mut [u8]) {
+    let mut pen = Pen::new(payload, mode_byte);
+    for piece in pieces {
+        let (bits, width, text) = piece.parts();
+        pen.put(bits, width);
+        if text > 0 {
+            let (text, rest) = texts.split_at(text);
+            pen.put_text(text);
+            texts = rest;
+        }
+    }
+    pen.finish();
+}
+
+struct Walk<'a> {
+    table: Table<'a>,
+    mode: u32,
+    list: &'a [[u8; 16]],
+    texts: &'a [u8],
+    /// Text bytes used.
+    used: usize,
+    /// The next event.
+    next: usize,
+    /// Bits so far, the mode byte included.
+    bits: usize,
+    /// Of a refusal; its place is the next event.
+    number: u32,
+    /// A place for the code of each event that has one, and how many are filled.
+    pieces: &'a mut [Piece],
+    filled: usize,
+}
+
+/// An answer of nothing is a refusal, which then stands in the walk.
+type Step<T = ()> = Option<T>;
+
+/// A code: its bits and their number.
+type Code = (u64, u32);
+
+impl Walk<'_> {
+    #[cold]
+    #[inline(never)]
+    fn refuse<T>(&mut self, number: u32) -> Step<T> {
+        self.number = number;
+        None
+    }
+
+    /// The next event's second and third word, if it is of a kind: a Blank is 19, any other kind and no event 18.
+    #[inline(always)]
+    fn take(&mut self, of_kind: u32) -> Step<(u32, u32)> {
+        let Some(event) = self.list.get(self.next) else {
+            return self.refuse(number::NO_READING);
+        };
+        if word(event, 0) != of_kind {
+            let blank = word(event, 0) == kind::BLANK;
+            return self.refuse(if blank { number::BLANK } else { number::NO_READING });
+        }
+        Some((word(event, 1), word(event, 2)))
+    }
+
+    /// The code of the event at `next`, `text` bytes behind it; and the next event.
+    #[inline(always)]
+    fn put(&mut self, code: Code, text: u32) {
+        self.pieces[self.filled] = Piece::new(code, text);
+        self.filled += 1;
+        self.bits += code.1 as usize + 8 * text as usize;
+        self.next += 1;
+    }
+
+    /// An event of a kind with these two words and no code.
+    #[inline(always)]
+    fn plain(&mut self, of_kind: u32, wanted: (u32, u32)) -> Step {
+        if self.take(of_kind)? != wanted {
+            return self.refuse(number::NO_READING);
+        }
+        self.next += 1;
+        Some(())
+    }
+
+    /// A row is opened, if one may be: 18 where no event is left stands before 6.
+    #[inline(always)]
+    fn enter(&mut self, left: usize) -> Step<usize> {
+        if self.next == self.list.len() {
+            return self.refuse(number::NO_READING);
+        }
+        if left == 0 {
+            return self.refuse(number::TOO_DEEP);
+        }
+        Some(left - 1)
+    }
+
+    #[inline(always)]
+    fn element(&mut self, name: u32, of_type: u32, left: usize) -> Step {
+        let left = self.enter(left)?;
+        let (p, sized) = self.take(kind::START)?;
+        let flag_right = match self.mode {
+            0 => sized == 0,
+            1 => sized <= 1,
+            _ => sized == 1,
+        };
+        if p != name || !flag_right {
+            return self.refuse(number::NO_READING);
+        }
+        let row = &self.table.types[of_type as usize];
+        if word(row, 0) == 0 {
+            return self.refuse(number::NOT_HELD);
+        }
+        self.next += 1;
+        // A head's place; its code is known at the end.
+        let head = self.filled;
+        self.filled += usize::from(self.mode > 0);
+        let before = self.bits;
+        let attributes = word(row, 3);
+        if attributes > 0 {
+            self.attributes(word(row, 2), attributes)?;
+        }
+        match word(row, 1) {
+            content::EMPTY => {}
+            content::SIMPLE => self.value(word(row, 4), word(row, 5), word(row, 6))?,
+            _ => self.particle(word(row, 4), left)?,
+        }
+        self.plain(kind::END, (0, 0))?;
+        if self.mode > 0 {
+            let (mut bits, mut size) = (0, 0);
+            if sized == 1 {
+                (bits, size) = code5((self.bits - before) as u32);
+            }
+            if self.mode == 1 {
+                bits |= u64::from(sized) << size;
+                size += 1;
+            }
+            self.pieces[head] = Piece::new((bits, size), 0);
+            self.bits += size as usize;
+        }
+        Some(())
+    }
+
+    fn attributes(&mut self, first: u32, count: u32) -> Step {
+        let table = self.table;
+        for row in &table.attributes[first as usize..(first + count) as usize] {
+            let (p, present) = self.take(kind::ATTRIBUTE)?;
+            let required = word(row, 1);
+            if p != word(row, 0) || present > 1 || present < required {
+                return self.refuse(number::NO_READING);
+            }
+            if required == 1 {
+                self.next += 1;
+            } else {
+                self.put((u64::from(present), 1), 0);
+            }
+            if present == 1 {
+                let of_type = &table.types[word(row, 2) as usize];
+                self.value(word(of_type, 4), word(of_type, 5), word(of_type, 6))?;
+            }
+        }
+        Some(())
+    }
+
+    /// The value word of the next event, whose third word is 0.
+    #[inline(always)]
+    fn word(&mut self, of_kind: u32) -> Step<u32> {
+        let (p, q) = self.take(of_kind)?;
+        if q != 0 {
+            return self.refuse(number::NO_READING);
+        }
+        Some(p)
+    }
+
+    #[inline(always)]
+    fn value(&mut self, of_kind: u32, b: u32, c: u32) -> Step {
+        let p = self.word(kind::VALUE)?;
+        let code = match of_kind {
+            value::BOOLEAN => choice(1, p),
+            value::RANGED => {
+                let (span, above) = (c.wrapping_sub(b), p.wrapping_sub(b));
+                if above > span {
+                    None
+                } else if span <= MOST_FIXED_SPAN {
+                    Some((u64::from(above), width(span)))
+                } else {
+                    Some(code5(above))
+                }
+            }
+            value::UNSIGNED => Some(code5(p)),
+            value::SIGNED => {
+                let (bits, size) = code5((p as i32).unsigned_abs());
+                Some((u64::from(p >> 31) << size | bits, size + 1))
+            }
+            value::ENUMERATION => choice(b - 1, p),
+            value::FLOAT => Some((u64::from(p), 32)),
+            _ => return self.text(p),
+        };
+        match code {
+            Some(code) => self.put(code, 0),
+            None => return self.refuse(number::OUTSIDE_ROW),
+        }
+        Some(())
+    }
+
+    /// A text of `count` bytes: 20, 23, 16.
+    fn text(&mut self, count: u32) -> Step {
+        if count > value::MOST_TEXT {
+            return self.refuse(number::OUTSIDE_ROW);
+        }
+        let next = self.used + count as usize;
+        let Some(text) = self.texts.get(self.used..next) else {
+            return self.refuse(number::TEXT_BYTES);
+        };
+        if std::str::from_utf8(text).is_err() {
+            return self.refuse(number::NOT_UTF8);
+        }
+        self.used = next;
+        self.put(code5(count), count);
+        Some(())
+    }
+
+    fn particle(&mut self, row: u32, left: usize) -> Step {
+        let row = &self.table.particles[row as usize];
+        let [of_kind, p, q, r] = [0, 1, 2, 3].map(|index| word(row, index));
+        if of_kind == 0 {
+            return self.element(p, q, left);
+        }
+        let left = self.enter(left)?;
+        match of_kind {
+            1 => {
+                for child in p..p + q {
+                    self.particle(child, left)?;
+                }
+                Some(())
+            }
+            2 => {
+                let branch = self.word(kind::PICK)?;
+                let Some(code) = choice(q - 1, branch) else {
+                    return self.refuse(number::OUTSIDE_ROW);
+                };
+                self.put(code, 0);
+                self.particle(p + branch, left)
+            }
+            _ => {
+                let count = self.word(kind::TIMES)?;
+                let Some(code) = times(q, r, count) else {
+                    return self.refuse(number::OUTSIDE_ROW);
+                };
+                self.put(code, 0);
+                for _ in 0..count {
+                    self.particle(p, left)?;
+                }
+                Some(())
+            }
+        }
+    }
+}
+
+/// A number up to `most` in its width.
+#[inline(always)]
+fn choice(most: u32, value: u32) -> Option<Code> {
+    (value <= most).then(|| (u64::from(value), width(most)))
+}
+
+/// The count of an occurs row.
+#[inline(always)]
+fn times(least: u32, most: u32, count: u32) -> Option<Code> {
+    if count < least || count > most.min(MOST_COUNT) {
+        return None;
+    }
+    let above = count - least;
+    let (bits, size) = if most == UNBOUNDED { code5(above) } else { (u64::from(above), width(most - least)) };
+    if least > 0 || most == 1 {
+        return Some((bits, size));
+    }
+    // None or some, and then how many.
+    Some(if count == 0 { (0, 1) } else { (1 << size | bits, size + 1) })
+}
