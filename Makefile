@@ -84,7 +84,8 @@ peer/target/release/calls: $(ARCHIVE) $(shell find peer/src peer/build.rs peer/C
 
 # The proved C calls against the peer's fast ones: times, instruction counts and growth. `make bench >docs/FIGURES.md` renews that page.
 bench:
-	@rt staticlib host >/dev/null && cd peer && cargo build --profile speed --locked --offline --quiet --features host_write --bin speed && target/speed/speed
+	@$(MAKE) --no-print-directory $(ARCHIVE) >&2
+	@cd peer && cargo build --profile speed --locked --offline --quiet --features host_write --bin speed && target/speed/speed
 
 # The second, independent implementation: its tests, the demands as properties, and the vectors asked again.
 peer:
