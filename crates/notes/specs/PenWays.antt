@@ -40,6 +40,12 @@ cut : (X : List ℕ) (m from x : ℕ) → from ≡ min x (length X) → take (mi
 cut X m from x e = rw (← length-drop from X) (taken-all (drop from X) m ∙ ap (take m) (ap (λ (i : ℕ). drop i X) e ∙ dropped X x))
 
 -- put_piece
+pub put-nothing : (s : List ℕ) (at : ℕ) (X : List ℕ) (p : Piece) → p .width ≡ 0 → Wrote s s at (pieceBits X p) at
+put-nothing s at X p e =
+    let z : pieceBits X p ≡ [] = ap (λ (w : ℕ). piece X w (p .x)) e ∙ piece-fixed X 0 (p .x) (omega arith) in
+    rw z (record { bits = put-none (bitAt s) at; next = omega arith })
+
+-- put_bits
 module _ (s : List ℕ) (at : ℕ) (X : List ℕ) (p : Piece) where
   module _ (h : p .width < 33) where
     pub room-fixed : Room s at (length (pieceBits X p)) → Room s at (p .width)
@@ -65,7 +71,7 @@ module _ (s : List ℕ) (at : ℕ) (X : List ℕ) (p : Piece) where
     pub put-part : (t : List ℕ) (q : ℕ) → Wrote s t at (bytes (take (from + n - from) (drop from X))) q → Wrote s t at (pieceBits X p) q
     put-part t q w = rw (piece-bytes X (p .width) (p .x) (omega arith)) (rw same-part at w)
 
-pub ruleset put-piece-ways = (room-fixed, put-fixed, room-five, put-five, room-bytes, put-part)
+pub ruleset put-bits-ways = (room-fixed, put-fixed, room-five, put-five, room-bytes, put-part)
 
 -- put_note
 module _ (s : List ℕ) (at : ℕ) (X : List ℕ) (n : Note) where

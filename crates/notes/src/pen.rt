@@ -18,8 +18,8 @@ fn least(a: usize, b: usize) -> usize
     if a < b { a } else { b }
 }
 
-// A piece, and the place past it.
-fn put_piece(payload: &mut [u8], at: Bits, texts: &[u8], p: Piece) -> Bits
+// A piece, by its kind, and the place past it.
+fn put_bits(payload: &mut [u8], at: Bits, texts: &[u8], p: Piece) -> Bits
     requires { ⌜ Room (now payload) (at .0) (length (pieceBits (now texts) p)) ⌝ }
     ensures { λ r. ⌜ Wrote (now (payload .entry)) (now (payload .exit)) (at .0) (pieceBits (now (texts .entry)) p) (r .0) ⌝ }
 {
@@ -35,6 +35,18 @@ fn put_piece(payload: &mut [u8], at: Bits, texts: &[u8], p: Piece) -> Bits
     let from = least(x as usize, texts.len());
     let to = from + least(n, texts.len() - from);
     put_bytes(payload, at, &texts[from..to])
+}
+
+// A piece, and the place past it. Most events have a piece without bits: nothing is called for it.
+fn put_piece(payload: &mut [u8], at: Bits, texts: &[u8], p: Piece) -> Bits
+    requires { ⌜ Room (now payload) (at .0) (length (pieceBits (now texts) p)) ⌝ }
+    ensures { λ r. ⌜ Wrote (now (payload .entry)) (now (payload .exit)) (at .0) (pieceBits (now (texts .entry)) p) (r .0) ⌝ }
+{
+    let w = p.width;
+    if w == 0 {
+        return at;
+    }
+    put_bits(payload, at, texts, p)
 }
 
 // An event's note, and the place past it.

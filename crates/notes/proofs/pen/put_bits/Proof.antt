@@ -1,0 +1,88 @@
+-- By the three kinds of piece.
+use Rattle.notes.specs.PenWays.{put-bits-ways, room-bytes, put-part}
+use borrow.Author.Needs.{needs}
+use Rattle.notes.proofs.pen.put_bits.Statement.{statement}
+use Rattle.notes.proofs.pen.put_bits.Tie as tie
+
+put-requires : tie.Need-put-requires
+put-requires c κs = search (needs, put-bits-ways)
+
+same-length : tie.Need-same-length
+same-length c = search needs
+
+returns : tie.Need-returns
+returns c = search (needs, put-bits-ways)
+
+put5-requires : tie.Need-put5-requires
+put5-requires c κs = search (needs, put-bits-ways)
+
+same-length-2 : tie.Need-same-length-2
+same-length-2 c = search needs
+
+returns-2 : tie.Need-returns-2
+returns-2 c = search (needs, put-bits-ways)
+
+sub-n : tie.Need-sub-n
+sub-n c = search (needs, put-bits-ways)
+
+cast-n : tie.Need-cast-n
+cast-n c = search (needs, put-bits-ways)
+
+cast-least : tie.Need-cast-least
+cast-least c = search (needs, put-bits-ways)
+
+least-requires : tie.Need-least-requires
+least-requires c κs = search (needs, put-bits-ways)
+
+sub-least : tie.Need-sub-least
+sub-least c = search (needs, put-bits-ways)
+
+least-requires-2 : tie.Need-least-requires-2
+least-requires-2 c κs = search (needs, put-bits-ways)
+
+add-to : tie.Need-add-to
+add-to c = search (needs, put-bits-ways)
+
+sub-put-bytes : tie.Need-sub-put-bytes
+sub-put-bytes c = search (needs, put-bits-ways)
+
+part-put-bytes-start : tie.Need-part-put-bytes-start
+part-put-bytes-start c = search needs
+
+part-put-bytes-end : tie.Need-part-put-bytes-end
+part-put-bytes-end c = search needs
+
+put-bytes-requires : tie.Need-put-bytes-requires
+put-bytes-requires c κs =
+    search (needs, room-bytes, c .before .before .before .before .before .before .before .before .pre, c .before .before .before .before .before .if1 .left, c .before .before .before .before .if2 .left, c .before .before .before .least .ensures, c .before .before .least2 .ensures)
+
+same-length-3 : tie.Need-same-length-3
+same-length-3 c = search needs
+
+returns-3 : tie.Need-returns-3
+returns-3 c =
+    search (needs, put-part, c .before .before .before .before .before .before .before .before .if1 .left, c .before .before .before .before .before .before .before .if2 .left, c .before .before .before .before .before .before .least .ensures, c .before .before .before .before .before .least2 .ensures, c .before .before .put-bytes .ensures)
+
+pub put-bits-spec : {M : Type 1} → statement M
+put-bits-spec =
+    tie.close
+    (tie.spec
+    put-requires
+    same-length
+    returns
+    put5-requires
+    same-length-2
+    returns-2
+    sub-n
+    cast-n
+    cast-least
+    least-requires
+    sub-least
+    least-requires-2
+    add-to
+    sub-put-bytes
+    part-put-bytes-start
+    part-put-bytes-end
+    put-bytes-requires
+    same-length-3
+    returns-3)
