@@ -1,6 +1,7 @@
 pub mod Res
 pub mod Bits
 pub mod Width
+pub mod Window
 pub mod Number
 pub mod Answer
 pub mod BitLaws

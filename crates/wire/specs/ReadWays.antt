@@ -56,20 +56,11 @@ module _ (b : ℕ → ℕ) (end at w : ℕ) where
     unfolding readIs
     way-fixed-past h k = sym (wide b end at w n ∙ fixed-past b end at w (omega arith))
 
-    pub way-fixed-in : at ≤ end → w ≤ end - at → (i v : ℕ) (p : Bits) → v ≡ num b at i → i ≤ w → w ≤ i → p .0 ≡ at + w → readIs (read.Value v p) ≡ fixed32 b end at w
+    pub way-fixed-in : at ≤ end → w ≤ end - at → (v : ℕ) (p : Bits) → v ≡ num b at w → p .0 ≡ at + w → readIs (read.Value v p) ≡ fixed32 b end at w
     unfolding readIs
-    way-fixed-in h k i v p f l m g =
-        let e : i ≡ w = omega arith in
-        rw (g, f, e) (sym (wide b end at w n ∙ fixed-in b end at w (omega arith)))
+    way-fixed-in h k v p f g = rw (g, f) (sym (wide b end at w n ∙ fixed-in b end at w (omega arith)))
 
 pub ruleset fixed-ways = (way-fixed-wide, way-fixed-before, way-fixed-past, way-fixed-in)
-
--- the loop of `fixed`: a number of fewer than 32 bits has room for one more
-pub num-fits : (s : List ℕ) (at i v : ℕ) → v ≡ num (bitAt s) at i → i < 32 → v < 2 ^ 31
-num-fits s at i v e h = omega (arith, num-under (bitAt s) (bit-lt s) at {w = i} {k = 31} (omega arith))
-
-pub bit-is : (s : List ℕ) (at x : ℕ) → x ≡ bitAt s at → x < 2
-bit-is s at x e = rw e (bit-lt s at)
 
 -- and through `ones`: k ones have been read, and the place is p
 module _ (b : ℕ → ℕ) (end at k p : ℕ) (s : onesAt 8 b end at 0 ≡ onesAt (8 - k) b end p k) where

@@ -2,6 +2,7 @@
 pub mod reading; // reading.rt: from a place, below a wall
 pub mod choices; // choices.rt: how many bits tell n choices apart
 pub mod writing; // writing.rt: into a lent buffer, at a place
+mod window; // window.rt: whole words of a payload
 
 // A count of bits, or a place: bits from the payload's start. TheLength is one.
 pub struct Bits(pub u32);

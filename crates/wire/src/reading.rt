@@ -2,6 +2,7 @@
 use super::Bits;
 use super::Number;
 use super::Read;
+use super::window::window;
 ghost use mathlib.Core.Path.{_≡_};
 ghost use Prim.Native.Nat.{_+_, _*_, _≤_, _<_};
 ghost use lib.ListN.{length};
@@ -36,13 +37,7 @@ pub fn fixed(s: &[u8], end: Bits, at: Bits, w: u32) -> Read
     if e - a < w {
         return Read::Refuse(5);
     }
-    let mut v: u32 = 0;
-    let mut i: u32 = 0;
-    while i < w {
-        let x = bit(s, a + i);
-        v = v * 2 + x;
-        i += 1;
-    }
+    let v = (window(s, a) >> (57 - w)) as u32;
     let next = Bits(a + w);
     Read::Value(v, next)
 }
