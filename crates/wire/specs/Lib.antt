@@ -7,6 +7,7 @@ pub mod Answer
 pub mod BitLaws
 pub mod Steps
 pub mod ReadWays
+pub mod Whole5
 pub mod Laws5
 pub mod Laws8
 pub mod Lawful

@@ -15,8 +15,8 @@ use Rattle.wire.specs.Res.{Res, got, fault}
 use Rattle.wire.specs.Bits.{bitAt, num, fixedAt}
 use Rattle.wire.specs.BitLaws.{bit-lt, num-under, num-more, fixed-past, fixed-in}
 use Rattle.wire.specs.Answer.{readIs, numberIs, fixed32}
-use Rattle.wire.specs.Number.{onesAt, isShort, groupsAt, number5, second8At, number8, strict, read5, read8}
-use Rattle.wire.specs.Steps.{ones-past, ones-zero, ones-one, ones-full, short-one, short-not, short-more, groups-got, groups-fault, five-got, five-fault, second-fault, second-third, second-long, second-short, eight-fault, eight-one, eight-two, strict-fault, strict-short, strict-long}
+use Rattle.wire.specs.Number.{number5, second8At, number8, strict, read5, read8}
+use Rattle.wire.specs.Steps.{second-fault, second-third, second-long, second-short, eight-fault, eight-one, eight-two, strict-fault, strict-short, strict-long}
 
 -- an answer of the code that is a result of the meaning
 module _ {r : Read} {m : Res (ℕ × ℕ)} (e : readIs r ≡ m) where
@@ -60,89 +60,10 @@ module _ (b : ℕ → ℕ) (end at w : ℕ) where
     unfolding readIs
     way-fixed-in h k v p f g = rw (g, f) (sym (wide b end at w n ∙ fixed-in b end at w (omega arith)))
 
+pub num-fits : (s : List ℕ) (at w v : ℕ) → w ≤ 32 → v ≡ num (bitAt s) at w → v < 2 ^ 32
+num-fits s at w v h e = rw e (num-under (bitAt s) (bit-lt s) at h)
+
 pub ruleset fixed-ways = (way-fixed-wide, way-fixed-before, way-fixed-past, way-fixed-in)
-
--- and through `ones`: k ones have been read, and the place is p
-module _ (b : ℕ → ℕ) (end at k p : ℕ) (s : onesAt 8 b end at 0 ≡ onesAt (8 - k) b end p k) where
-  pub way-ones-full : 8 ≤ k → readIs (read.Refuse 13) ≡ onesAt 8 b end at 0
-  unfolding readIs
-  way-ones-full h = sym (s ∙ ones-full b end p k (omega arith))
-
-  module _ (h : k < 8) where
-    pub way-ones-past : end ≤ p → readIs (read.Refuse 5) ≡ onesAt 8 b end at 0
-    unfolding readIs
-    way-ones-past l = sym (s ∙ ones-past b end p (8 - k) k (omega arith) l)
-
-    module _ (l : p < end) (x : ℕ) (e : x ≡ b p) where
-      pub way-ones-zero : (q : Bits) → x ≡ 0 → q .0 ≡ p + 1 → readIs (read.Value k q) ≡ onesAt 8 b end at 0
-      unfolding readIs
-      way-ones-zero q z g = rw g (sym (s ∙ ones-zero b end p (8 - k) k (omega arith) l (sym e ∙ z)))
-
-      pub way-ones-one : (x ≡ 0 → ⊥) → onesAt 8 b end at 0 ≡ onesAt (8 - (k + 1)) b end (p + 1) (k + 1)
-      way-ones-one z = s ∙ ones-one b end p (8 - (k + 1)) k (omega arith) l (λ w. z (e ∙ w))
-
-pub ruleset ones-ways = (way-ones-full, way-ones-past)
-
--- where f more ones are too many, the ones number fewer than f more, and the place is past the zero, within the wall
-pub ones-bound : (b : ℕ → ℕ) (end f at k : ℕ) (r : ℕ × ℕ) → onesAt f b end at k ≡ got r → (r .0 < k + f) × (r .1 ≤ end)
-ones-bound b end zero at k r e =
-    let full : onesAt 0 b end at k ≡ fault 13 = ones-full b end at k refl in
-    let z : _≡_ {A = ℕ} 0 1 = cc in
-    absurd (omega arith)
-ones-bound b end (suc f) at k r e =
-    elim (decLt at end) [
-      | yes h ↦ elim (ℕ-discrete (b at) 0) [
-        | yes z ↦
-            let s = ones-zero b end at (suc f) k (omega arith) h z in
-            let q : _≡_ {A = ℕ × ℕ} (k, at + 1) r = cc in
-            rw (← q) (omega arith)
-        | no z ↦
-            let s = ones-bound b end f (at + 1) (k + 1) r (sym (ones-one b end at f k refl h z) ∙ e) in
-            omega arith
-      ]
-      | no h ↦
-          let s = ones-past b end at (suc f) k (omega arith) (omega arith) in
-          let z : _≡_ {A = ℕ} 0 1 = cc in
-          absurd (omega arith)
-    ]
-
--- groups
-module _ (b : ℕ → ℕ) (end n at : ℕ) (few : n < 8) (r : Read) (e : readIs r ≡ fixed32 b end at (4 * (n + 1))) where
-  groups-is : readIs r ≡ fixedAt b end at (4 * (n + 1))
-  groups-is = e ∙ wide b end at (4 * (n + 1)) (omega arith)
-
-  pub way-groups-refuse : (m : ℕ) → r ≡ read.Refuse m → numberIs (number.Refuse m) ≡ groupsAt b end n at
-  unfolding numberIs
-  way-groups-refuse m w = sym (groups-fault b end at n (read-refuse groups-is w))
-
-  module _ (v : ℕ) (p : Bits) (w : r ≡ read.Value v p) where
-    pub way-groups-one : n ≡ 0 → numberIs (number.Value v p true) ≡ groupsAt b end n at
-    unfolding numberIs
-    way-groups-one z = sym (groups-got b end at n (read-value groups-is w) ∙ rw (short-one n v z))
-
-    pub way-groups-not : (n ≡ 0 → ⊥) → v / 2 ^ (4 * n) ≡ 0 → numberIs (number.Value v p false) ≡ groupsAt b end n at
-    unfolding numberIs
-    way-groups-not z q = sym (groups-got b end at n (read-value groups-is w) ∙ rw (short-not n v z q))
-
-    pub way-groups-more : (n ≡ 0 → ⊥) → (v / 2 ^ (4 * n) ≡ 0 → ⊥) → numberIs (number.Value v p true) ≡ groupsAt b end n at
-    unfolding numberIs
-    way-groups-more z q = sym (groups-got b end at n (read-value groups-is w) ∙ rw (short-more n v z q))
-
-pub ruleset groups-ways = (way-groups-refuse, way-groups-one, way-groups-not, way-groups-more)
-
--- any5
-module _ (b : ℕ → ℕ) (end at : ℕ) (r : Read) (e : readIs r ≡ onesAt 8 b end at 0) where
-  pub way-five-refuse : (m : ℕ) → r ≡ read.Refuse m → numberIs (number.Refuse m) ≡ number5 b end at
-  unfolding numberIs
-  way-five-refuse m w = sym (five-fault b end at (read-refuse e w))
-
-  pub way-five-read : (n : ℕ) (p : Bits) (x : Number) → r ≡ read.Value n p → numberIs x ≡ groupsAt b end n (p .0) → numberIs x ≡ number5 b end at
-  way-five-read n p x w y = y ∙ sym (five-got b end at (read-value e w))
-
-  pub ones-few : (n : ℕ) (p : Bits) → r ≡ read.Value n p → n < 8
-  ones-few n p w = omega (arith, ones-bound b end 8 at 0 (n, p .0) (read-value e w))
-
-pub ruleset five-ways = (way-five-refuse, way-five-read, ones-few)
 
 -- any8 and its second byte
 module _ (b : ℕ → ℕ) (end at : ℕ) (r : Read) (e : readIs r ≡ fixed32 b end at 8) where

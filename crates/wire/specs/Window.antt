@@ -122,9 +122,6 @@ module _ (s : List ℕ) (at w x : ℕ) (h : w ≤ 57) (e : x ≡ num (bitAt s) a
       let f : w + (57 - w) ≡ 57 = omega arith in
       rw e (rw f at (num-high (bitAt s) (bit-lt s) at w (57 - w)))
 
-  pub first-fits : (k : ℕ) → w ≤ k → x / 2 ^ (57 - w) < 2 ^ k
-  first-fits k l = rw first-is (num-under (bitAt s) (bit-lt s) at l)
-
 -- the 57 bits from a place on, out of the eight bytes that begin with its own
 pub window-is : (s : List ℕ) (at x : ℕ) → x ≡ num (bitAt s) (8 * (at / 8)) 64 → x * 2 ^ (at % 8) % 2 ^ 64 / 2 ^ 7 ≡ num (bitAt s) at 57
 window-is s at x e = rw e (cut (at % 8) (7 - at % 8) (omega arith) (omega arith))

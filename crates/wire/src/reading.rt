@@ -2,13 +2,16 @@
 use super::Bits;
 use super::Number;
 use super::Read;
+use super::window::cut;
 use super::window::window;
 ghost use mathlib.Core.Path.{_≡_};
 ghost use Prim.Native.Nat.{_+_, _*_, _≤_, _<_};
 ghost use lib.ListN.{length};
 ghost use Rattle.wire.specs.Bits.{bitAt};
-ghost use Rattle.wire.specs.Number.{onesAt, groupsAt, second8At, number5, number8, strict, read5, read8};
+ghost use Rattle.wire.specs.Number.{isShort, second8At, number5, number8, strict, read5, read8};
 ghost use Rattle.wire.specs.Answer.{readIs, numberIs, fixed32};
+ghost use Rattle.wire.specs.Res.{got};
+ghost use Rattle.wire.specs.Whole5.{Leading, cutGroups};
 
 // The bit at a place.
 pub fn bit(s: &[u8], at: u32) -> u32
@@ -37,61 +40,87 @@ pub fn fixed(s: &[u8], end: Bits, at: Bits, w: u32) -> Read
     if e - a < w {
         return Read::Refuse(5);
     }
-    let v = (window(s, a) >> (57 - w)) as u32;
+    let v = cut(s, a, w) as u32;
     let next = Bits(a + w);
     Read::Value(v, next)
 }
 
-// The ones before a zero, and the place past the zero; an eighth one is 13.
-fn ones(s: &[u8], end: Bits, at: Bits) -> Read
-    requires { ⌜ end .0 ≤ 8 * length (now s) ⌝ }
-    ensures { λ r. ⌜ readIs r ≡ onesAt 8 (bitAt (now (s .entry))) (end .0) (at .0) 0 ⌝ }
+// The ones that eight bits begin with.
+fn leading(y: u64) -> u32
+    requires { ⌜ y < 256 ⌝ }
+    ensures { λ r. ⌜ Leading y r ⌝ }
 {
-    let e = end.0;
-    let mut k: u32 = 0;
-    let mut p = at.0;
-    while k < 8 {
-        if e <= p {
-            return Read::Refuse(5);
-        }
-        if bit(s, p) == 0 {
-            let next = Bits(p + 1);
-            return Read::Value(k, next);
-        }
-        p += 1;
-        k += 1;
+    if y < 128 {
+        return 0;
     }
-    Read::Refuse(13)
+    if y < 192 {
+        return 1;
+    }
+    if y < 224 {
+        return 2;
+    }
+    if y < 240 {
+        return 3;
+    }
+    if y < 248 {
+        return 4;
+    }
+    if y < 252 {
+        return 5;
+    }
+    if y < 254 {
+        return 6;
+    }
+    if y < 255 {
+        return 7;
+    }
+    8
 }
 
-// The groups of a vluimsbf5 after n ones and the zero.
-fn groups(s: &[u8], end: Bits, n: u32, at: Bits) -> Number
-    requires { ⌜ (end .0 ≤ 8 * length (now s)) × (n < 8) ⌝ }
-    ensures { λ r. ⌜ numberIs r ≡ groupsAt (bitAt (now (s .entry))) (end .0) n (at .0) ⌝ }
+// The groups after n ones and the zero with which a window begins.
+fn cut5(x: u64, n: u32, next: Bits) -> Number
+    requires { ⌜ (0 < n) × (n < 8) ⌝ }
+    ensures { λ r. ⌜ numberIs r ≡ got (cutGroups x n, next .0, isShort n (cutGroups x n)) ⌝ }
 {
-    match fixed(s, end, at, 4 * (n + 1)) {
-        Read::Refuse(e) => Number::Refuse(e),
-        Read::Value(v, p) => {
-            if n == 0 {
-                return Number::Value(v, p, true);
-            }
-            if v >> (4 * n) == 0 {
-                return Number::Value(v, p, false);
-            }
-            Number::Value(v, p, true)
-        }
+    let m = n + 1;
+    let v = ((x >> (57 - 5 * m)) % (1u64 << (4 * m))) as u32;
+    if v >> (4 * n) == 0 {
+        return Number::Value(v, next, false);
     }
+    Number::Value(v, next, true)
 }
 
-// vluimsbf5, in shortest form or not.
+// vluimsbf5, in shortest form or not: all of it lies in one window.
 pub fn any5(s: &[u8], end: Bits, at: Bits) -> Number
     requires { ⌜ end .0 ≤ 8 * length (now s) ⌝ }
     ensures { λ r. ⌜ numberIs r ≡ number5 (bitAt (now (s .entry))) (end .0) (at .0) ⌝ }
 {
-    match ones(s, end, at) {
-        Read::Refuse(e) => Number::Refuse(e),
-        Read::Value(n, p) => groups(s, end, n, p),
+    let a = at.0;
+    let e = end.0;
+    if e < a {
+        return Number::Refuse(5);
     }
+    let left = e - a;
+    let x = window(s, a);
+    if x < 72057594037927936 {
+        if left < 5 {
+            return Number::Refuse(5);
+        }
+        let next = Bits(a + 5);
+        return Number::Value((x >> 52) as u32, next, true);
+    }
+    let n = leading(x >> 49);
+    if 8 <= n {
+        if left < 8 {
+            return Number::Refuse(5);
+        }
+        return Number::Refuse(13);
+    }
+    if left < 5 * (n + 1) {
+        return Number::Refuse(5);
+    }
+    let next = Bits(a + 5 * (n + 1));
+    cut5(x, n, next)
 }
 
 // vluimsbf8 of at most two bytes, in shortest form or not.

@@ -83,3 +83,17 @@ pub fn window(s: &[u8], at: u32) -> u64
     }
     (last(s, i) << r) >> 7
 }
+
+// The number that w bits are from a place on; those past the payload's end are 0. Beside `window` so that near the end both call `last`,
+// which then stays out of the way of what is done elsewhere.
+pub fn cut(s: &[u8], at: u32, w: u32) -> u64
+    requires { ⌜ w ≤ 57 ⌝ }
+    ensures { λ r. ⌜ r ≡ num (bitAt (now (s .entry))) at w ⌝ }
+{
+    let i = (at / 8) as usize;
+    let r = at % 8;
+    if i + 8 <= s.len() {
+        return ((eight(s, i) << r) >> 7) >> (57 - w);
+    }
+    ((last(s, i) << r) >> 7) >> (57 - w)
+}
