@@ -12,4 +12,5 @@ pub mod Laws5
 pub mod Laws8
 pub mod Lawful
 pub mod Put
+pub mod Store
 pub mod WriteWays

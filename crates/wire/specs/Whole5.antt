@@ -17,7 +17,7 @@ use Rattle.wire.specs.BitLaws.{bit-lt, num-lt, num-more, fixed-in, fixed
 use Rattle.wire.specs.Answer.{numberIs}
 use Rattle.wire.specs.Number.{onesAt, isShort, groupsAt, number5}
 use Rattle.wire.specs.Steps.{ones-past, ones-zero, ones-one, ones-full, short-one, short-not, short-more, groups-got, groups-fault, five-got, five-fault}
-use Rattle.wire.specs.Window.{num-split, num-high, num-low, first-is}
+use Rattle.wire.specs.Window.{num-split, num-high, num-low, first-is, mask}
 
 -- of the eight bits y the first n are ones, and if there is one after them it is a zero
 pub record Leading (y n : ℕ) : Type 0 where
@@ -135,18 +135,12 @@ window-fits s at x e = let l = num-lt (bitAt s) (bit-lt s) at 57 in omega arith
 
 -- the ways through `cut5`: m is n + 1
 module _ (x n : ℕ) (some : 0 < n) (few : n < 8) where
-  mask : 1 * 2 ^ (4 * (n + 1)) % 2 ^ 64 ≡ 2 ^ (4 * (n + 1))
-  mask = shl-exact {a = 1} 1 (4 * (n + 1)) 64 (omega arith) (omega arith) ∙ omega arith
-
-  pub mask-some : 0 < 1 * 2 ^ (4 * (n + 1)) % 2 ^ 64
-  mask-some = rw mask (pow-pos (4 * (n + 1)))
-
   pub cut-is : x / 2 ^ (57 - 5 * (n + 1)) % (1 * 2 ^ (4 * (n + 1)) % 2 ^ 64) ≡ cutGroups x n
   unfolding cutGroups
-  cut-is = rw mask
+  cut-is = rw (mask (4 * (n + 1)) (omega arith))
 
   pub cut-fits : x / 2 ^ (57 - 5 * (n + 1)) % (1 * 2 ^ (4 * (n + 1)) % 2 ^ 64) < 2 ^ 32
-  cut-fits = rw mask (lt-of-lt-of-le (mod-lt (x / 2 ^ (57 - 5 * (n + 1))) (pow-pos (4 * (n + 1)))) (pow-mono {i = 4 * (n + 1)} {j = 32} (omega arith)))
+  cut-fits = rw (mask (4 * (n + 1)) (omega arith)) (lt-of-lt-of-le (mod-lt (x / 2 ^ (57 - 5 * (n + 1))) (pow-pos (4 * (n + 1)))) (pow-mono {i = 4 * (n + 1)} {j = 32} (omega arith)))
 
   module _ (v : ℕ) (p : Bits) (e : v ≡ cutGroups x n) where
     pub way-cut-long : v / 2 ^ (4 * n) ≡ 0 → numberIs (number.Value v p false) ≡ got (cutGroups x n, p .0, isShort n (cutGroups x n))

@@ -5,7 +5,7 @@ use mathlib.Core.List.{List}
 use native.Mathlib.Nat.{add-zero, add-suc, div-eq-of-lt, div-div-eq-div-mul, zero-div, pow-suc}
 use native.Mathlib.Omega.{arith}
 use lib.ListN.{length, getD, List·getD-eq-default}
-use lib.Pow.{pow-add, shl-lt, shl-shr, shr-shr, high, low}
+use lib.Pow.{pow-pos, pow-add, shl-lt, shl-exact, shl-shr, shr-shr, high, low}
 use Rattle.wire.specs.Bits.{bitAt, num}
 use Rattle.wire.specs.BitLaws.{bit-lt, num-lt, num-under}
 
@@ -46,6 +46,13 @@ past-zero s at (suc w) h =
     let ih = past-zero s at w h in
     let e : getD s ((at + w) / 8) 0 ≡ 0 = List·getD-eq-default s 0 {n = (at + w) / 8} (omega arith) in
     rw (ih, e) (omega (arith, zero-div (2 ^ (7 - (at + w) % 8))))
+
+-- the shift that makes a power of 2 to divide by
+pub mask : (w : ℕ) → w ≤ 40 → 1 * 2 ^ w % 2 ^ 64 ≡ 2 ^ w
+mask w h = shl-exact {a = 1} 1 w 64 (omega arith) (omega arith) ∙ omega arith
+
+pub mask-some : (w : ℕ) → w ≤ 40 → 0 < 1 * 2 ^ w % 2 ^ 64
+mask-some w h = rw (mask w h) (pow-pos w)
 
 -- a byte is the number that its bits are
 module _ (s : List ℕ) (i : ℕ) (h : getD s i 0 < 256) where

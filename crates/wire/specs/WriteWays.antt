@@ -14,9 +14,9 @@ use Rattle.wire.specs.Number.{more, codeOf5, code5, code8}
 use Rattle.wire.specs.Steps.{more-few, more-many}
 use Rattle.wire.specs.Put.{Put, Wrote, put-none, put-both, wrote-both}
 
--- a word has no bit past its 32nd
-pub high-digit : (v k : ℕ) → v < 2 ^ 32 → 32 ≤ k → 0 ≡ v / 2 ^ k % 2
-high-digit v k h l = let e : v / 2 ^ k ≡ 0 = div-eq-of-lt (omega (arith, pow-mono {i = 32} {j = k} l)) in rw e
+-- a word has no bit past its 64th
+pub high-digit : (v k : ℕ) → v < 2 ^ 64 → 64 ≤ k → 0 ≡ v / 2 ^ k % 2
+high-digit v k h l = let e : v / 2 ^ k ≡ 0 = div-eq-of-lt (omega (arith, pow-mono {i = 64} {j = k} l)) in rw e
 
 -- the loop that writes the bits of a number: where it begins, a turn, and its end
 half-pow : (v k : ℕ) → v / 2 ^ k / 2 ≡ v / 2 ^ suc k
@@ -38,15 +38,19 @@ put-turn b c d at i w v x h f p q =
     let e′ : w - i - 1 ≡ w - (i + 1) = omega arith in
     put-more b c d at i (v / 2 ^ (w - (i + 1))) (rw half-pow (rw e at p)) (rw (f, e′) at q)
 
-pub put-end : (s t : List ℕ) (at i w v p : ℕ) → i ≤ w → w ≤ i → Put (bitAt s) (bitAt t) at (digits i (v / 2 ^ (w - i))) → p ≡ at + w → Wrote s t at (digits w v) p
-put-end s t at i w v p h l f g =
+pub put-end : (b c : ℕ → ℕ) (at i w v : ℕ) → i ≤ w → w ≤ i → Put b c at (digits i (v / 2 ^ (w - i))) → Put b c at (digits w v)
+put-end b c at i w v h l f =
     let k : i ≡ w = omega arith in
     let e : w - i ≡ 0 = omega arith in
     let one : v / 2 ^ 0 ≡ v = omega arith in
-    record {
-      bits = subst₂ (λ (j u : ℕ). Put (bitAt s) (bitAt t) at (digits j u)) k (ap (λ (k : ℕ). v / 2 ^ k) e ∙ one) f;
-      next = omega (arith, length-digits w v);
-    }
+    subst₂ (λ (j u : ℕ). Put b c at (digits j u)) k (ap (λ (k : ℕ). v / 2 ^ k) e ∙ one) f
+
+-- a write of bits with the place past them
+pub wrote-is : (s t : List ℕ) (at w v : ℕ) → Put (bitAt s) (bitAt t) at (digits w v) → Wrote s t at (digits w v) (at + w)
+wrote-is s t at w v f = record { bits = f; next = omega (arith, length-digits w v) }
+
+pub put-zero : (b : ℕ → ℕ) (at w v : ℕ) → w ≡ 0 → Put b b at (digits w v)
+put-zero b at w v e = rw e (put-start b at v)
 
 -- the loop of `extra`
 pub record Extra (v n u : ℕ) : Type 0 where

@@ -3,6 +3,7 @@ ghost use mathlib.Core.Path.{_≡_};
 ghost use Prim.Native.Nat.{_+_, _*_, _^_, _≤_, _<_};
 ghost use lib.ListN.{length, getD};
 ghost use Rattle.wire.specs.Bits.{bitAt, num};
+ghost use Rattle.wire.specs.Store.{Stored};
 
 // A byte as a word.
 fn wide(x: u8) -> u64
@@ -24,7 +25,7 @@ fn four(s: &[u8], i: usize) -> u64
 }
 
 // The number that eight bytes are.
-fn eight(s: &[u8], i: usize) -> u64
+pub fn eight(s: &[u8], i: usize) -> u64
     requires { ⌜ i + 8 ≤ length (now s) ⌝ }
     ensures { λ r. ⌜ r ≡ num (bitAt (now (s .entry))) (8 * i) 64 ⌝ }
 {
@@ -96,4 +97,19 @@ pub fn cut(s: &[u8], at: u32, w: u32) -> u64
         return ((eight(s, i) << r) >> 7) >> (57 - w);
     }
     ((last(s, i) << r) >> 7) >> (57 - w)
+}
+
+// Eight bytes that are the number y, in the form that the back end stores at once.
+pub fn store(buf: &mut [u8], i: usize, y: u64)
+    requires { ⌜ i + 8 ≤ length (now buf) ⌝ }
+    ensures { λ _. ⌜ Stored (now (buf .entry)) (now (buf .exit)) i 8 y ⌝ }
+{
+    buf[i] = ((y >> 56) % 256) as u8;
+    buf[i + 1] = ((y >> 48) % 256) as u8;
+    buf[i + 2] = ((y >> 40) % 256) as u8;
+    buf[i + 3] = ((y >> 32) % 256) as u8;
+    buf[i + 4] = ((y >> 24) % 256) as u8;
+    buf[i + 5] = ((y >> 16) % 256) as u8;
+    buf[i + 6] = ((y >> 8) % 256) as u8;
+    buf[i + 7] = (y % 256) as u8;
 }

@@ -1,6 +1,8 @@
 // Codes written into a lent buffer at a place; no other bit changes.
 use super::Bits;
 use super::Read;
+use super::window::eight;
+use super::window::store;
 ghost use mathlib.Core.Path.{_≡_};
 ghost use mathlib.Core.List.{[], _∷_};
 ghost use Prim.Native.Nat.{_+_, _*_, _/_, _%_, _^_, _≤_, _<_};
@@ -26,13 +28,73 @@ fn put_bit(buf: &mut [u8], at: u32, x: u8)
 }
 
 // Bit k of v, from its lowest.
-fn digit(v: u32, k: u32) -> u8
+fn digit(v: u64, k: u32) -> u8
     ensures { λ r. ⌜ r ≡ v / 2 ^ k % 2 ⌝ }
 {
-    if 32 <= k {
+    if 64 <= k {
         return 0;
     }
     ((v >> k) % 2) as u8
+}
+
+// The w lowest bits of v, the highest first, one by one: where no word can be stored over them.
+fn put_slow(buf: &mut [u8], at: u32, w: u32, v: u64)
+    requires { ⌜ Room (now buf) at w ⌝ }
+    ensures { λ _. ⌜ Put (bitAt (now (buf .entry))) (bitAt (now (buf .exit))) at (digits w v) ⌝ }
+{
+    let mut i: u32 = 0;
+    while i < w {
+        let x = digit(v, w - i - 1);
+        put_bit(buf, at + i, x);
+        i += 1;
+    }
+}
+
+// Where eight bytes begin that hold the w bits from a place on.
+fn base(n: usize, at: u32, w: u32) -> u32
+    requires { ⌜ (8 ≤ n) × (at + w ≤ 8 * n) × (w ≤ 40) ⌝ }
+    ensures { λ r. ⌜ (r + 8 ≤ n) × (8 * r ≤ at) × (at + w ≤ 8 * r + 64) ⌝ }
+{
+    let q = at / 8;
+    let last = n - 8;
+    if last < (q as usize) {
+        return last as u32;
+    }
+    q
+}
+
+// The w lowest bits of v as the field of a word of eight bytes.
+fn put_word(buf: &mut [u8], at: u32, w: u32, v: u64)
+    requires { ⌜ (8 ≤ length (now buf)) × (at + w ≤ 8 * length (now buf)) × (0 < w) × (w ≤ 40) ⌝ }
+    ensures { λ _. ⌜ Put (bitAt (now (buf .entry))) (bitAt (now (buf .exit))) at (digits w v) ⌝ }
+{
+    let q = base(buf.len(), at, w);
+    let i = q as usize;
+    let d = 64 - (at - 8 * q) - w;
+    let x = eight(buf, i);
+    let m = 1u64 << w;
+    let old = ((x >> d) % m) << d;
+    let new = (v % m) << d;
+    store(buf, i, x - old + new);
+}
+
+// The w lowest bits of v, the highest first.
+fn put_bits(buf: &mut [u8], at: u32, w: u32, v: u64)
+    requires { ⌜ Room (now buf) at w ⌝ }
+    ensures { λ _. ⌜ Put (bitAt (now (buf .entry))) (bitAt (now (buf .exit))) at (digits w v) ⌝ }
+{
+    if w == 0 {
+        return;
+    }
+    if 40 < w {
+        put_slow(buf, at, w, v);
+        return;
+    }
+    if buf.len() < 8 {
+        put_slow(buf, at, w, v);
+        return;
+    }
+    put_word(buf, at, w, v);
 }
 
 // The w lowest bits of v, the highest first; the place past them.
@@ -41,12 +103,7 @@ pub fn put(buf: &mut [u8], at: Bits, w: u32, v: u32) -> Bits
     ensures { λ r. ⌜ Wrote (now (buf .entry)) (now (buf .exit)) (at .0) (digits w v) (r .0) ⌝ }
 {
     let a = at.0;
-    let mut i: u32 = 0;
-    while i < w {
-        let x = digit(v, w - i - 1);
-        put_bit(buf, a + i, x);
-        i += 1;
-    }
+    put_bits(buf, a, w, v as u64);
     Bits(a + w)
 }
 

@@ -1,6 +1,7 @@
 -- The groups are a quotient's remainder; the first of them tells whether they are the shortest.
 use native.Mathlib.Omega.{arith}
-use Rattle.wire.specs.Whole5.{mask-some, cut-is, cut-fits, way-cut-long, way-cut-short}
+use Rattle.wire.specs.Window.{mask-some}
+use Rattle.wire.specs.Whole5.{cut-is, cut-fits, way-cut-long, way-cut-short}
 use borrow.Author.Needs.{needs}
 use Rattle.wire.proofs.reading.cut5.Statement.{statement}
 use Rattle.wire.proofs.reading.cut5.Tie as tie
@@ -30,7 +31,7 @@ shl-v : tie.Need-shl-v
 shl-v c = search needs
 
 rem-v : tie.Need-rem-v
-rem-v c = mask-some 0 _ (omega arith) (omega arith)
+rem-v c = mask-some _ (omega arith)
 
 cast-v-3 : tie.Need-cast-v-3
 cast-v-3 c = record { fits = cut-fits _ _ (omega arith) (omega arith) }

@@ -1,4 +1,4 @@
--- A word has no bit past its 32nd.
+-- A word has no bit past its 64th.
 use Rattle.wire.specs.WriteWays.{high-digit}
 use borrow.Author.Needs.{needs}
 use Rattle.wire.proofs.writing.digit.Statement.{statement}
