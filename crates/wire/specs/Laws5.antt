@@ -14,6 +14,7 @@ use Rattle.wire.specs.Bits.{num, fixedAt, digits, Has}
 use Rattle.wire.specs.BitLaws.{num-lt, fixed-in, fixed-gives, has-left, has-right, has-both, num-digits, digits-num, At}
 use Rattle.wire.specs.Number.{onesAt, isShort, groupsAt, number5, strict, read5, more, codeOf5, code5}
 use Rattle.wire.specs.Steps.{ones-past, ones-zero, ones-one, ones-full, short-one, short-not, short-more, groups-got, five-got, strict-short, more-few, more-many}
+use Rattle.wire.specs.Groups.{pow16, pow16-more, pos16, Shortest, more-is, more-shortest}
 use Rattle.wire.specs.WriteWays.{length-codeOf5}
 
 -- the ones, the zero
@@ -58,20 +59,6 @@ code-ones b bits end (suc f) at k =
       stop = ap b (omega arith) ∙ r .stop;
     }
 
--- the number of groups
-pow16 : (n : ℕ) → 2 ^ (4 * n) ≡ 16 ^ n
-pow16 zero = refl
-pow16 (suc n) =
-    let e : 4 * suc n ≡ 4 + 4 * n = omega arith in
-    rw (e, pow-add) (omega (arith, pow16 n))
-
-pow16-more : (n : ℕ) → 2 ^ (4 * (n + 1)) ≡ 16 ^ suc n
-pow16-more n = pow16 (n + 1) ∙ rw add-one
-
-pos16 : (n : ℕ) → 0 < 16 ^ n
-pos16 zero = omega arith
-pos16 (suc n) = omega (arith, pos16 n)
-
 -- never more than f
 pub more-least : (f v : ℕ) → more f v ≤ f
 unfolding more
@@ -80,29 +67,6 @@ more-least (suc f) v = elim (decLt v 16) [
   | yes h ↦ rw (more-few (suc f) v h) (omega arith)
   | no h ↦ rw (more-many f v (omega arith)) (omega (arith, more-least f (v / 16)))
 ]
-
--- n + 1 groups hold v, and fewer do not; that one group is 0 is right
-record Shortest (n v : ℕ) : Type 0 where
-  holds : v < 16 ^ suc n
-  least : 16 ^ n ≤ max 1 v
-
-more-is : (f n v : ℕ) → n ≤ f → Shortest n v → more f v ≡ n
-unfolding more
-more-is zero n v h s = omega arith
-more-is (suc f) zero v h s = more-few (suc f) v (s .holds)
-more-is (suc f) (suc n) v h s =
-    let p = pos16 n in
-    more-many f v (omega arith) ∙ ap suc (more-is f n (v / 16) (omega arith) (record { holds = omega arith; least = omega arith }))
-
-more-shortest : (f v : ℕ) → v < 16 ^ suc f → Shortest (more f v) v × (more f v ≤ f)
-more-shortest zero v h = rw (more-few 0 v h) (record { holds = h; least = omega arith }, omega arith)
-more-shortest (suc f) v h =
-    elim (decLt v 16) [
-      | yes l ↦ rw (more-few (suc f) v l) (record { holds = omega arith; least = omega arith }, omega arith)
-      | no l ↦
-          let r = more-shortest f (v / 16) (omega arith) in
-          rw (more-many f v (omega arith)) (record { holds = omega arith; least = omega arith }, omega arith)
-    ]
 
 quotient-zero : (v m : ℕ) → 0 < m → v / m ≡ 0 → v < m
 quotient-zero v m h e = omega (arith, div-lt-iff-lt-mul {k = m} {x = v} {y = 1} h .0 (omega arith))

@@ -8,6 +8,7 @@ pub mod BitLaws
 pub mod Steps
 pub mod ReadWays
 pub mod Whole5
+pub mod Groups
 pub mod Laws5
 pub mod Laws8
 pub mod Lawful

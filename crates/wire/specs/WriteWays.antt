@@ -1,17 +1,19 @@
 -- The steps of the functions that write, as the code goes them.
-use Prim.Native.Nat.{ℕ, zero, suc, _+_, _-_, _*_, _/_, _%_, _^_, _<_, _≤_}
+use Prim.Native.Nat.{ℕ, zero, suc, _+_, _-_, _*_, _/_, _%_, _^_, _<_, _≤_, max}
 use mathlib.Core.Path.{_≡_, refl, sym, ap, subst, subst₂, _∙_}
-use mathlib.Core.List.{List, [], _∷_, _++_, append-assoc}
-use native.Mathlib.Nat.{div-div-eq-div-mul, div-eq-of-lt}
+use mathlib.Core.List.{List, [], _∷_, _++_, append-assoc, append-nil}
+use native.Mathlib.Nat.{add-zero, add-suc, pow-suc, lt-of-lt-of-le, div-div-eq-div-mul, div-eq-of-lt}
 use native.Mathlib.Numerals.{add-one}
 use native.Mathlib.Omega.{arith}
 use borrow.Author.Tests.{lt-ltb, le-ltb}
 use lib.ListN.{length, replicate, length-append, length-replicate, replicate-append-replicate}
-use lib.Pow.{pow-pos, pow-mono, shl-exact}
+use lib.Arith.{digits-lt}
+use lib.Pow.{pow-pos, pow-add, pow-mono, shl-exact}
 use Rattle.wire.specs.Bits.{bitAt, digits}
 use Rattle.wire.specs.BitLaws.{length-digits}
 use Rattle.wire.specs.Number.{more, codeOf5, code5, code8}
-use Rattle.wire.specs.Steps.{more-few, more-many}
+use Rattle.wire.specs.Groups.{pow16-more, Shortest, more-is, more-shortest}
+use Rattle.wire.specs.Window.{mask}
 use Rattle.wire.specs.Put.{Put, Wrote, put-none, put-both, wrote-both}
 
 -- a word has no bit past its 64th
@@ -52,28 +54,9 @@ wrote-is s t at w v f = record { bits = f; next = omega (arith, length-digits w 
 pub put-zero : (b : ℕ → ℕ) (at w v : ℕ) → w ≡ 0 → Put b b at (digits w v)
 put-zero b at w v e = rw e (put-start b at v)
 
--- the loop of `extra`
-pub record Extra (v n u : ℕ) : Type 0 where
-  pub few : n ≤ 7
-  pub under : u < 16 ^ suc (7 - n)
-  pub rest : more 7 v ≡ n + more (7 - n) u
-
-pub extra-start : (v : ℕ) → v < 2 ^ 32 → Extra v 0 v
-extra-start v h = record { few = omega arith; under = h; rest = omega arith }
-
-pub extra-turn : (v n u : ℕ) → Extra v n u → 16 ≤ u → Extra v (n + 1) (u / 16)
-extra-turn v n u x h = go (7 - n) refl
-  where
-    go : (f : ℕ) → 7 - n ≡ f → Extra v (n + 1) (u / 16)
-    go zero e = let r : u < 16 = rw e at (x .under) in absurd (omega arith)
-    go (suc f) e =
-        let r : u < 16 ^ suc (suc f) = rw e at (x .under) in
-        let s : more 7 v ≡ n + more (suc f) u = rw e at (x .rest) in
-        let g : 7 - (n + 1) ≡ f = omega arith in
-        record { few = omega arith; under = rw g (omega arith); rest = rw g (omega (arith, more-many f u h)) }
-
-pub extra-end : (v n u : ℕ) → Extra v n u → u < 16 → n ≡ more 7 v
-extra-end v n u x h = omega (arith, x .rest, more-few (7 - n) u h)
+-- the ways through `extra`
+pub extra-is : (n v : ℕ) → n ≤ 7 → v < 16 ^ suc n → 16 ^ n ≤ max 1 v → (n ≡ more 7 v) × (n ≤ 7)
+extra-is n v h l k = (sym (more-is 7 n v h (record { holds = l; least = k })), h)
 
 -- the ones and the zero, as a number
 ones-digits : (n : ℕ) → digits n (2 ^ n - 1) ≡ replicate n 1
@@ -85,10 +68,10 @@ ones-digits (suc n) =
     let b : (2 ^ suc n - 1) % 2 ≡ 1 = omega arith in
     rw (a, b, ones-digits n) (replicate-append-replicate {A = ℕ} n 1 1 ∙ rw add-one)
 
-shl-more : (n : ℕ) → n ≤ 7 → 1 * 2 ^ (n + 1) % 2 ^ 32 ≡ 2 ^ suc n
-shl-more n h = shl-exact {a = 1} 1 (n + 1) 32 (omega arith) (omega arith) ∙ rw add-one (omega arith)
+shl-more : (n : ℕ) → n ≤ 7 → 1 * 2 ^ (n + 1) % 2 ^ 64 ≡ 2 ^ suc n
+shl-more n h = mask (n + 1) (omega arith) ∙ rw add-one
 
-unary : (n : ℕ) → n ≤ 7 → digits (n + 1) (1 * 2 ^ (n + 1) % 2 ^ 32 - 2) ≡ replicate n 1 ++ (0 ∷ [])
+unary : (n : ℕ) → n ≤ 7 → digits (n + 1) (1 * 2 ^ (n + 1) % 2 ^ 64 - 2) ≡ replicate n 1 ++ (0 ∷ [])
 unfolding digits
 unary n h =
     let p = pow-pos n in
@@ -96,7 +79,7 @@ unary n h =
     let b : (2 ^ suc n - 2) % 2 ≡ 0 = omega arith in
     rw (shl-more n h) (subst (λ (m : ℕ). digits m (2 ^ suc n - 2) ≡ replicate n 1 ++ (0 ∷ [])) (sym (add-one n)) (rw (a, b, ones-digits n)))
 
-pub shl-two : (n : ℕ) → n ≤ 7 → 2 ≤ 1 * 2 ^ (n + 1) % 2 ^ 32
+pub shl-two : (n : ℕ) → n ≤ 7 → 2 ≤ 1 * 2 ^ (n + 1) % 2 ^ 64
 shl-two n h = rw (shl-more n h) (omega (arith, pow-pos n))
 
 pub length-codeOf5 : (n v : ℕ) → length (codeOf5 n v) ≡ 5 * (n + 1)
@@ -111,16 +94,42 @@ length-code5 n v e = rw (← e) (length-codeOf5 n v)
 pub size5-is : (n v p : ℕ) → n ≡ more 7 v → p ≡ 5 * (n + 1) → p ≡ length (code5 v)
 size5-is n v p e f = f ∙ sym (length-code5 n v e)
 
-pub put5-done : (s t u : List ℕ) (at n v p q : ℕ) → n ≡ more 7 v → n ≤ 7
-    → Wrote s t at (digits (n + 1) (1 * 2 ^ (n + 1) % 2 ^ 32 - 2)) p → Wrote t u p (digits (4 * (n + 1)) v) q → Wrote s u at (code5 v) q
-unfolding code5 codeOf5
-put5-done s t u at n v p q e h f g =
-    let f′ : Wrote s t at (replicate n 1 ++ (0 ∷ [])) p = rw (unary n h) at f in
-    let r = wrote-both s t u at p q (replicate n 1 ++ (0 ∷ [])) (digits (4 * (n + 1)) v) f′ g in
-    rw (← e) (rw append-assoc at r)
+-- two runs of bits are the bits of one number
+digits-split : (m k a b : ℕ) → b < 2 ^ k → digits (m + k) (a * 2 ^ k + b) ≡ digits m a ++ digits k b
+unfolding digits
+digits-split m zero a b h =
+    let e : a * 2 ^ 0 + b ≡ a = omega arith in
+    rw (add-zero, e, append-nil)
+digits-split m (suc k) a b h =
+    let e : (a * 2 ^ suc k + b) / 2 ≡ a * 2 ^ k + b / 2 = rw pow-suc (omega arith) in
+    let f : (a * 2 ^ suc k + b) % 2 ≡ b % 2 = rw pow-suc (omega arith) in
+    rw (add-suc, e, f, digits-split m k a (b / 2) (omega arith)) (append-assoc (digits m a) (digits k (b / 2)) (b % 2 ∷ []))
 
-pub put5-half : (s : List ℕ) (at n v p w : ℕ) {t : List ℕ} → n ≡ more 7 v → Wrote s t at (digits (n + 1) w) p → p + 4 * (n + 1) ≡ at + length (code5 v)
-put5-half s at n v p w e f = omega (arith, length-code5 n v e, f .next, length-digits (n + 1) w)
+-- `put5` writes the ones, the zero and the groups as one number
+module _ (n v : ℕ) (e : n ≡ more 7 v) (h : n ≤ 7) (small : v < 2 ^ 32) where
+  groups-hold : v < 2 ^ (4 * (n + 1))
+  groups-hold = rw (e, pow16-more) (more-shortest 7 v small .0 .holds)
+
+  ones-fit : (1 * 2 ^ (n + 1) % 2 ^ 64 - 2) * 2 ^ (4 * (n + 1)) % 2 ^ 64 ≡ (1 * 2 ^ (n + 1) % 2 ^ 64 - 2) * 2 ^ (4 * (n + 1))
+  ones-fit = shl-exact (n + 1) (4 * (n + 1)) 64 (rw (mask (n + 1) (omega arith)) (omega (arith, pow-pos (n + 1)))) (omega arith)
+
+  pub five-fits : (1 * 2 ^ (n + 1) % 2 ^ 64 - 2) * 2 ^ (4 * (n + 1)) % 2 ^ 64 + v < 2 ^ 64
+  five-fits =
+      let p : 2 ^ (n + 1) * 2 ^ (4 * (n + 1)) ≡ 2 ^ (n + 1 + 4 * (n + 1)) = sym (pow-add 2 (n + 1) (4 * (n + 1))) in
+      let q = pow-mono {i = n + 1 + 4 * (n + 1)} {j = 64} (omega arith) in
+      let u : 1 * 2 ^ (n + 1) % 2 ^ 64 - 2 < 2 ^ (n + 1) = rw (mask (n + 1) (omega arith)) (omega (arith, pow-pos (n + 1))) in
+      rw ones-fit (lt-of-lt-of-le (digits-lt u groups-hold) (rw p q))
+
+  pub five-digits : digits (5 * (n + 1)) ((1 * 2 ^ (n + 1) % 2 ^ 64 - 2) * 2 ^ (4 * (n + 1)) % 2 ^ 64 + v) ≡ code5 v
+  unfolding code5 codeOf5
+  five-digits =
+      let d : 5 * (n + 1) ≡ n + 1 + 4 * (n + 1) = omega arith in
+      rw (← e, d, ones-fit, digits-split (n + 1) (4 * (n + 1)) (1 * 2 ^ (n + 1) % 2 ^ 64 - 2) v groups-hold, unary n h) (append-assoc (replicate n 1) (0 ∷ []) (digits (4 * (n + 1)) v))
+
+pub put5-done : (s t : List ℕ) (at n v : ℕ) → n ≡ more 7 v → n ≤ 7 → v < 2 ^ 32
+    → Put (bitAt s) (bitAt t) at (digits (5 * (n + 1)) ((1 * 2 ^ (n + 1) % 2 ^ 64 - 2) * 2 ^ (4 * (n + 1)) % 2 ^ 64 + v))
+    → Wrote s t at (code5 v) (at + 5 * (n + 1))
+put5-done s t at n v e h l f = record { bits = rw (five-digits n v e h l) at f; next = omega (arith, length-code5 n v e) }
 
 -- and through `put8`
 pub length-short8 : (v : ℕ) → v < 128 → length (code8 v) ≡ 8
@@ -135,9 +144,6 @@ pub put8-short : (s t : List ℕ) (at v p : ℕ) → v < 128 → Wrote s t at (d
 unfolding code8
 put8-short s t at v p h f = rw (lt-ltb v 128 h) f
 
-pub put8-long : (s t u : List ℕ) (at v p q : ℕ) → 128 ≤ v → Wrote s t at (digits 8 (128 + v / 128)) p → Wrote t u p (digits 8 (v % 128)) q → Wrote s u at (code8 v) q
+pub put8-long : (s t : List ℕ) (at v p : ℕ) → 128 ≤ v → Wrote s t at (digits 16 ((128 + v / 128) * 256 + v % 128)) p → Wrote s t at (code8 v) p
 unfolding code8
-put8-long s t u at v p q h f g = rw (le-ltb v 128 h) (wrote-both s t u at p q (digits 8 (128 + v / 128)) (digits 8 (v % 128)) f g)
-
-pub put8-half : (s : List ℕ) (at v p : ℕ) {t : List ℕ} → 128 ≤ v → Wrote s t at (digits 8 (128 + v / 128)) p → p + 8 ≡ at + length (code8 v)
-put8-half s at v p h f = omega (arith, length-long8 v h, f .next, length-digits 8 (128 + v / 128))
+put8-long s t at v p h f = rw (le-ltb v 128 h) (rw (digits-split 8 8 (128 + v / 128) (v % 128) (omega arith)) at f)

@@ -111,13 +111,28 @@ pub fn put(buf: &mut [u8], at: Bits, w: u32, v: u32) -> Bits
 fn extra(v: u32) -> u32
     ensures { λ r. ⌜ (r ≡ more 7 v) × (r ≤ 7) ⌝ }
 {
-    let mut n: u32 = 0;
-    let mut u = v;
-    while 16 <= u {
-        u = u / 16;
-        n += 1;
+    if v < 16 {
+        return 0;
     }
-    n
+    if v < 256 {
+        return 1;
+    }
+    if v < 4096 {
+        return 2;
+    }
+    if v < 65536 {
+        return 3;
+    }
+    if v < 1048576 {
+        return 4;
+    }
+    if v < 16777216 {
+        return 5;
+    }
+    if v < 268435456 {
+        return 6;
+    }
+    7
 }
 
 // The bits of the shortest vluimsbf5 of v.
@@ -133,10 +148,11 @@ pub fn put5(buf: &mut [u8], at: Bits, v: u32) -> Bits
     requires { ⌜ Room (now buf) (at .0) (length (code5 v)) ⌝ }
     ensures { λ r. ⌜ Wrote (now (buf .entry)) (now (buf .exit)) (at .0) (code5 v) (r .0) ⌝ }
 {
-    let n = extra(v);
-    let m = n + 1;
-    let p = put(buf, at, m, (1u32 << m) - 2);
-    put(buf, p, 4 * m, v)
+    let a = at.0;
+    let m = extra(v) + 1;
+    let ones = (1u64 << m) - 2;
+    put_bits(buf, a, 5 * m, (ones << (4 * m)) + (v as u64));
+    Bits(a + 5 * m)
 }
 
 // The shortest vluimsbf8 of v and the place past it; more than two bytes are 20, and nothing is written.
@@ -151,7 +167,6 @@ pub fn put8(buf: &mut [u8], at: Bits, v: u32) -> Read
         let p = put(buf, at, 8, v);
         return Read::Value(v, p);
     }
-    let p = put(buf, at, 8, 128 + v / 128);
-    let q = put(buf, p, 8, v % 128);
-    Read::Value(v, q)
+    let p = put(buf, at, 16, (128 + v / 128) * 256 + v % 128);
+    Read::Value(v, p)
 }

@@ -1,29 +1,34 @@
--- The loop: the groups counted so far, and those that are left.
-use Rattle.wire.specs.WriteWays.{Extra, extra-start, extra-turn, extra-end}
-use borrow.Author.Needs.{needs}
+-- By the least power of 16 that v is below.
+use native.Mathlib.Omega.{arith}
+use Rattle.wire.specs.WriteWays.{extra-is}
 use Rattle.wire.proofs.writing.extra.Statement.{statement}
 use Rattle.wire.proofs.writing.extra.Tie as tie
 
-abbrev Inv-loop : tie.InvT-loop
-Inv-loop v n₀ u₀ n u = Extra v n u
+returns : tie.Need-returns
+returns c = extra-is 0 _ (omega arith) (omega arith) (omega arith)
 
-abbrev μ-loop : tie.MeasureT-loop
-μ-loop v n₀ u₀ n u = u
+returns-2 : tie.Need-returns-2
+returns-2 c = extra-is 1 _ (omega arith) (omega arith) (omega arith)
 
-loop-holds : tie.Need-loop-holds Inv-loop μ-loop
-loop-holds c = extra-start _ (search needs)
+returns-3 : tie.Need-returns-3
+returns-3 c = extra-is 2 _ (omega arith) (omega arith) (omega arith)
 
-add-n : tie.Need-add-n Inv-loop μ-loop
-add-n c = search needs
+returns-4 : tie.Need-returns-4
+returns-4 c = extra-is 3 _ (omega arith) (omega arith) (omega arith)
 
-loop-less : tie.Need-loop-less Inv-loop μ-loop
-loop-less c = search needs
+returns-5 : tie.Need-returns-5
+returns-5 c = extra-is 4 _ (omega arith) (omega arith) (omega arith)
 
-loop-again : tie.Need-loop-again Inv-loop μ-loop
-loop-again c = extra-turn _ _ _ (c .before .loop .inv) (c .loop-test .taken)
+returns-6 : tie.Need-returns-6
+returns-6 c = extra-is 5 _ (omega arith) (omega arith) (omega arith)
 
-returns : tie.Need-returns Inv-loop μ-loop
-returns c = (extra-end _ _ _ (c .before .loop .inv) (c .loop-test .left), c .before .loop .inv .few)
+returns-7 : tie.Need-returns-7
+returns-7 c = extra-is 6 _ (omega arith) (omega arith) (omega arith)
+
+returns-8 : tie.Need-returns-8
+returns-8 c = extra-is 7 _ (omega arith) (omega arith) (omega arith)
 
 pub extra-spec : {M : Type 1} → statement M
-extra-spec = tie.close (tie.spec Inv-loop μ-loop loop-holds add-n loop-less loop-again returns)
+extra-spec =
+    tie.close
+    (tie.spec returns returns-2 returns-3 returns-4 returns-5 returns-6 returns-7 returns-8)

@@ -1,6 +1,6 @@
--- The ones with the zero, and then the groups.
+-- The ones, the zero and the groups as one number.
 use native.Mathlib.Omega.{arith}
-use Rattle.wire.specs.WriteWays.{shl-two, length-code5, put5-half, put5-done}
+use Rattle.wire.specs.WriteWays.{shl-two, five-fits, length-code5, put5-done}
 use borrow.Author.Needs.{needs}
 use Rattle.wire.proofs.writing.put5.Statement.{statement}
 use Rattle.wire.proofs.writing.put5.Tie as tie
@@ -11,32 +11,48 @@ extra-requires c κs = search needs
 add-m : tie.Need-add-m
 add-m c = search needs
 
-shl-put : tie.Need-shl-put
-shl-put c = search needs
+cast-ones : tie.Need-cast-ones
+cast-ones c = search needs
 
-sub-put : tie.Need-sub-put
-sub-put c = shl-two _ (search needs)
+shl-ones : tie.Need-shl-ones
+shl-ones c = search needs
 
-put-requires : tie.Need-put-requires
-put-requires c κs = omega (arith, length-code5 _ _ (c .before .extra .ensures .0))
+sub-ones : tie.Need-sub-ones
+sub-ones c = shl-two _ (c .extra .ensures .1)
 
-mul-put : tie.Need-mul-put
-mul-put c = search needs
+mul-put-bits : tie.Need-mul-put-bits
+mul-put-bits c = search needs
 
-put-requires-2 : tie.Need-put-requires-2
-put-requires-2 c κs =
-    let n = c .before .before .before .before .before .extra .ensures .0 in
-    let p = c .before .before .before .put in
-    omega (arith, put5-half _ _ _ _ _ _ n (p .ensures), p .kept .0)
+mul-put-bits-2 : tie.Need-mul-put-bits-2
+mul-put-bits-2 c = search needs
+
+cast-put-bits : tie.Need-cast-put-bits
+cast-put-bits c = search needs
+
+shl-put-bits : tie.Need-shl-put-bits
+shl-put-bits c = search needs
+
+add-put-bits : tie.Need-add-put-bits
+add-put-bits c =
+    let n = c .before .extra .ensures in
+    record { fits = five-fits _ _ (n .0) (n .1) (omega arith) }
+
+put-bits-requires : tie.Need-put-bits-requires
+put-bits-requires c κs = omega (arith, length-code5 _ _ (c .before .extra .ensures .0))
+
+mul-t7 : tie.Need-mul-t7
+mul-t7 c = search needs
+
+add-t13 : tie.Need-add-t13
+add-t13 c = omega (arith, length-code5 _ _ (c .before .before .before .before .extra .ensures .0))
 
 same-length : tie.Need-same-length
 same-length c = search needs
 
 returns : tie.Need-returns
 returns c =
-    let b = c .before .before in
-    let a = b .before .before .before .before in
-    put5-done _ _ _ _ _ _ _ _ (a .before .before .extra .ensures .0) (a .before .before .extra .ensures .1) (a .put .ensures) (b .put2 .ensures)
+    let n = c .before .before .before .before .extra .ensures in
+    put5-done _ _ _ _ _ (n .0) (n .1) (omega arith) (c .before .before .put-bits .ensures)
 
 pub put5-spec : {M : Type 1} → statement M
 put5-spec =
@@ -44,10 +60,16 @@ put5-spec =
     (tie.spec
     extra-requires
     add-m
-    shl-put
-    sub-put
-    put-requires
-    mul-put
-    put-requires-2
+    cast-ones
+    shl-ones
+    sub-ones
+    mul-put-bits
+    mul-put-bits-2
+    cast-put-bits
+    shl-put-bits
+    add-put-bits
+    put-bits-requires
+    mul-t7
+    add-t13
     same-length
     returns)

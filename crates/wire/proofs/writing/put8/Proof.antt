@@ -1,7 +1,7 @@
 -- One byte, or two.
 use mathlib.Core.Path.{refl}
 use native.Mathlib.Omega.{arith}
-use Rattle.wire.specs.WriteWays.{length-short8, length-long8, put8-half, put8-short, put8-long}
+use Rattle.wire.specs.WriteWays.{length-short8, length-long8, put8-short, put8-long}
 use borrow.Author.Needs.{needs}
 use Rattle.wire.proofs.writing.put8.Statement.{statement}
 use Rattle.wire.proofs.writing.put8.Tie as tie
@@ -23,13 +23,14 @@ returns-2 c =
 add-put : tie.Need-add-put
 add-put c = search needs
 
+mul-put : tie.Need-mul-put
+mul-put c = search needs
+
+add-put-2 : tie.Need-add-put-2
+add-put-2 c = search needs
+
 put-requires-2 : tie.Need-put-requires-2
 put-requires-2 c κs = omega (arith, length-long8 _ (c .before .if2 .left))
-
-put-requires-3 : tie.Need-put-requires-3
-put-requires-3 c κs =
-    let p = c .before .before .before .put2 in
-    omega (arith, put8-half _ _ _ _ (c .before .before .before .before .before .if2 .left) (p .ensures), p .kept .0)
 
 same-length-2 : tie.Need-same-length-2
 same-length-2 c = search needs
@@ -37,8 +38,7 @@ same-length-2 c = search needs
 returns-3 : tie.Need-returns-3
 returns-3 c =
     let b = c .before .before in
-    let a = b .before .before .before .before in
-    (refl, omega arith, put8-long _ _ _ _ _ _ _ (a .before .before .if2 .left) (a .put2 .ensures) (b .put3 .ensures))
+    (refl, omega arith, put8-long _ _ _ _ _ (b .before .before .if2 .left) (b .put2 .ensures))
 
 pub put8-spec : {M : Type 1} → statement M
 put8-spec =
@@ -49,7 +49,8 @@ put8-spec =
     same-length
     returns-2
     add-put
+    mul-put
+    add-put-2
     put-requires-2
-    put-requires-3
     same-length-2
     returns-3)
