@@ -1,14 +1,14 @@
 -- For n choices the width is the least w with 2^w at least n, so one choice takes no bits.
-use Prim.Native.Nat.{ℕ, zero, suc, _+_, _*_, _<_, _≤_, _^_}
+use Prim.Native.Nat.{ℕ, zero, suc, _+_, _-_, _*_, _/_, _<_, _≤_, _^_}
 use mathlib.Core.Path.{_≡_, refl, subst, sym, _∙_}
 use mathlib.Core.Bool.{cond}
-use native.Mathlib.Nat.{add-zero}
+use native.Mathlib.Nat.{add-zero, lt-of-le-of-lt, div-lt-iff-lt-mul, le-div-iff-mul-le}
 use native.Mathlib.Numerals.{add-one}
 use native.Mathlib.Omega.{arith}
 use native.Mathlib.Decide.{decLe, decLt}
 use borrow.Author.Tests.{le-leb, lt-leb}
 use lib.Dec.{leb}
-use lib.Pow.{pow-pos, pow-mono, pow-lt}
+use lib.Pow.{pow-pos, pow-add, pow-mono, pow-lt}
 
 -- the first w, of f from here on, with n at most 2^w
 unfoldable pub leastFrom : ℕ → ℕ → ℕ → ℕ
@@ -73,19 +73,36 @@ width-under n w h = elim (decLt w (width n)) [
   | no k ↦ omega arith
 ]
 
--- the loop that doubles p from 1: a turn, and its end
-pub width-turn : (m w p : ℕ) → p ≡ 2 ^ w → p < m → ((v : ℕ) → v < w → 2 ^ v < m) → m < 2 ^ 32 → (p * 2 ≡ 2 ^ (w + 1)) × (w + 1 ≤ 32) × ((v : ℕ) → v < w + 1 → 2 ^ v < m)
-width-turn m w p e h f b = (
-  rw (add-one w) (omega arith),
-  elim (decLt w 32) [
-    | yes k ↦ omega arith
-    | no k ↦ absurd (omega (arith, pow-mono {i = 32} {j = w} (omega arith)))
-  ],
-  λ v k. elim (decLt v w) [
-    | yes j ↦ f v j
-    | no j ↦ let g : v ≡ w = omega arith in rw g (omega arith)
-  ],
-)
+-- a number between two powers
+pub width-one : (n : ℕ) → n ≤ 1 → 0 ≡ width n
+width-one n h = width-is n 0 h (λ v l. absurd (omega arith))
 
-pub width-end : (m w p : ℕ) → p ≡ 2 ^ w → m ≤ p → ((v : ℕ) → v < w → 2 ^ v < m) → w ≡ width m
-width-end m w p e h f = width-is m w (omega arith) f
+pub width-between : (n w : ℕ) → 2 ^ w < n → n ≤ 2 ^ suc w → suc w ≡ width n
+width-between n w h l = width-is n (suc w) l (λ v k. lt-of-le-of-lt (pow-mono {i = v} {j = w} (omega arith)) h)
+
+-- of many choices the last k bits are counted apart
+module _ (n k r : ℕ) (h : 2 ^ k < n) (e : r ≡ width ((n - 1) / 2 ^ k + 1)) where
+  more-holds : n ≤ 2 ^ (r + k)
+  more-holds =
+      let f : (n - 1) / 2 ^ k + 1 ≤ 2 ^ r = rw e (width-holds ((n - 1) / 2 ^ k + 1)) in
+      let l : n - 1 < 2 ^ r * 2 ^ k = div-lt-iff-lt-mul {x = n - 1} {y = 2 ^ r} (pow-pos k) .0 (omega arith) in
+      rw pow-add (omega arith)
+
+  more-least : (v : ℕ) → v < r + k → 2 ^ v < n
+  more-least v l = elim (decLt v k) [
+    | yes m ↦ lt-of-le-of-lt (pow-mono {i = v} {j = k} (omega arith)) h
+    | no m ↦
+        let d : v - k + k ≡ v = omega arith in
+        let b : v - k < r = omega arith in
+        let s = width-least ((n - 1) / 2 ^ k + 1) (v - k) (rw e at b) in
+        let p : 2 ^ (v - k) * 2 ^ k ≤ n - 1 = le-div-iff-mul-le {x = 2 ^ (v - k)} {y = n - 1} (pow-pos k) .0 (omega arith) in
+        let f : 2 ^ v ≡ 2 ^ (v - k) * 2 ^ k = rw d at (pow-add 2 (v - k) k) in
+        omega arith
+  ]
+
+  pub width-more : r + k ≡ width n
+  width-more = width-is n (r + k) more-holds more-least
+
+-- the ways through `narrow`, a law for each power
+pub narrow-is : (n w : ℕ) → w ≤ 7 → 2 ^ w < n → n ≤ 2 ^ suc w → (suc w ≡ width n) × (suc w ≤ 8)
+narrow-is n w f h l = (width-between n w h l, omega arith)

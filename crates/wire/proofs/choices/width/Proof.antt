@@ -1,41 +1,79 @@
--- The loop doubles p from 1: it is 2^w, and every smaller power is below n.
-use Prim.Native.Nat.{ℕ, _≤_, _<_, _-_, _^_}
-use mathlib.Core.Path.{_≡_, refl}
+-- The bits of the narrow part, and those counted apart.
 use native.Mathlib.Omega.{arith}
-use lib.Pow.{pow-pos}
-use Rattle.wire.specs.Width.{width-turn, width-end}
+use Rattle.wire.specs.Width.{width-more}
 use borrow.Author.Needs.{needs}
 use Rattle.wire.proofs.choices.width.Statement.{statement}
 use Rattle.wire.proofs.choices.width.Tie as tie
-use Rattle.wire.proofs.choices.width.Reads as reads
-use Rattle.wire.proofs.choices.width.Lts as lts
 
-abbrev Inv-loop : tie.InvT-loop
-Inv-loop n m w₀ p₀ w p = (p ≡ 2 ^ w) × (w ≤ 32) × ((v : ℕ) → v < w → 2 ^ v < m)
+narrow-requires : tie.Need-narrow-requires
+narrow-requires c κs = search needs
 
-abbrev μ-loop : tie.MeasureT-loop
-μ-loop n m w₀ p₀ w p = m - p
+returns : tie.Need-returns
+returns c = search needs
 
-loop-holds : tie.Need-loop-holds Inv-loop μ-loop
-loop-holds c = (refl, omega arith, λ v h. absurd (omega arith))
+sub-narrow : tie.Need-sub-narrow
+sub-narrow c = search needs
 
-mul-p : tie.Need-mul-p Inv-loop μ-loop
-mul-p c = search needs
+add-narrow : tie.Need-add-narrow
+add-narrow c = search needs
 
-add-w : tie.Need-add-w Inv-loop μ-loop
-add-w c = search needs
+narrow-requires-2 : tie.Need-narrow-requires-2
+narrow-requires-2 c κs = search needs
 
-loop-less : tie.Need-loop-less Inv-loop μ-loop
-loop-less c = omega (arith, pow-pos (c .before .loop .w))
+add-result : tie.Need-add-result
+add-result c = search needs
 
-loop-again : tie.Need-loop-again Inv-loop μ-loop
-loop-again c =
-    let i = c .before .loop .inv in
-    width-turn _ _ _ (i .0) (c .loop-test .taken) (i .2) (omega arith)
+returns-2 : tie.Need-returns-2
+returns-2 c = width-more _ 8 _ (omega arith) (c .narrow2 .ensures .0)
 
-returns : tie.Need-returns Inv-loop μ-loop
-returns c = width-end _ _ _ (c .before .loop .inv .0) (c .loop-test .left) (c .before .loop .inv .2)
+sub-narrow-2 : tie.Need-sub-narrow-2
+sub-narrow-2 c = search needs
+
+add-narrow-2 : tie.Need-add-narrow-2
+add-narrow-2 c = search needs
+
+narrow-requires-3 : tie.Need-narrow-requires-3
+narrow-requires-3 c κs = search needs
+
+add-result-2 : tie.Need-add-result-2
+add-result-2 c = search needs
+
+returns-3 : tie.Need-returns-3
+returns-3 c = width-more _ 16 _ (omega arith) (c .narrow3 .ensures .0)
+
+sub-narrow-3 : tie.Need-sub-narrow-3
+sub-narrow-3 c = search needs
+
+add-narrow-3 : tie.Need-add-narrow-3
+add-narrow-3 c = search needs
+
+narrow-requires-4 : tie.Need-narrow-requires-4
+narrow-requires-4 c κs = search needs
+
+add-result-3 : tie.Need-add-result-3
+add-result-3 c = search needs
+
+returns-4 : tie.Need-returns-4
+returns-4 c = width-more _ 24 _ (omega arith) (c .narrow4 .ensures .0)
 
 pub width-spec : {M : Type 1} → statement M
 width-spec =
-    tie.close (tie.spec Inv-loop μ-loop loop-holds mul-p add-w loop-less loop-again returns)
+    tie.close
+    (tie.spec
+    narrow-requires
+    returns
+    sub-narrow
+    add-narrow
+    narrow-requires-2
+    add-result
+    returns-2
+    sub-narrow-2
+    add-narrow-2
+    narrow-requires-3
+    add-result-2
+    returns-3
+    sub-narrow-3
+    add-narrow-3
+    narrow-requires-4
+    add-result-3
+    returns-4)
