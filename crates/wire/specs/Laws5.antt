@@ -4,10 +4,9 @@ use mathlib.Core.Path.{_≡_, refl, sym, ap, ap₂, _∙_}
 use mathlib.Core.Bool.{Bool, true, false, cond}
 use mathlib.Core.List.{List, [], _∷_, _++_}
 use native.Mathlib.Nat.{add-zero, zero-add, div-eq-of-lt, div-lt-iff-lt-mul, pow-le-pow-right}
-use native.Mathlib.Numerals.{add-one}
 use native.Mathlib.Omega.{arith}
 use native.Mathlib.Decide.{decLt, ℕ-discrete}
-use lib.Pow.{pow-add, pow-pos}
+use lib.Pow.{pow-pos}
 use lib.ListN.{length, replicate, length-replicate}
 use Rattle.wire.specs.Res.{Res, got, fault, Ensures, gives, stops, bind}
 use Rattle.wire.specs.Bits.{num, fixedAt, digits, Has}

@@ -1,10 +1,10 @@
 -- Each way through the functions that read, as the code goes it: r is the answer of a call. `search` finds the premises.
-use Prim.Native.Nat.{ℕ, zero, suc, _+_, _-_, _*_, _/_, _%_, _^_, _<_, _≤_}
+use Prim.Native.Nat.{ℕ, _+_, _-_, _*_, _^_, _<_, _≤_}
 use mathlib.Core.Path.{_≡_, refl, sym, ap, _∙_}
 use mathlib.Core.Bool.{Bool, true, false}
 use mathlib.Core.List.{List}
 use native.Mathlib.Omega.{arith}
-use native.Mathlib.Decide.{decLt, ℕ-discrete}
+use native.Mathlib.Decide.{decLt}
 use borrow.Author.Tests.{le-leb, lt-leb}
 use Rattle.wire.specs.declared.Bits.{Bits}
 use Rattle.wire.specs.declared.Read.{Read}
@@ -13,7 +13,7 @@ use Rattle.wire.specs.declared.Number.{Number}
 use Rattle.wire.specs.declared.Number.the-variants as number
 use Rattle.wire.specs.Res.{Res, got, fault}
 use Rattle.wire.specs.Bits.{bitAt, num, fixedAt}
-use Rattle.wire.specs.BitLaws.{bit-lt, num-under, num-more, fixed-past, fixed-in}
+use Rattle.wire.specs.BitLaws.{bit-lt, num-under, fixed-past, fixed-in}
 use Rattle.wire.specs.Answer.{readIs, numberIs, fixed32}
 use Rattle.wire.specs.Number.{number5, second8At, number8, strict, read5, read8}
 use Rattle.wire.specs.Steps.{second-fault, second-third, second-long, second-short, eight-fault, eight-one, eight-two, strict-fault, strict-short, strict-long}

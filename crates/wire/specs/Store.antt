@@ -1,19 +1,19 @@
 -- A word stored over eight bytes, and a write of bits as the change of a field of such a word.
 use Prim.Native.Nat.{ℕ, zero, suc, _+_, _-_, _*_, _/_, _%_, _^_, _<_, _≤_}
-use mathlib.Core.Path.{_≡_, refl, sym, ap, subst, _∙_}
+use mathlib.Core.Path.{_≡_, refl, sym, ap, _∙_}
 use mathlib.Core.List.{List}
 use native.Mathlib.Nat.{add-zero, div-one, div-eq-of-lt, mod-lt}
 use native.Mathlib.Numerals.{add-one}
 use native.Mathlib.Omega.{arith}
 use native.Mathlib.Decide.{decLt}
-use lib.ListN.{length, getD, set, length-set}
+use lib.ListN.{length, getD, set}
 use lib.Seq.{getD-set-same, getD-set-other}
 use lib.Arith.{digits-lt}
-use lib.Pow.{pow-pos, pow-add, pow-mono, shl-lt, shl-exact, shr-shr, high, low, field, mod-mod-pow}
-use Rattle.wire.specs.Bits.{bitAt, num, digits, Has}
+use lib.Pow.{pow-pos, pow-add, shl-exact, shr-shr, high, low, field, mod-mod-pow}
+use Rattle.wire.specs.Bits.{bitAt, num, digits}
 use Rattle.wire.specs.BitLaws.{bit-lt, num-lt, num-same, length-digits, digits-num}
 use Rattle.wire.specs.Window.{num-split, num-high, num-low, bytes-more, mask}
-use Rattle.wire.specs.Put.{Put, Room}
+use Rattle.wire.specs.Put.{Put}
 
 -- the bytes t are s with k bytes from i on that are the number y, and with nothing else changed
 pub record Stored (s t : List ℕ) (i k y : ℕ) : Type 0 where

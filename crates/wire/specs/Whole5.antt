@@ -1,21 +1,21 @@
 -- A vluimsbf5 that lies whole in a window: how many ones it begins with, and its groups.
 use Prim.Native.Nat.{ℕ, zero, suc, _+_, _-_, _*_, _/_, _%_, _^_, _<_, _≤_}
-use mathlib.Core.Path.{_≡_, refl, sym, ap, subst, _∙_}
-use mathlib.Core.Bool.{Bool, true, false}
+use mathlib.Core.Path.{_≡_, refl, sym, ap, _∙_}
+use mathlib.Core.Bool.{true, false}
 use mathlib.Core.List.{List}
-use native.Mathlib.Nat.{add-zero, zero-add, mod-eq-of-lt, mod-lt, lt-of-lt-of-le}
+use native.Mathlib.Nat.{add-zero, zero-add, mod-lt, lt-of-lt-of-le}
 use native.Mathlib.Numerals.{add-one, one-add}
 use native.Mathlib.Omega.{arith}
 use native.Mathlib.Decide.{ℕ-discrete, decLe}
-use lib.Pow.{pow-pos, pow-mono, shl-exact, ones-split, ones-lt, high}
+use lib.Pow.{pow-pos, pow-mono, ones-split, ones-lt, high}
 use Rattle.wire.specs.declared.Bits.{Bits}
 use Rattle.wire.specs.declared.Number.{Number}
 use Rattle.wire.specs.declared.Number.the-variants as number
-use Rattle.wire.specs.Res.{Res, got, fault}
-use Rattle.wire.specs.Bits.{bitAt, num, fixedAt}
+use Rattle.wire.specs.Res.{got, fault}
+use Rattle.wire.specs.Bits.{bitAt, num}
 use Rattle.wire.specs.BitLaws.{bit-lt, num-lt, num-more, fixed-in, fixed-past}
 use Rattle.wire.specs.Answer.{numberIs}
-use Rattle.wire.specs.Number.{onesAt, isShort, groupsAt, number5}
+use Rattle.wire.specs.Number.{onesAt, isShort, number5}
 use Rattle.wire.specs.Steps.{ones-past, ones-zero, ones-one, ones-full, short-one, short-not, short-more, groups-got, groups-fault, five-got, five-fault}
 use Rattle.wire.specs.Window.{num-split, num-high, num-low, first-is, mask}
 

@@ -1,9 +1,8 @@
 -- For n choices the width is the least w with 2^w at least n, so one choice takes no bits.
 use Prim.Native.Nat.{ℕ, zero, suc, _+_, _-_, _*_, _/_, _<_, _≤_, _^_}
-use mathlib.Core.Path.{_≡_, refl, subst, sym, _∙_}
+use mathlib.Core.Path.{_≡_, subst, sym}
 use mathlib.Core.Bool.{cond}
 use native.Mathlib.Nat.{add-zero, lt-of-le-of-lt, div-lt-iff-lt-mul, le-div-iff-mul-le}
-use native.Mathlib.Numerals.{add-one}
 use native.Mathlib.Omega.{arith}
 use native.Mathlib.Decide.{decLe, decLt}
 use borrow.Author.Tests.{le-leb, lt-leb}

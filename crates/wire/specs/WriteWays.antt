@@ -12,9 +12,9 @@ use lib.Pow.{pow-pos, pow-add, pow-mono, shl-exact}
 use Rattle.wire.specs.Bits.{bitAt, digits}
 use Rattle.wire.specs.BitLaws.{length-digits}
 use Rattle.wire.specs.Number.{more, codeOf5, code5, code8}
-use Rattle.wire.specs.Groups.{pow16-more, Shortest, more-is, more-shortest}
+use Rattle.wire.specs.Groups.{pow16-more, more-is, more-shortest}
 use Rattle.wire.specs.Window.{mask}
-use Rattle.wire.specs.Put.{Put, Wrote, put-none, put-both, wrote-both}
+use Rattle.wire.specs.Put.{Put, Wrote, put-none, put-both}
 
 -- a word has no bit past its 64th
 pub high-digit : (v k : ℕ) → v < 2 ^ 64 → 64 ≤ k → 0 ≡ v / 2 ^ k % 2

@@ -44,7 +44,7 @@ fn byte(s: &[u8], i: usize) -> u64
     0
 }
 
-// The same of a slice of fewer than eight bytes: zeros follow the last one.
+// What `eight` gives, of a slice of fewer than eight bytes: zeros follow the last one.
 fn few(s: &[u8], i: usize) -> u64
     requires { ⌜ i < 2 ^ 32 ⌝ }
     ensures { λ r. ⌜ r ≡ num (bitAt (now (s .entry))) (8 * i) 64 ⌝ }
@@ -58,7 +58,7 @@ fn few(s: &[u8], i: usize) -> u64
     v
 }
 
-// The same near the end: the last eight bytes, shifted past those before byte i.
+// And near the end of any: the last eight bytes, shifted left past those before byte i.
 fn last(s: &[u8], i: usize) -> u64
     requires { ⌜ (i < 2 ^ 32) × (length (now s) < i + 8) ⌝ }
     ensures { λ r. ⌜ r ≡ num (bitAt (now (s .entry))) (8 * i) 64 ⌝ }
@@ -85,8 +85,8 @@ pub fn window(s: &[u8], at: u32) -> u64
     (last(s, i) << r) >> 7
 }
 
-// The number that w bits are from a place on; those past the payload's end are 0. Beside `window` so that near the end both call `last`,
-// which then stays out of the way of what is done elsewhere.
+// The number that w bits are from a place on; those past the payload's end are 0. Not by `window`, so that `last` has two callers and the
+// back end keeps it out of both.
 pub fn cut(s: &[u8], at: u32, w: u32) -> u64
     requires { ⌜ w ≤ 57 ⌝ }
     ensures { λ r. ⌜ r ≡ num (bitAt (now (s .entry))) at w ⌝ }
