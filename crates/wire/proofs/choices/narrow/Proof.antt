@@ -5,7 +5,7 @@ use Rattle.wire.proofs.choices.narrow.Statement.{statement}
 use Rattle.wire.proofs.choices.narrow.Tie as tie
 
 returns : tie.Need-returns
-returns c = (width-one _ (c .if1 .taken), omega arith)
+returns c = (width-one _ (omega arith), omega arith)
 
 returns-2 : tie.Need-returns-2
 returns-2 c = narrow-is _ 0 (omega arith) (omega arith) (omega arith)
