@@ -41,6 +41,7 @@ cut X m from x e = rw (← length-drop from X) (taken-all (drop from X) m ∙ ap
 
 -- put_piece
 pub put-nothing : (s : List ℕ) (at : ℕ) (X : List ℕ) (p : Piece) → p .width ≡ 0 → Wrote s s at (pieceBits X p) at
+unfolding digits
 put-nothing s at X p e =
     let z : pieceBits X p ≡ [] = ap (λ (w : ℕ). piece X w (p .x)) e ∙ piece-fixed X 0 (p .x) (omega arith) in
     rw z (record { bits = put-none (bitAt s) at; next = omega arith })
