@@ -1,5 +1,5 @@
 # Two commands for everybody (run, test), two for C programmers (host, install), the rest for those who work here.
-.PHONY: test run host install fuzz peer fmt face quotes
+.PHONY: test run host install fuzz soak stack sanitized peer fmt face quotes
 
 PREFIX = /usr/local
 CFLAGS = -O2
@@ -7,7 +7,10 @@ CFLAGS = -O2
 STRICT = -std=c99 -pedantic -Wall -Wextra -Wconversion -Wsign-conversion -Werror -Iinclude -Itools
 ARCHIVE = target/staticlib/libhost.a
 PROGRAMS = host explain holds pack
-TRIALS = refusals faults
+TRIALS = refusals faults exact stack
+# The programs whose C code runs under the sanitizers. Not stack: it brings a stack of its own, of which they know nothing.
+SANITIZED = $(PROGRAMS) refusals faults exact header
+SANITIZERS = -O1 -g -fsanitize=address,undefined -fno-sanitize-recover=all
 VERSION = 1.0
 
 # The gate: what has to pass before anything is merged.
@@ -24,9 +27,13 @@ run:
 host: $(PROGRAMS:%=target/c/%)
 
 vpath %.c examples tools tests
-target/c/%: %.c $(ARCHIVE) $(wildcard include/*.h tools/*.h)
+target/c/%: %.c $(ARCHIVE) $(wildcard include/*.h tools/*.h tests/*.h)
 	@mkdir -p target/c
 	$(CC) $(STRICT) $(CFLAGS) $< $(ARCHIVE) -o $@
+
+target/sanitized/%: %.c $(ARCHIVE) $(wildcard include/*.h tools/*.h tests/*.h)
+	@mkdir -p target/sanitized
+	$(CC) $(STRICT) $(SANITIZERS) $< $(ARCHIVE) -o $@
 
 # The C calls, proved and then compiled: some minutes from nothing. Any change below crates/ proves them again.
 $(ARCHIVE): crates.txt $(shell find crates -path '*/src/*.rt' -o -path '*/specs/*.antt' -o -path '*/proofs/*.antt')
@@ -51,9 +58,29 @@ face: host $(TRIALS:%=target/c/%)
 quotes: host $(TRIALS:%=target/c/%)
 	bash tests/quotes --write
 
-# The proved C calls against the peer, from a new seed, for about 5 million cases.
-fuzz:
-	rt staticlib host >/dev/null && cd peer && cargo build --release --quiet --features host_write --bin calls && target/release/calls 5000000 $$(date +%s)
+# The C side under AddressSanitizer and UndefinedBehaviorSanitizer, the C calls and a sample of the comparison under valgrind: a part of the gate.
+sanitized: peer/target/release/calls $(SANITIZED:%=target/sanitized/%) target/c/exact target/c/host
+	bash tests/sanitized
+
+# The stack that each call needs, held to BIM_STACK.
+stack: target/c/stack
+	target/c/stack examples/tables.txt examples/payloads.txt examples/lists.txt
+	bash tests/frames $(ARCHIVE)
+
+# The proved C calls under libFuzzer, the peer judging: make fuzz SECONDS=600.
+fuzz: SECONDS = 60
+fuzz: $(ARCHIVE)
+	bash tests/fuzz $(SECONDS)
+
+# The proved C calls against the peer on seeded cases: make soak CASES=20000000 SEED=1. Prints the rows of docs/TRUST.md.
+soak: CASES = 20000000
+soak: SEED = $(shell date +%s)
+soak: peer/target/release/calls
+	bash tests/soak $(CASES) $(SEED)
+
+peer/target/release/calls: $(ARCHIVE) $(shell find peer/src peer/build.rs peer/Cargo.toml)
+	cd peer && cargo build --release --locked --offline --quiet --features host_write --bin calls
+	@touch $@
 
 # The second, independent implementation: its tests, the demands as properties, and the vectors asked again.
 peer:

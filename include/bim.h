@@ -3,7 +3,7 @@
  *
  * BYTES. A buffer is a pointer and then its length in bytes; a null pointer is fine where the length is 0. Words are 4 bytes, names in
  * the area 2, the most significant byte first. Every buffer is the caller's, before and after a call: nothing is kept, nothing is
- * allocated (a call takes up to about 300 KB of the stack), and no other byte is read or written, so calls may run in several threads
+ * allocated (a call takes at most BIM_STACK bytes of the stack), and no other byte is read or written, so calls may run in several threads
  * at once. Any bytes and any lengths are answered.
  *
  * THE CALLER'S ONE DUTY: a buffer that a call writes overlaps no other buffer of that call. Buffers that are only read may overlap.
@@ -44,6 +44,10 @@ extern "C" {
 #define BIM_MOST_PAYLOAD 8192
 #define BIM_MOST_TABLE 35856
 #define BIM_MOST_NAMES 64
+
+/* The stack, in bytes, that a call never needs more than. It has no arrays but of fixed length, and calls itself once for each row open, of
+ * which there are at most 64. `make stack` measures it, and bounds it by the frames of the machine code (x86-64). */
+#define BIM_STACK 327680
 
 /* The kinds of an event, and what its words p and q then are (else 0). Its fourth word is the bits that it took. */
 enum {

@@ -1,5 +1,6 @@
 //! Links the proved leaves into `leaves` alone and the proved C calls into `calls` alone: every other target is built
-//! without them. `HOST_ARCHIVE` names another archive of the C calls.
+//! without them. `HOST_ARCHIVE` names another archive of the C calls. `fuzz` gets libFuzzer and blocks.c besides: `FUZZER` and
+//! `FUZZ_BLOCKS` name the archive and the object.
 
 fn main() {
     println!("cargo:rerun-if-changed=build.rs");
@@ -8,8 +9,17 @@ fn main() {
     if std::env::var_os("CARGO_FEATURE_PROVED").is_some() {
         link("leaves", &format!("{built}/libprobe.a"));
     }
+    let calls = std::env::var("HOST_ARCHIVE").unwrap_or(format!("{built}/libhost.a"));
     if std::env::var_os("CARGO_FEATURE_HOST").is_some() {
-        link("calls", &std::env::var("HOST_ARCHIVE").unwrap_or(format!("{built}/libhost.a")));
+        link("calls", &calls);
+    }
+    if std::env::var_os("CARGO_FEATURE_FUZZ").is_some() {
+        link("fuzz", &calls);
+        for name in ["FUZZ_BLOCKS", "FUZZER"] {
+            println!("cargo:rerun-if-env-changed={name}");
+            link("fuzz", &std::env::var(name).unwrap_or_else(|_| panic!("{name} is not set: make fuzz sets it")));
+        }
+        println!("cargo:rustc-link-arg-bin=fuzz=-lstdc++");
     }
 }
 

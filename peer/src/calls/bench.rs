@@ -21,6 +21,11 @@ pub struct Bench<'a> {
     junk: Rng,
     part: &'static str,
     cases: u64,
+    calls_made: u64,
+    /// Whether the cases are too few to meet every number.
+    sample: bool,
+    /// The parts before this one, and their cases.
+    done: Vec<(&'static str, u64)>,
     /// The seed of the round at hand.
     round: u64,
 }
@@ -28,12 +33,35 @@ pub struct Bench<'a> {
 impl<'a> Bench<'a> {
     /// Nothing asked yet.
     pub fn new(calls: &'a dyn Calls, seed: u64) -> Self {
-        Bench { calls, tally: Tally::default(), junk: Rng::new(!seed), part: "", cases: 0, round: 0 }
+        Bench {
+            calls,
+            tally: Tally::default(),
+            junk: Rng::new(!seed),
+            part: "",
+            cases: 0,
+            calls_made: 0,
+            sample: false,
+            done: vec![],
+            round: 0,
+        }
+    }
+
+    /// The cases are too few to meet every number.
+    pub fn is_sample(&mut self) {
+        self.sample = true;
     }
 
     /// The cases from here on belong to `part`.
     pub fn begin_part(&mut self, part: &'static str) {
+        self.end_part();
         (self.part, self.cases) = (part, 0);
+    }
+
+    /// Keeps how many cases the part at hand had.
+    fn end_part(&mut self) {
+        if !self.part.is_empty() {
+            self.done.push((std::mem::take(&mut self.part), self.cases));
+        }
     }
 
     /// A round of this seed begins.
@@ -44,6 +72,11 @@ impl<'a> Bench<'a> {
     /// The cases of this part: its calls, or its pairs.
     pub fn cases(&self) -> u64 {
         self.cases
+    }
+
+    /// The calls made and compared so far.
+    pub fn calls(&self) -> u64 {
+        self.calls_made
     }
 
     /// Asks for the sake of another case, and does not count it among the part's.
@@ -68,6 +101,7 @@ impl<'a> Bench<'a> {
         let (got, touched) = self.lent(case);
         let expected = on_peer(case);
         self.cases += 1;
+        self.calls_made += 1;
         self.tally.count(self.part, kind, case.call, expected.number);
         if got != expected || touched.is_some() {
             let place = format!("{}, {kind}, round {}: {}", self.part, self.round, case.call.name());
@@ -113,13 +147,22 @@ impl<'a> Bench<'a> {
         (Left { number, outputs: outputs.iter().map(|lent| lent.lent().to_vec()).collect() }, touched)
     }
 
+    /// Prints how often each call answered what.
+    pub fn report_answers(&self) {
+        [Call::Check, Call::Read, Call::Write].iter().for_each(|&call| self.tally.report_answers(call));
+    }
+
     /// Prints all, the smallest differing case made smaller still; true where all is well.
     pub fn report(&mut self) -> bool {
         let mut calls = vec![Call::Check, Call::Read];
         if self.writes() {
             calls.push(Call::Write);
         }
-        let good = self.tally.report(&calls);
+        self.end_part();
+        let good = self.tally.report(&calls, self.sample);
+        for (part, cases) in &self.done {
+            println!("cases, {part}: {cases}");
+        }
         if let Some(case) = self.tally.smallest.take() {
             let (case, what) = self.shrink(case);
             println!("SMALLEST: {what}\n{}", case.shown());

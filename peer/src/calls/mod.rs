@@ -3,6 +3,7 @@
 
 mod bench;
 mod case;
+mod coded;
 mod pairs;
 mod reading;
 mod tally;
@@ -10,8 +11,11 @@ mod writing;
 
 pub use bench::Bench;
 pub use case::{Call, Case};
+pub use coded::{decode, seeds};
 
+use crate::cases;
 use crate::rng::Rng;
+use case::big_endian;
 
 /// The three C calls, with their buffers as slices.
 pub trait Calls {
@@ -53,12 +57,24 @@ pub fn run(calls: &dyn Calls, cases: u64, seed: u64) -> Bench<'_> {
     if calls.writes() {
         writing::named(&mut bench);
     }
-    seeded(&mut bench, "reading", seed.wrapping_mul(4), cases, reading::round);
-    if calls.writes() {
-        seeded(&mut bench, "writing", seed.wrapping_mul(4) + 1, cases, writing::round);
-    }
-    seeded(&mut bench, "pairs", seed.wrapping_mul(4) + 2, cases, pairs::round);
+    all_seeded(&mut bench, cases, seed);
     bench
+}
+
+/// The seeded cases alone, and few of them: what runs under a checker that makes them slow.
+pub fn sample(calls: &dyn Calls, cases: u64, seed: u64) -> Bench<'_> {
+    let mut bench = Bench::new(calls, seed);
+    bench.is_sample();
+    all_seeded(&mut bench, cases, seed);
+    bench
+}
+
+fn all_seeded(bench: &mut Bench<'_>, cases: u64, seed: u64) {
+    seeded(bench, "reading", seed.wrapping_mul(4), cases, reading::round);
+    if bench.writes() {
+        seeded(bench, "writing", seed.wrapping_mul(4) + 1, cases, writing::round);
+    }
+    seeded(bench, "pairs", seed.wrapping_mul(4) + 2, cases, pairs::round);
 }
 
 /// Rounds of `part`, each from a seed of its own, until it has had `cases` cases.
@@ -70,4 +86,27 @@ fn seeded(bench: &mut Bench<'_>, part: &'static str, seed: u64, cases: u64, roun
         round(bench, &mut Rng::new(seed));
         seed = seed.wrapping_add(1);
     }
+}
+
+/// Asks one case, and holds demand 2 of what it gives.
+pub fn ask(bench: &mut Bench<'_>, case: &Case) {
+    match case.call {
+        Call::Check => drop(bench.ask("tables", case)),
+        Call::Read => drop(reading::ask(bench, "payloads", case)),
+        Call::Write => drop(writing::ask(bench, "lists", case)),
+    }
+}
+
+/// The named cases as calls.
+fn named() -> Vec<Case> {
+    let call = |named: cases::Case| match named.call {
+        cases::Call::Table { table } => Case::check(big_endian(&table)),
+        cases::Call::Read { table, root, payload, event_words, text_room } => {
+            Case::read(&table, root, payload, 4 * event_words, text_room)
+        }
+        cases::Call::Write { table, root, mode, events, texts, room } => {
+            Case::write(&table, root, mode, big_endian(&events), texts, room)
+        }
+    };
+    cases::all().into_iter().map(call).collect()
 }

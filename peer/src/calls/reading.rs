@@ -27,7 +27,7 @@ pub fn round(bench: &mut Bench<'_>, rng: &mut Rng) {
 }
 
 /// Asks, and has a reading without blanks written back.
-fn ask(bench: &mut Bench<'_>, kind: &'static str, case: &Case) -> Left {
+pub fn ask(bench: &mut Bench<'_>, kind: &'static str, case: &Case) -> Left {
     let left = bench.ask(kind, case);
     if bench.writes() && left.is_accepted() {
         written_back(bench, case, &left);

@@ -30,7 +30,7 @@ pub fn round(bench: &mut Bench<'_>, rng: &mut Rng) {
 }
 
 /// Asks, and reads back what was written.
-fn ask(bench: &mut Bench<'_>, kind: &'static str, case: &Case) -> Left {
+pub fn ask(bench: &mut Bench<'_>, kind: &'static str, case: &Case) -> Left {
     let left = bench.ask(kind, case);
     if left.is_accepted() {
         read_back(bench, case, &left);

@@ -1,0 +1,74 @@
+//! The proved C calls under libFuzzer, with the peer as the judge: each input is a case (`calls::decode`), asked of both and compared
+//! as `calls` compares them. A difference is made small, shown, and ends the run; so does a panic. libFuzzer brings `main`.
+
+#![no_main]
+
+#[path = "../calls/proved.rs"]
+mod proved;
+
+use peer::calls::{ask, decode, Bench};
+use std::cell::RefCell;
+use std::time::Instant;
+
+extern "C" {
+    fn atexit(at_end: extern "C" fn()) -> i32;
+    fn blocks_told(all: &mut usize, of_them: &mut usize);
+}
+
+/// The bench, and how many cases it had since when.
+struct Run {
+    bench: Bench<'static>,
+    cases: u64,
+    begun: Instant,
+}
+
+thread_local! {
+    // Leaked, so that it is still there at exit.
+    static RUN: &'static RefCell<Run> = Box::leak(Box::new(RefCell::new(begin())));
+}
+
+fn begin() -> Run {
+    // SAFETY: `end` is a function for the whole run, and what it looks at is never freed.
+    unsafe { atexit(end) };
+    let mut bench = Bench::new(Box::leak(Box::new(proved::Library::default())), 1);
+    bench.begin_part("fuzz");
+    Run { bench, cases: 0, begun: Instant::now() }
+}
+
+extern "C" fn end() {
+    RUN.with(|run| tell(&run.borrow()));
+}
+
+fn tell(run: &Run) {
+    let seconds = run.begun.elapsed().as_secs_f64();
+    let (mut all, mut reached) = (0, 0);
+    // SAFETY: blocks.c writes both counts and keeps neither.
+    unsafe { blocks_told(&mut all, &mut reached) };
+    run.bench.report_answers();
+    println!("fuzz: {reached} of {all} blocks of the proved code reached");
+    println!(
+        "fuzz: {} cases, {} proved calls, {seconds:.0} s, {:.0} cases per second, {} differences",
+        run.cases,
+        run.bench.calls(),
+        run.cases as f64 / seconds,
+        run.bench.differing()
+    );
+}
+
+/// What libFuzzer calls with each input.
+#[no_mangle]
+pub extern "C" fn LLVMFuzzerTestOneInput(bytes: *const u8, length: usize) -> i32 {
+    // SAFETY: libFuzzer lends `length` bytes for the time of this call; of 0 bytes none are looked at.
+    let input = if length == 0 { &[] } else { unsafe { std::slice::from_raw_parts(bytes, length) } };
+    RUN.with(|run| {
+        let mut run = run.borrow_mut();
+        run.cases += 1;
+        ask(&mut run.bench, &decode(input));
+        if run.bench.differing() > 0 {
+            run.bench.report();
+            tell(&run);
+            std::process::abort();
+        }
+    });
+    0
+}

@@ -1,0 +1,225 @@
+/* The stack that each call needs: stack VECTORS.. Each call runs on a stack of its own, painted before, between two pages that cannot be
+ * touched; the deepest byte that lost its paint tells. Asked are the vectors, and chains of rows as deep as may be opened and deeper: every
+ * pattern of up to four kinds of row over and over, with attributes and a text inside the last element, written in every mode, read back.
+ * Prints the most bytes for each call, and where; exit status 1 where that is over BIM_STACK (include/bim.h). */
+#define _XOPEN_SOURCE 700
+#define _DEFAULT_SOURCE
+#include <sys/mman.h>
+#include <ucontext.h>
+#include <unistd.h>
+#include "bim_table.h"
+#include "vector.h"
+
+/* The root and the last element are open too, so the chain of 62 rows is the longest that may be. */
+enum { STACK = 1 << 19, PAINT = 0xa5, LONGEST = BIM_MOST_NAMES - 2, MOST_PATTERN = 4 };
+
+static uint8_t *stack;
+static ucontext_t here, there;
+static struct vector asked;
+static uint8_t events[BIM_MOST_EVENTS * BIM_EVENT], texts[BIM_MOST_PAYLOAD], payload[BIM_MOST_PAYLOAD], area[BIM_AREA];
+static uint32_t number;
+static size_t most[3];
+static char most_in[3][sizeof asked.name];
+static unsigned long calls;
+
+static void call(void)
+{
+    if (asked.asked == CHECK)
+        number = bim_check_table(asked.table.at, asked.table.length, area, sizeof area);
+    else if (asked.asked == READ)
+        number = bim_read(asked.table.at, asked.table.length, asked.root_name, asked.root_type, asked.payload.at, asked.payload.length,
+                          events, sizeof events, texts, sizeof texts, area, sizeof area);
+    else
+        number = bim_write(asked.table.at, asked.table.length, asked.root_name, asked.root_type, asked.mode, asked.events.at,
+                           asked.events.length, asked.texts.at, asked.texts.length, payload, sizeof payload, area, sizeof area);
+}
+
+/* Not by memset: its first call, at which the loader looks it up on the caller's stack, is left to the library. */
+static void paint(void)
+{
+    volatile uint64_t *words = (volatile uint64_t *)stack;
+    size_t i;
+    for (i = 0; i < STACK / sizeof *words; i++)
+        words[i] = PAINT * (UINT64_MAX / 255);
+}
+
+/* Asks on the painted stack. What is above the call there, this program's own frame, is counted too. */
+static void measure(void)
+{
+    size_t low = 0, used;
+    paint();
+    if (getcontext(&there) != 0)
+        abort();
+    there.uc_stack.ss_sp = stack;
+    there.uc_stack.ss_size = STACK;
+    there.uc_link = &here;
+    makecontext(&there, call, 0);
+    if (swapcontext(&here, &there) != 0)
+        abort();
+    while (low < STACK && stack[low] == PAINT)
+        low++;
+    used = STACK - low;
+    calls++;
+    if (used > most[asked.asked]) {
+        most[asked.asked] = used;
+        memcpy(most_in[asked.asked], asked.name, sizeof asked.name);
+    }
+}
+
+static void add_row(struct bytes *bytes, const uint32_t *row, size_t words)
+{
+    size_t i;
+    for (i = 0; i < words; i++)
+        add_word(bytes, row[i]);
+}
+
+/* Row i of a chain of this pattern: a digit to the base 4 for each kind, the lowest first. */
+static uint32_t kind_at(uint32_t pattern, uint32_t length, uint32_t i)
+{
+    return pattern >> 2 * (i % length) & 3;
+}
+
+/* A table of so many rows, each inside the one before. Type 0 is a text, type 1 the last element's with an attribute and a text, type 2 + i
+ * that of element row i with an attribute and row i + 1; the root's type has row 0. */
+static void chain_table(uint32_t pattern, uint32_t length, uint32_t rows)
+{
+    const uint32_t header[] = {1, rows + 3, 1, rows + 2}, text[] = {1, BIM_SIMPLE, 0, 0, BIM_TEXT, 0, 0};
+    const uint32_t leaf[] = {1, BIM_SIMPLE, 0, 1, BIM_TEXT, 0, 0}, attribute[] = {7, 0, 0};
+    uint32_t i;
+    asked.table.length = 0;
+    add_row(&asked.table, header, 4);
+    add_row(&asked.table, text, 7);
+    add_row(&asked.table, leaf, 7);
+    for (i = 0; i <= rows; i++) {
+        const uint32_t type[] = {1, BIM_PARTICLES, 0, 1, i == rows ? 0 : i + 1, 0, 0};
+        add_row(&asked.table, type, 7);
+    }
+    add_row(&asked.table, attribute, 3);
+    for (i = 0; i < rows; i++) {
+        const uint32_t kind = kind_at(pattern, length, i);
+        const uint32_t element[] = {BIM_ELEMENT, 3, i + 2, 0}, sequence[] = {BIM_SEQUENCE, i + 1, 1, 0};
+        const uint32_t choice[] = {BIM_CHOICE, i + 1, 2, 0}, occurs[] = {BIM_OCCURS, i + 1, 0, BIM_UNBOUNDED};
+        add_row(&asked.table, kind == BIM_ELEMENT ? element : kind == BIM_SEQUENCE ? sequence : kind == BIM_CHOICE ? choice : occurs, 4);
+    }
+    for (i = 0; i < 2; i++) {
+        const uint32_t last[] = {BIM_ELEMENT, 5, 1, 0};
+        add_row(&asked.table, last, 4);
+    }
+    asked.root_name = 1;
+    asked.root_type = rows + 2;
+}
+
+static void add_event(uint32_t kind, uint32_t p, uint32_t q)
+{
+    const uint32_t event[] = {kind, p, q, 0};
+    add_row(&asked.events, event, 4);
+}
+
+/* A Start with its attribute, a text of two bytes. */
+static void add_start(uint32_t name, uint32_t coded)
+{
+    add_event(BIM_KIND_START, name, coded);
+    add_event(BIM_KIND_ATTRIBUTE, 7, 1);
+    add_event(BIM_KIND_VALUE, 2, 0);
+    asked.texts.length += 2;
+}
+
+/* The list of that table. */
+static void chain_list(uint32_t pattern, uint32_t length, uint32_t rows, uint32_t mode)
+{
+    uint32_t i, open = 2;
+    asked.events.length = asked.texts.length = 0;
+    asked.mode = mode;
+    add_start(1, mode > 0);
+    for (i = 0; i < rows; i++) {
+        const uint32_t kind = kind_at(pattern, length, i);
+        if (kind == BIM_ELEMENT) {
+            add_start(3, mode > 0);
+            open++;
+        } else if (kind == BIM_CHOICE)
+            add_event(BIM_KIND_PICK, 0, 0);
+        else if (kind == BIM_OCCURS)
+            add_event(BIM_KIND_TIMES, 1, 0);
+    }
+    add_start(5, mode > 0);
+    add_event(BIM_KIND_VALUE, 2, 0);
+    asked.texts.length += 2;
+    for (i = 0; i < open; i++)
+        add_event(BIM_KIND_END, 0, 0);
+    for (i = 0; i < asked.texts.length; i += 2)
+        memcpy(asked.texts.at + i, "\xc3\xa9", 2);
+}
+
+/* Both calls on a chain; answers whether it was accepted. */
+static int measure_chain(uint32_t pattern, uint32_t length, uint32_t rows)
+{
+    static const char letters[] = "ESCO";
+    int accepted = 1;
+    uint32_t i, mode;
+    chain_table(pattern, length, rows);
+    snprintf(asked.name, sizeof asked.name, "the table of %lu rows", (unsigned long)rows);
+    asked.asked = CHECK;
+    measure();
+    for (mode = 0; mode < 3; mode++) {
+        int at = snprintf(asked.name, sizeof asked.name, "%lu rows, ", (unsigned long)rows);
+        for (i = 0; i < length; i++)
+            at += snprintf(asked.name + at, 2, "%c", letters[kind_at(pattern, length, i)]);
+        snprintf(asked.name + at, 32, " over and over, mode %lu", (unsigned long)mode);
+        chain_list(pattern, length, rows, mode);
+        asked.asked = WRITE;
+        measure();
+        if (number == BIM_ACCEPTED) {
+            asked.payload.length = (bim_area_bits(area) + 7) / 8;
+            memcpy(asked.payload.at, payload, asked.payload.length);
+        } else if (number != BIM_DEPTH) {
+            fprintf(stderr, "%s: %s at %lu\n", asked.name, bim_refusal_name(number), (unsigned long)bim_area_place(area));
+            exit(2);
+        }
+        /* Too deep a list has no payload: the one before, of a row less, leads the reader as deep as it gets. */
+        asked.asked = READ;
+        accepted &= number == BIM_ACCEPTED;
+        measure();
+    }
+    return accepted;
+}
+
+static void measure_chains(void)
+{
+    uint32_t length, pattern, rows;
+    for (length = 1; length <= MOST_PATTERN; length++)
+        for (pattern = 0; pattern < (uint32_t)1 << 2 * length; pattern++)
+            for (rows = LONGEST; rows <= LONGEST + 2; rows++)
+                if (measure_chain(pattern, length, rows) != (rows == LONGEST)) {
+                    fprintf(stderr, "%s: the limit is elsewhere\n", asked.name);
+                    exit(2);
+                }
+}
+
+int main(int argc, char **argv)
+{
+    const size_t page = (size_t)sysconf(_SC_PAGESIZE);
+    uint8_t *whole = (uint8_t *)mmap(NULL, STACK + 2 * page, PROT_NONE, MAP_PRIVATE | MAP_ANONYMOUS, -1, 0);
+    int i, over = 0;
+    if (whole == (uint8_t *)MAP_FAILED || mprotect(whole + page, STACK, PROT_READ | PROT_WRITE) != 0) {
+        perror("stack: no pages");
+        return 2;
+    }
+    stack = whole + page;
+    measure_chains();
+    for (i = 1; i < argc; i++) {
+        FILE *file = fopen(argv[i], "r");
+        if (file == NULL) {
+            perror(argv[i]);
+            return 2;
+        }
+        while (next_vector(file, &asked))
+            measure();
+        fclose(file);
+    }
+    for (i = 0; i < 3; i++) {
+        printf("%-15s %6lu bytes of stack (%s)\n", call_names[i], (unsigned long)most[i], most_in[i]);
+        over |= most[i] > BIM_STACK;
+    }
+    printf("%lu calls measured; BIM_STACK is %lu%s\n", calls, (unsigned long)BIM_STACK, over ? ": TOO LITTLE" : "");
+    return over;
+}
