@@ -3,6 +3,7 @@
 
 mod bench;
 mod case;
+mod change;
 mod coded;
 mod pairs;
 mod reading;
@@ -11,7 +12,8 @@ mod writing;
 
 pub use bench::Bench;
 pub use case::{Call, Case};
-pub use coded::{decode, seeds};
+pub use change::change;
+pub use coded::{code, decode, seeds};
 
 use crate::cases;
 use crate::rng::Rng;
