@@ -11,7 +11,7 @@
 #include "vector.h"
 
 /* The root and the last element are open too, so the chain of 62 rows is the longest that may be. */
-enum { STACK = 1 << 19, PAINT = 0xa5, LONGEST = BIM_MOST_NAMES - 2, MOST_PATTERN = 4 };
+enum { STACK = 1 << 20, PAINT = 0xa5, LONGEST = BIM_MOST_NAMES - 2, MOST_PATTERN = 4 };
 
 static uint8_t *stack;
 static ucontext_t here, there;

@@ -195,7 +195,7 @@ impl<'a> Bench<'a> {
 }
 
 /// What the peer leaves.
-fn on_peer(case: &Case) -> Left {
+pub fn on_peer(case: &Case) -> Left {
     let mut outputs: Vec<_> = case.rooms.iter().map(|&room| vec![DIRT; room]).collect();
     let inputs: Vec<_> = case.inputs.iter().map(Vec::as_slice).collect();
     let number = case.ask(None, &inputs, &mut outputs.iter_mut().map(Vec::as_mut_slice).collect::<Vec<_>>());

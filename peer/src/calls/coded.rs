@@ -40,9 +40,14 @@ pub fn decode(bytes: &[u8]) -> Case {
     }
 }
 
+/// The bytes that code this case, briefly.
+pub fn code(case: &Case) -> Vec<u8> {
+    encode(case, named_tables().iter().position(|table| *table == case.inputs[0]))
+}
+
 /// The bytes that code this case, its table as the named one of that index or by its words, where its rooms and words are within the limits
 /// and its lengths whole words.
-pub fn encode(case: &Case, named: Option<usize>) -> Vec<u8> {
+fn encode(case: &Case, named: Option<usize>) -> Vec<u8> {
     let mut bytes = vec![case.call as u8];
     let (rooms, area) = case.rooms.split_at(case.rooms.len() - 1);
     let room = |index: usize| rooms.get(index).map_or(0, |&room| room as u32);

@@ -4,6 +4,7 @@
 mod bench;
 mod bits;
 mod case;
+mod change;
 mod coded;
 mod pairs;
 mod reading;
@@ -13,7 +14,8 @@ mod writing;
 pub use bench::Bench;
 pub use bits::{run as run_bits, BitBench, BitCalls};
 pub use case::{Call, Case};
-pub use coded::{decode, seeds};
+pub use change::change;
+pub use coded::{code, decode, seeds};
 
 use crate::cases;
 use crate::rng::Rng;

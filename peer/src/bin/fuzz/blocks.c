@@ -1,7 +1,8 @@
 /* What the fuzzer sees of the proved archive, into whose code no compiler put counters: each block of it begins with a breakpoint. Where
  * one is reached for the first time it is taken away, and libFuzzer is told by a counter. Code that was seen costs nothing any more.
  *
- * BLOCKS names a file of addresses in hexadecimal, ascending but for the first, which is that of bim_read (tests/blocks writes it). */
+ * BLOCKS names a file of addresses in hexadecimal, ascending but for the first, which is that of bim_read, each with a word that is for the eye
+ * (tests/blocks writes it). At the end those that were not reached are written beside it, to BLOCKS.left. */
 #define _GNU_SOURCE
 #include <signal.h>
 #include <stdint.h>
@@ -19,6 +20,7 @@ static struct {
     uint8_t *at, was;
 } blocks[MOST];
 static size_t count, seen;
+static uintptr_t base;
 
 static void at_breakpoint(int number, siginfo_t *info, void *context)
 {
@@ -51,14 +53,14 @@ int LLVMFuzzerInitialize(int *argc, char ***argv)
     FILE *file = path == NULL ? NULL : fopen(path, "r");
     const uintptr_t page = (uintptr_t)sysconf(_SC_PAGESIZE);
     struct sigaction action = {.sa_sigaction = at_breakpoint, .sa_flags = SA_SIGINFO};
-    uintptr_t listed, base;
+    uintptr_t listed;
     uint8_t *begin, *end;
     size_t i;
     (void)argc, (void)argv;
-    if (file == NULL || fscanf(file, "%lx", &listed) != 1)
+    if (file == NULL || fscanf(file, "%lx %*s", &listed) != 1)
         no_blocks("no file");
     base = (uintptr_t)bim_read - listed;
-    while (fscanf(file, "%lx", &listed) == 1) {
+    while (fscanf(file, "%lx %*s", &listed) == 1) {
         if (count == MOST || (count > 0 && (uint8_t *)(base + listed) <= blocks[count - 1].at))
             no_blocks("too many, or out of order");
         blocks[count++].at = (uint8_t *)(base + listed);
@@ -77,9 +79,19 @@ int LLVMFuzzerInitialize(int *argc, char ***argv)
     return 0;
 }
 
-/* How many blocks there are, and were reached. */
+/* How many blocks there are, and were reached; which were not, into the file. */
 void blocks_told(size_t *all, size_t *of_them)
 {
+    char path[4096];
+    FILE *file;
+    size_t i;
     *all = count;
     *of_them = seen;
+    snprintf(path, sizeof path, "%s.left", getenv("BLOCKS"));
+    file = fopen(path, "w");
+    for (i = 0; i < count && file != NULL; i++)
+        if (*blocks[i].at == BREAKPOINT)
+            fprintf(file, "%016lx\n", (uintptr_t)blocks[i].at - base);
+    if (file != NULL)
+        fclose(file);
 }

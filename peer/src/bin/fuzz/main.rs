@@ -6,12 +6,14 @@
 #[path = "../calls/proved.rs"]
 mod proved;
 
-use peer::calls::{ask, decode, Bench};
+use peer::calls::{ask, change, code, decode, Bench};
+use peer::rng::Rng;
 use std::cell::RefCell;
 use std::time::Instant;
 
 extern "C" {
     fn atexit(at_end: extern "C" fn()) -> i32;
+    fn LLVMFuzzerMutate(bytes: *mut u8, length: usize, room: usize) -> usize;
     fn blocks_told(all: &mut usize, of_them: &mut usize);
 }
 
@@ -71,4 +73,25 @@ pub extern "C" fn LLVMFuzzerTestOneInput(bytes: *const u8, length: usize) -> i32
         }
     });
     0
+}
+
+/// What libFuzzer calls for a new input: now and then its own change of the bytes, else one of the case.
+///
+/// # Safety
+///
+/// `bytes` are `room` bytes, of which `length` are an input.
+#[no_mangle]
+pub unsafe extern "C" fn LLVMFuzzerCustomMutator(bytes: *mut u8, length: usize, room: usize, seed: u32) -> usize {
+    let mut rng = Rng::new(u64::from(seed));
+    let mut coded = vec![];
+    if !rng.one_in(3) {
+        let mut case = decode(std::slice::from_raw_parts(bytes, length));
+        change(&mut rng, &mut case);
+        coded = code(&case);
+    }
+    if coded.is_empty() || coded.len() > room {
+        return LLVMFuzzerMutate(bytes, length, room);
+    }
+    std::slice::from_raw_parts_mut(bytes, coded.len()).copy_from_slice(&coded);
+    coded.len()
 }

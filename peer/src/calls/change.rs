@@ -1,0 +1,110 @@
+//! A case changed in one way: what the fuzzer tries besides its own changes to the bytes, which make most cases refused early.
+
+use super::bench::on_peer;
+use super::case::{big_endian, Call, Case};
+use super::reading::root;
+use crate::answer::kind;
+use crate::gen::{self, damage_list, damage_payload, damage_table, let_go};
+use crate::host;
+use crate::rng::Rng;
+use crate::trials::table_and_sample;
+
+/// Changes the case.
+pub fn change(rng: &mut Rng, case: &mut Case) {
+    match rng.below(12) {
+        0 => case.mode = rng.below(4) as u32,
+        1 => case.root = root(rng, case.root, case.inputs[0].get(7).map_or(1, |&types| u32::from(types).max(1))),
+        2 => other_room(rng, case),
+        3 => change_table(rng, case),
+        4..=6 => turn(rng, case),
+        7 => other_flags(rng, case),
+        8 if rng.one_in(4) => *case = fresh(rng),
+        _ => change_content(rng, case),
+    }
+}
+
+/// A seeded case that is accepted.
+fn fresh(rng: &mut Rng) -> Case {
+    let (table, sample) = table_and_sample(rng, 0);
+    if rng.one_in(2) {
+        Case::read_sample(&table, &sample)
+    } else {
+        Case::write_sample(&table, &sample)
+    }
+}
+
+/// Another room, for the area more rarely.
+fn other_room(rng: &mut Rng, case: &mut Case) {
+    let outputs = case.rooms.len() - usize::from(!rng.one_in(8));
+    if outputs > 0 {
+        let room = &mut case.rooms[rng.below(outputs)];
+        *room = rng.pick(&[0, room.saturating_sub(1), *room + 1, room.saturating_sub(16), *room + 16, 8192, 32_768]);
+    }
+}
+
+/// Types let go, or a word changed.
+fn change_table(rng: &mut Rng, case: &mut Case) {
+    let right = host::check_table(&case.inputs[0], &mut [0; host::AREA_BYTES]) == 0;
+    let mut words: Vec<_> = words_of(&case.inputs[0]);
+    if right && rng.one_in(2) {
+        words = let_go(rng, &words, 5);
+    } else if !words.is_empty() {
+        damage_table(rng, &mut words);
+    }
+    case.inputs[0] = big_endian(&words);
+}
+
+/// A reading to be written, in any mode; what is written to be read; a table to be read with.
+fn turn(rng: &mut Rng, case: &mut Case) {
+    let left = on_peer(case);
+    let mut turned = match case.call {
+        Call::Check => Case::read(&[], (1, 0), gen::noise(rng), 1600, 100),
+        Call::Read => match (left.events(), left.texts()) {
+            (Some(events), Some(texts)) if left.is_accepted() => {
+                let room = case.inputs[1].len() + rng.below(60);
+                Case::write(&[], case.root, rng.below(3) as u32, events.to_vec(), texts.to_vec(), room)
+            }
+            _ => return change_content(rng, case),
+        },
+        Call::Write => match left.outputs[0].get(..left.word(4).div_ceil(8)) {
+            Some(payload) if left.is_accepted() => {
+                Case::read(&[], case.root, payload.to_vec(), case.inputs[1].len(), case.inputs[2].len())
+            }
+            _ => return change_content(rng, case),
+        },
+    };
+    turned.inputs[0] = std::mem::take(&mut case.inputs[0]);
+    *case = turned;
+}
+
+/// Lengths coded or not, element by element.
+fn other_flags(rng: &mut Rng, case: &mut Case) {
+    if case.call == Call::Write {
+        let (mode, among) = rng.pick(&[(0, 1), (1, 2), (1, 2), (2, 2)]);
+        case.mode = mode;
+        for event in case.inputs[1].chunks_exact_mut(16).filter(|event| event[..4] == kind::START.to_be_bytes()) {
+            event[11] = if mode == 2 { 1 } else { rng.below(among) as u8 };
+        }
+    }
+}
+
+fn change_content(rng: &mut Rng, case: &mut Case) {
+    match case.call {
+        Call::Check => change_table(rng, case),
+        Call::Read => damage_payload(rng, &mut case.inputs[1]),
+        Call::Write => {
+            let mut events: Vec<_> = words_of(&case.inputs[1])
+                .chunks_exact(4)
+                .map(|event| [event[0], event[1], event[2], event[3]])
+                .collect();
+            if !events.is_empty() {
+                damage_list(rng, &mut events, &mut case.inputs[2]);
+            }
+            case.inputs[1] = big_endian(&events.concat());
+        }
+    }
+}
+
+fn words_of(bytes: &[u8]) -> Vec<u32> {
+    bytes.chunks_exact(4).map(|word| u32::from_be_bytes([word[0], word[1], word[2], word[3]])).collect()
+}

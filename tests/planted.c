@@ -1,0 +1,33 @@
+/* A bim_read with a fault of this number, around the right one (tests/planted renames that to right_read): what the trials have to find. */
+#include <stdlib.h>
+#include "bim.h"
+
+uint32_t right_read(const uint8_t *table, size_t table_bytes, uint32_t root_name, uint32_t root_type, const uint8_t *payload,
+                    size_t payload_bytes, uint8_t *events, size_t events_bytes, uint8_t *texts, size_t texts_bytes, uint8_t *area,
+                    size_t area_bytes);
+
+uint32_t bim_read(const uint8_t *table, size_t table_bytes, uint32_t root_name, uint32_t root_type, const uint8_t *payload,
+                  size_t payload_bytes, uint8_t *events, size_t events_bytes, uint8_t *texts, size_t texts_bytes, uint8_t *area,
+                  size_t area_bytes)
+{
+    volatile uint8_t deep[FAULT == 6 ? BIM_STACK : 1], *never_written = (volatile uint8_t *)malloc(1);
+    uint32_t number;
+    deep[0] = never_written == NULL;
+    number = right_read(table, table_bytes, root_name, root_type, payload, payload_bytes, events, events_bytes, texts, texts_bytes, area,
+                        area_bytes);
+    if (FAULT == 1) /* writes past a buffer */
+        *(volatile uint8_t *)(events + events_bytes) = 0xdd;
+    if (FAULT == 2) /* reads past a buffer */
+        deep[0] = *(const volatile uint8_t *)(payload + payload_bytes);
+    if (FAULT == 3 && table_bytes > 0) /* writes to what is only lent for reading, though the same byte */
+        *(volatile uint8_t *)(uintptr_t)table = table[0];
+    if (FAULT == 4 && *never_written == 7) /* depends on a byte that was never written */
+        deep[0] = 2;
+    if (FAULT == 5 && number == BIM_ACCEPTED && bim_area_text(area) > 3) /* a wrong byte */
+        texts[3] ^= 1;
+    if (FAULT == 7 && number == BIM_ACCEPTED && bim_area_mode(area) == 1 && bim_area_text(area) > 3) /* one that no vector meets */
+        texts[3] ^= 1;
+    free((void *)(uintptr_t)never_written);
+    (void)deep[0];
+    return number;
+}
