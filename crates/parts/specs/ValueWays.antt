@@ -13,8 +13,7 @@ use Rattle.table.specs.Rows.{tableOf}
 use Rattle.value.specs.Simple.{Simple, simpleOf, simpleAt, bytesAt, SimpleIs, a-code, a-text, bytes, count}
 use Rattle.value.specs.SimpleLaws.{bytes-length, length-bytes, FoundSimple, simple-found}
 use Rattle.value.specs.Code.{bitsOf}
-use Rattle.value.specs.Answer.{formIs, valueIs}
-use Rattle.value.specs.declared.Form.{Form}
+use Rattle.value.specs.Answer.{valueIs}
 use Rattle.value.specs.declared.Value.{Value}
 use Rattle.value.specs.declared.Value.the-variants as of-value
 use Rattle.model.specs.Model.{event, value}
@@ -33,9 +32,9 @@ text-bits : {s : Simple} {v : ℕ} {ts w : List ℕ} → SimpleIs s v ts w → 8
 text-bits (a-code h) = omega arith
 text-bits (a-text {l} h o z) = omega (arith, length-append (bitsOf count (length l)) (bytes l), length-bytes l)
 
-module _ (s : List ℕ) (wall k x y : ℕ) (c : Cursor) (E T : List ℕ) (f : Form) (g : formIs f ≡ simpleOf k x y) (r : Value) (e : valueIs (bitAt s) r ≡ simpleAt (formIs f) (bitAt s) wall (c .at .0)) where
+module _ (s : List ℕ) (wall k x y : ℕ) (c : Cursor) (E T : List ℕ) (r : Value) (e : valueIs (bitAt s) r ≡ simpleAt (simpleOf k x y) (bitAt s) wall (c .at .0)) where
   item-is : itemAt (valued k x y) (bitAt s) wall (c .at .0) ≡ valueIs (bitAt s) r
-  item-is = item-valued (bitAt s) wall (c .at .0) k x y ∙ rw (← g) (sym e)
+  item-is = item-valued (bitAt s) wall (c .at .0) k x y ∙ sym e
 
   -- the reading of the plan, by what the call answered
   read-is : (mode : Mode) (held : ℕ → Bool) (π : List ℕ) (a : Value) → r ≡ a → read (bitAt s) mode held (value k x y done) (roomOf E T c) π wall (c .at .0)
@@ -54,9 +53,9 @@ module _ (s : List ℕ) (wall k x y : ℕ) (c : Cursor) (E T : List ℕ) (f : Fo
     unfolding valueIs code
     value-read t E′ T′ l = record { says = λ mode held π. l .says π ∙ sym (rw (read-is mode held π (of-value.Read word n bits next) h)) }
 
-    found : FoundSimple (bitAt s) (formIs f) wall (c .at .0) word ts (next .0)
+    found : FoundSimple (bitAt s) (simpleOf k x y) wall (c .at .0) word ts (next .0)
     unfolding valueIs
-    found = simple-found (bitAt s) (bit-lt s) (formIs f) wall (c .at .0) .says (word, ts, next .0) (sym e ∙ rw h)
+    found = simple-found (bitAt s) (bit-lt s) (simpleOf k x y) wall (c .at .0) .says (word, ts, next .0) (sym e ∙ rw h)
 
     pub value-within : (end : ℕ) → wall ≤ end → next .0 ≤ end
     value-within end k = omega (arith, found .within)

@@ -4,8 +4,7 @@ use crate::Step;
 use crate::storing::store;
 use utf8::slanted::octet;
 use value::Value;
-use value::forms;
-use value::reading::simple;
+use value::kinds::of_kind;
 use wire::Bits;
 use wire::Bytes;
 ghost use mathlib.Core.Path.{_≡_};
@@ -88,8 +87,7 @@ pub fn value(
     ensures { λ r. ⌜ Reads (model.value kind x y done) (bitAt (now (payload .entry))) (wall .0) c (now (events .entry)) (now (texts .entry)) r (now (events .exit)) (now (texts .exit)) ⌝ }
 {
     let at = c.at;
-    let f = forms::simple(kind, x, y);
-    match simple(payload, wall, at, f) {
+    match of_kind(payload, wall, at, kind, x, y) {
         Value::Refuse(n) => Step::Refuse(n, at),
         Value::Read {
             word,

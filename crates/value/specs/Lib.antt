@@ -6,6 +6,7 @@ pub mod Answer
 pub mod FormWays
 pub mod Octets
 pub mod ReadWays
+pub mod KindWays
 pub mod Written
 pub mod WriteWays
 pub mod LayWays

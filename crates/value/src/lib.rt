@@ -1,5 +1,6 @@
 // Values: which code a row of the table asks for, and such a code read and written.
 pub mod forms; // forms.rt: the code that a range, an occurs row or a simple kind asks for
+pub mod kinds; // kinds.rt: a simple value read by its kind at once
 mod octets; // octets.rt: bytes into a lent buffer, from a byte or from a bit of one on
 pub mod reading; // reading.rt: a code or a simple value from a place, below a wall
 pub mod writing; // writing.rt: its size, and its bits into a lent buffer

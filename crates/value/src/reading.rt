@@ -86,7 +86,7 @@ fn join(sign: u32, magnitude: u32, next: Bits) -> Read
 }
 
 // A sign bit and a magnitude.
-fn signed_number(s: &[u8], end: Bits, at: Bits) -> Read
+pub fn signed_number(s: &[u8], end: Bits, at: Bits) -> Read
     requires { ⌜ end .0 ≤ 8 * length (now s) ⌝ }
     ensures { λ r. ⌜ readIs r ≡ codeAt signed (bitAt (now (s .entry))) (end .0) (at .0) ⌝ }
 {
@@ -124,7 +124,7 @@ fn some_number(s: &[u8], end: Bits, at: Bits, i: Inner) -> Read
 }
 
 // A word from lo on.
-fn shifted_number(s: &[u8], end: Bits, at: Bits, lo: u32, i: Inner) -> Read
+pub fn shifted_number(s: &[u8], end: Bits, at: Bits, lo: u32, i: Inner) -> Read
     requires { ⌜ end .0 ≤ 8 * length (now s) ⌝ }
     ensures { λ r. ⌜ readIs r ≡ codeAt (shifted lo (innerIs i)) (bitAt (now (s .entry))) (end .0) (at .0) ⌝ }
 {

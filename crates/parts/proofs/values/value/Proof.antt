@@ -4,11 +4,8 @@ use borrow.Author.Needs.{needs}
 use Rattle.parts.proofs.values.value.Statement.{statement}
 use Rattle.parts.proofs.values.value.Tie as tie
 
-simple-requires : tie.Need-simple-requires
-simple-requires c κs = search needs
-
-simple-requires-2 : tie.Need-simple-requires-2
-simple-requires-2 c κs = search needs
+of-kind-requires : tie.Need-of-kind-requires
+of-kind-requires c κs = search needs
 
 enum-known-n : tie.Need-enum-known-n
 enum-known-n c = search needs
@@ -35,8 +32,7 @@ pub value-spec : {M : Type 1} → statement M
 value-spec =
     tie.close
     (tie.spec
-    simple-requires
-    simple-requires-2
+    of-kind-requires
     enum-known-n
     enum-known-word
     keep-requires

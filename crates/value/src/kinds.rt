@@ -1,0 +1,80 @@
+// A simple value read by its kind at once: what `reading::simple` gives of the kind's form, without that form in memory on the way.
+use super::Form;
+use super::Inner;
+use super::Value;
+use super::reading::choice;
+use super::reading::number;
+use super::reading::shifted_number;
+use super::reading::signed_number;
+use super::reading::simple;
+use signed::Gap;
+use signed::gap;
+use wire::Bits;
+use wire::Bytes;
+use wire::Read;
+use wire::reading::fixed;
+ghost use mathlib.Core.Path.{_≡_};
+ghost use Prim.Native.Nat.{_*_, _≤_};
+ghost use lib.ListN.{length};
+ghost use Rattle.wire.specs.Bits.{bitAt};
+ghost use Rattle.wire.specs.Answer.{readIs};
+ghost use Rattle.value.specs.Code.{codeAt};
+ghost use Rattle.value.specs.Simple.{rangeCode, simpleOf, simpleAt};
+ghost use Rattle.value.specs.Answer.{valueIs, Took};
+ghost use Rattle.value.specs.KindWays.{kindCode};
+
+// A value from b to c, both signed.
+fn ranged(s: &[u8], end: Bits, at: Bits, b: u32, c: u32) -> Read
+    requires { ⌜ end .0 ≤ 8 * length (now s) ⌝ }
+    ensures { λ r. ⌜ readIs r ≡ codeAt (rangeCode b c) (bitAt (now (s .entry))) (end .0) (at .0) ⌝ }
+{
+    match gap(b, c) {
+        Gap::Under => choice(s, end, at, 0),
+        Gap::By(k) => {
+            if k <= 65535 {
+                return shifted_number(s, end, at, b, Inner::Choice(k + 1));
+            }
+            shifted_number(s, end, at, b, Inner::Five(k))
+        }
+    }
+}
+
+// The number of a kind that is no text.
+fn by_kind(s: &[u8], end: Bits, at: Bits, kind: u32, b: u32, c: u32) -> Read
+    requires { ⌜ end .0 ≤ 8 * length (now s) ⌝ }
+    ensures { λ r. ⌜ readIs r ≡ codeAt (kindCode kind b c) (bitAt (now (s .entry))) (end .0) (at .0) ⌝ }
+{
+    match kind {
+        0 => choice(s, end, at, 2),
+        1 => ranged(s, end, at, b, c),
+        2 => number(s, end, at, 4294967295),
+        3 => signed_number(s, end, at),
+        4 => choice(s, end, at, b),
+        6 => fixed(s, end, at, 32),
+        _ => choice(s, end, at, 0),
+    }
+}
+
+// A simple value of a kind with its parameters.
+pub fn of_kind(s: &[u8], end: Bits, at: Bits, kind: u32, b: u32, c: u32) -> Value
+    requires { ⌜ end .0 ≤ 8 * length (now s) ⌝ }
+    ensures { λ r. ⌜ (valueIs (bitAt (now (s .entry))) r ≡ simpleAt (simpleOf kind b c) (bitAt (now (s .entry))) (end .0) (at .0)) × Took (at .0) r ⌝ }
+{
+    if kind == 5 {
+        return simple(s, end, at, Form::Text);
+    }
+    let a = at.0;
+    match by_kind(s, end, at, kind, b, c) {
+        Read::Refuse(e) => Value::Refuse(e),
+        Read::Value(v, p) => {
+            let bits = Bits(p.0 - a);
+            let none = Bytes(0);
+            Value::Read {
+                word: v,
+                text: none,
+                bits,
+                next: p,
+            }
+        }
+    }
+}
