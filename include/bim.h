@@ -47,7 +47,7 @@ extern "C" {
 
 /* The stack, in bytes, that a call never needs more than. It has no arrays but of fixed length, and calls itself once for each row open, of
  * which there are at most 64. `make stack` measures it, and bounds it by the frames of the machine code (x86-64). */
-#define BIM_STACK 327680
+#define BIM_STACK 196608
 
 /* The kinds of an event, and what its words p and q then are (else 0). Its fourth word is the bits that it took. */
 enum {

@@ -1,7 +1,7 @@
 -- Each way through the pen.
 use Prim.Native.Nat.{ℕ, zero, suc, _+_, _-_, _*_, _^_, _<_, _≤_, min}
 use mathlib.Core.Path.{_≡_, refl, sym, ap, subst, _∙_}
-use mathlib.Core.List.{List, [], _∷_, _++_}
+use mathlib.Core.List.{List, [], _∷_, _++_, append-nil}
 use native.Mathlib.Omega.{arith}
 use native.Mathlib.Decide.{decLe}
 use lib.ListN.{length, take, drop, length-append, length-take, length-drop}
@@ -40,13 +40,6 @@ cut : (X : List ℕ) (m from x : ℕ) → from ≡ min x (length X) → take (mi
 cut X m from x e = rw (← length-drop from X) (taken-all (drop from X) m ∙ ap (take m) (ap (λ (i : ℕ). drop i X) e ∙ dropped X x))
 
 -- put_piece
-pub put-nothing : (s : List ℕ) (at : ℕ) (X : List ℕ) (p : Piece) → p .width ≡ 0 → Wrote s s at (pieceBits X p) at
-unfolding digits
-put-nothing s at X p e =
-    let z : pieceBits X p ≡ [] = ap (λ (w : ℕ). piece X w (p .x)) e ∙ piece-fixed X 0 (p .x) (omega arith) in
-    rw z (record { bits = put-none (bitAt s) at; next = omega arith })
-
--- put_bits
 module _ (s : List ℕ) (at : ℕ) (X : List ℕ) (p : Piece) where
   module _ (h : p .width < 33) where
     pub room-fixed : Room s at (length (pieceBits X p)) → Room s at (p .width)
@@ -72,10 +65,21 @@ module _ (s : List ℕ) (at : ℕ) (X : List ℕ) (p : Piece) where
     pub put-part : (t : List ℕ) (q : ℕ) → Wrote s t at (bytes (take (from + n - from) (drop from X))) q → Wrote s t at (pieceBits X p) q
     put-part t q w = rw (piece-bytes X (p .width) (p .x) (omega arith)) (rw same-part at w)
 
-pub ruleset put-bits-ways = (room-fixed, put-fixed, room-five, put-five, room-bytes, put-part)
+pub ruleset put-piece-ways = (room-fixed, put-fixed, room-five, put-five, room-bytes, put-part)
+
+-- a piece without bits
+no-piece : (X : List ℕ) (p : Piece) → p .width ≡ 0 → pieceBits X p ≡ []
+unfolding digits
+no-piece X p e = ap (λ (w : ℕ). piece X w (p .x)) e ∙ piece-fixed X 0 (p .x) (omega arith)
 
 -- put_note
 module _ (s : List ℕ) (at : ℕ) (X : List ℕ) (n : Note) where
+  pub put-no-piece : n .two .width ≡ 0 → n .one .width ≡ 0 → Wrote s s at (noteBits X n) at
+  put-no-piece e f = rw (no-piece X (n .one) f, no-piece X (n .two) e) (record { bits = put-none (bitAt s) at; next = omega arith })
+
+  pub put-one-piece : (t : List ℕ) (q : ℕ) → n .two .width ≡ 0 → Wrote s t at (pieceBits X (n .one)) q → Wrote s t at (noteBits X n) q
+  put-one-piece t q e w = rw (no-piece X (n .two) e, append-nil (pieceBits X (n .one))) w
+
   pub room-one : Room s at (length (noteBits X n)) → Room s at (length (pieceBits X (n .one)))
   room-one r = let l = length-append (pieceBits X (n .one)) (pieceBits X (n .two)) in omega arith
 
@@ -85,7 +89,7 @@ module _ (s : List ℕ) (at : ℕ) (X : List ℕ) (n : Note) where
   pub put-both-pieces : (t u : List ℕ) (p q : ℕ) → Wrote s t at (pieceBits X (n .one)) p → Wrote t u p (pieceBits X (n .two)) q → Wrote s u at (noteBits X n) q
   put-both-pieces t u p q f g = wrote-both s t u at p q (pieceBits X (n .one)) (pieceBits X (n .two)) f g
 
-pub ruleset put-note-ways = (room-one, room-two, put-both-pieces)
+pub ruleset put-note-ways = (put-no-piece, put-one-piece, room-one, room-two, put-both-pieces)
 
 -- put_notes: the first i notes stand
 module _ (s : List ℕ) (at : ℕ) (X N : List ℕ) where

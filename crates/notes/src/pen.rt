@@ -19,7 +19,7 @@ fn least(a: usize, b: usize) -> usize
 }
 
 // A piece, by its kind, and the place past it.
-fn put_bits(payload: &mut [u8], at: Bits, texts: &[u8], p: Piece) -> Bits
+fn put_piece(payload: &mut [u8], at: Bits, texts: &[u8], p: Piece) -> Bits
     requires { ⌜ Room (now payload) (at .0) (length (pieceBits (now texts) p)) ⌝ }
     ensures { λ r. ⌜ Wrote (now (payload .entry)) (now (payload .exit)) (at .0) (pieceBits (now (texts .entry)) p) (r .0) ⌝ }
 {
@@ -37,25 +37,19 @@ fn put_bits(payload: &mut [u8], at: Bits, texts: &[u8], p: Piece) -> Bits
     put_bytes(payload, at, &texts[from..to])
 }
 
-// A piece, and the place past it. Most events have a piece without bits: nothing is called for it.
-fn put_piece(payload: &mut [u8], at: Bits, texts: &[u8], p: Piece) -> Bits
-    requires { ⌜ Room (now payload) (at .0) (length (pieceBits (now texts) p)) ⌝ }
-    ensures { λ r. ⌜ Wrote (now (payload .entry)) (now (payload .exit)) (at .0) (pieceBits (now (texts .entry)) p) (r .0) ⌝ }
-{
-    let w = p.width;
-    if w == 0 {
-        return at;
-    }
-    put_bits(payload, at, texts, p)
-}
-
-// An event's note, and the place past it.
+// An event's note, and the place past it. Most notes have one piece with bits or none: nothing is called for the others.
 fn put_note(payload: &mut [u8], at: Bits, texts: &[u8], n: Note) -> Bits
     requires { ⌜ Room (now payload) (at .0) (length (noteBits (now texts) n)) ⌝ }
     ensures { λ r. ⌜ Wrote (now (payload .entry)) (now (payload .exit)) (at .0) (noteBits (now (texts .entry)) n) (r .0) ⌝ }
 {
     let one = n.one;
     let two = n.two;
+    if two.width == 0 {
+        if one.width == 0 {
+            return at;
+        }
+        return put_piece(payload, at, texts, one);
+    }
     let p = put_piece(payload, at, texts, one);
     put_piece(payload, p, texts, two)
 }
