@@ -23,7 +23,9 @@ fn main() -> ExitCode {
     let library = proved::Library::default();
     let run = if sample { peer::calls::sample } else { peer::calls::run };
     let good = run(&library, cases, seed).report();
-    let good = peer::calls::run_bits(&library, cases, seed).report() && good;
+    // Codes are small: a sample takes more of them, so that every number is met.
+    let codes = if sample { 20 * cases } else { cases };
+    let good = peer::calls::run_bits(&library, codes, seed).report() && good;
     println!("time {:.1} s", begun.elapsed().as_secs_f64());
     if good {
         ExitCode::SUCCESS
