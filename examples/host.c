@@ -4,7 +4,7 @@
  *
  * A names file has a number and a word on each line; without one, names are shown as numbers. An element whose type is not held is
  * shown as what it is, a hole: [not held: name, n bits]. An enumeration is shown as #index.
- * Exit status: 0 all were read, 1 some were refused, 2 a file or the table is no good. */
+ * Exit status: 0 all were read, 1 some were refused, 2 a file or the table is no good, 3 a list does not fit its table (never seen). */
 #include <stdio.h>
 #include <stdlib.h>
 #include <string.h>
