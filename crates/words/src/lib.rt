@@ -89,3 +89,14 @@ pub fn clear(s: &mut [u8])
         i += 1;
     }
 }
+
+// Zero words throughout.
+pub fn clear_words(a: &mut [u32])
+    ensures { λ _. ⌜ now (a .exit) ≡ replicate (length (now (a .entry))) 0 ⌝ }
+{
+    let mut i = 0;
+    while i < a.len() {
+        a[i] = 0;
+        i += 1;
+    }
+}

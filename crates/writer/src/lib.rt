@@ -1,11 +1,9 @@
 // The writer: a walk over the list of events that judges each and notes its bits, then the pen.
-mod clear; // clear.rt: the lent payload made zero
 mod front; // front.rt: what is judged before the walk, and after it
 mod ink; // ink.rt: the mode byte and the notes, into the payload
 pub mod simple; // simple.rt: values and attributes
 pub mod walk; // walk.rt: the cycle element, content, particle, rounds
 
-use clear::bytes;
 use front::Fault;
 use front::asked;
 use front::settled;
@@ -15,6 +13,7 @@ use notes::Step;
 use walk::element;
 use wire::Bits;
 use wire::Bytes;
+use words::clear;
 ghost use mathlib.Core.Path.{_≡_};
 ghost use mathlib.Core.List.{[]};
 ghost use Prim.Native.Nat.{_*_, _≤_};
@@ -132,7 +131,7 @@ pub fn write(
 ) -> Answer
     ensures { λ r. ⌜ Writes (writing (now (table .entry)) «root_name» «root_type» mode (now (events .entry)) (now (texts .entry)) (length (now (payload .entry)))) mode (eventsIn (now (events .entry))) (length (now (texts .entry))) (length (now (payload .entry))) r (now (payload .exit)) ⌝ }
 {
-    bytes(payload);
+    clear(payload);
     let f = asked(table, root_name, root_type, mode, events);
     if let Fault::At(n, p) = f {
         return refused(n, p);

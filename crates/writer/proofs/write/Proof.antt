@@ -5,8 +5,8 @@ use borrow.Author.Needs.{needs}
 use Rattle.writer.proofs.write.Statement.{statement}
 use Rattle.writer.proofs.write.Tie as tie
 
-bytes-requires : tie.Need-bytes-requires
-bytes-requires c κs = search needs
+clear-requires : tie.Need-clear-requires
+clear-requires c κs = search needs
 
 asked-requires : tie.Need-asked-requires
 asked-requires c κs = search needs
@@ -31,13 +31,13 @@ slice-aggregate-noted c = search needs
 
 noted-requires : tie.Need-noted-requires
 noted-requires c κs =
-    (write-fine _ _ _ _ _ _ (c .before .before .before .before .before .asked .ensures) (c .before .before .before .enum-told .given .1), search (zeros-are, c .before .before .before .before .before .before .before .before .bytes .ensures), omega arith)
+    (write-fine _ _ _ _ _ _ (c .before .before .before .before .before .asked .ensures) (c .before .before .before .enum-told .given .1), search (zeros-are, c .before .before .before .before .before .before .before .before .clear .ensures), omega arith)
 
 same-length-2 : tie.Need-same-length-2
 same-length-2 c = search needs
 
 returns-2 : tie.Need-returns-2
-returns-2 c = search (write-into, c .before .before .before .before .before .before .before .before .before .before .before .before .bytes .kept .0, c .before .before .before .noted .ensures)
+returns-2 c = search (write-into, c .before .before .before .before .before .before .before .before .before .before .before .before .clear .kept .0, c .before .before .before .noted .ensures)
 
 slice-aggregate-noted-2 : tie.Need-slice-aggregate-noted-2
 slice-aggregate-noted-2 c = search needs
@@ -45,19 +45,19 @@ slice-aggregate-noted-2 c = search needs
 noted-requires-2 : tie.Need-noted-requires-2
 noted-requires-2 c κs =
     let f = write-fine _ _ _ _ _ _ (c .before .before .before .before .before .asked .ensures) (c .before .before .before .enum-told .given .1) in
-    (f, search (zeros-are, c .before .before .before .before .before .before .before .before .bytes .ensures), omega (arith, write-room _ _ _ _ _ f))
+    (f, search (zeros-are, c .before .before .before .before .before .before .before .before .clear .ensures), omega (arith, write-room _ _ _ _ _ f))
 
 same-length-3 : tie.Need-same-length-3
 same-length-3 c = search needs
 
 returns-3 : tie.Need-returns-3
-returns-3 c = search (write-into, c .before .before .before .before .before .before .before .before .before .before .before .before .bytes .kept .0, c .before .before .before .noted2 .ensures)
+returns-3 c = search (write-into, c .before .before .before .before .before .before .before .before .before .before .before .before .clear .kept .0, c .before .before .before .noted2 .ensures)
 
 pub write-spec : {M : Type 1} → statement M
 write-spec =
     tie.close
     (tie.spec
-    bytes-requires
+    clear-requires
     asked-requires
     enum-known-f
     refused-requires
