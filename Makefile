@@ -1,5 +1,5 @@
 # Two commands for everybody (run, test), two for C programmers (host, install), the rest for those who work here.
-.PHONY: test run host install fuzz soak stack sanitized bench peer fmt face quotes
+.PHONY: test run host install fuzz soak stack sanitized bench figures peer fmt face quotes
 
 PREFIX = /usr/local
 CFLAGS = -O2
@@ -72,7 +72,7 @@ fuzz: SECONDS = 60
 fuzz: $(ARCHIVE)
 	bash tests/fuzz $(SECONDS)
 
-# The proved C calls against the peer on seeded cases: make soak CASES=20000000 SEED=1. Prints the rows of docs/TRUST.md.
+# The proved C calls against the peer on seeded cases: make soak CASES=20000000 SEED=1. Prints rows of docs/FIGURES.md.
 soak: CASES = 20000000
 soak: SEED = $(shell date +%s)
 soak: peer/target/release/calls
@@ -82,10 +82,15 @@ peer/target/release/calls: $(ARCHIVE) $(shell find peer/src peer/build.rs peer/C
 	cd peer && cargo build --release --locked --offline --quiet --features host_write --bin calls
 	@touch $@
 
-# The proved C calls against the peer's fast ones: times, instruction counts and growth. `make bench >docs/FIGURES.md` renews that page.
+# The proved C calls against the peer's fast ones: times, instruction counts and growth. A part of docs/FIGURES.md.
 bench:
 	@$(MAKE) --no-print-directory $(ARCHIVE) >&2
 	@cd peer && cargo build --profile speed --locked --offline --quiet --features host_write --bin speed && target/speed/speed
+
+# docs/FIGURES.md anew, or only some of its parts: make figures PARTS="lines stack" (lines gate stack speed split soak fuzz).
+figures: PARTS =
+figures: target/c/stack peer/target/release/calls
+	@bash dev/figures $(PARTS) >target/figures.md && mv target/figures.md docs/FIGURES.md
 
 # The second, independent implementation: its tests, the demands as properties, and the vectors asked again.
 peer:

@@ -10,7 +10,7 @@ use Rattle.value.specs.Simple.{Simple, plain, timesCode, simpleOf, simpleAt, Si
 use Rattle.model.specs.Model.{Item}
 use Rattle.model.specs.Model.Item.{required, valued, picked, counted}
 
--- length coding: none, by a flag, always
+-- lengthCodingMode (001, 8.3.2.2, Table 8): 00 not coded, 01 optionally coded, 10 always coded
 pub data Mode : Type 0 where
   never optional always : Mode
 
@@ -53,7 +53,7 @@ abbrev pub Measures : Length → ℕ → Type 0
 Measures free k = Unit
 Measures (long n) k = n ≡ k
 
--- a head, by the declared type: the type, the length, the bits of flag and length
+-- a head (the first lines of 001, 8.4.2.1), by the declared type: the type, the length, the bits of LengthFlag and TheLength
 pub data HeadIs : Mode → ℕ → ℕ → Length → List ℕ → Type 0 where
   no-head : {t : ℕ} → HeadIs never t t free []
   flag-off : {t : ℕ} → HeadIs optional t t free (bitsOf flag 0)
@@ -73,7 +73,7 @@ pub data Head : Type 0 where
   bare : (type body : ℕ) → Head
   sized : (type body end : ℕ) → Head
 
--- after the flag, where there is one: TheLength, which counts the bits after itself; 10 where it passes the wall
+-- after the flag, where there is one: TheLength, which counts the bits after itself (001, 8.4.2.2); 10 where it passes the wall
 unfoldable pub lengthAt : ℕ → (ℕ → ℕ) → ℕ → ℕ → ℕ → Res Head
 lengthAt zero b type wall at = got (bare type at)
 lengthAt (suc k) b type wall at = do

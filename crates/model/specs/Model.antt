@@ -20,7 +20,8 @@ event k p q n = record { kind = k; p = p; q = q; bits = n }
 abbrev pub end : Event
 end = event 6 0 0 0
 
--- one code that gives one event: a required attribute (no bits), an optional one's flag, a value, a branch, a count
+-- one code that gives one event: a required attribute (no bits) and an optional one's flag (001, 8.5.3), a value (8.5.4), a branch, which is a
+-- code transition (8.5.2.4.1), a count, which is a loop's (8.5.2.4.3)
 pub data Item : Type 0 where
   required : (name : ℕ) → Item
   optional : (name : ℕ) → Item
@@ -36,14 +37,15 @@ eventOf (valued kind b c) v n = event 3 v 0 n
 eventOf (picked count) v n = event 4 v 0 n
 eventOf (counted least most) v n = event 5 v 0 n
 
--- nothing more; a row too many; an item and, by its value, the rest; an element, what its type lets come inside it, the rest
+-- nothing more; a row too many (document 01's limit of 64); an item and, by its value, the rest; an element (a type state, 001, 8.5.2.4.2), what
+-- its type lets come inside it, the rest
 pub data Plan : Type 0 where
   done : Plan
   deep : Plan
   item : Item → (ℕ → Plan) → Plan
   element : (name type : ℕ) → (inside : ℕ → Plan) → (rest : Plan) → Plan
 
--- attributes come in the table's order: the value of one that is present, no value of one that is absent
+-- attributes (001, 8.5.3) come in the table's order: the value of one that is present, no value of one that is absent
 unfoldable pub value : ℕ → ℕ → ℕ → Plan → Plan
 value kind b c rest = item (valued kind b c) (λ v. rest)
 
@@ -59,7 +61,7 @@ unfoldable pub attributes : List Attribute → Plan → Plan
 attributes [] rest = rest
 attributes (a ∷ l) rest = attribute (a .must) a (attributes l rest)
 
--- content and rows, where f is the plan of a row
+-- Content (001, 8.4.6.1): a simple value, or the rows of a complex content; f is the plan of a row
 unfoldable pub contents : (Row → Plan → Plan) → (ℕ → Row) → Content → Plan
 contents f row empty = done
 contents f row (simple kind b c) = value kind b c done
@@ -70,10 +72,11 @@ rows f zero g rest = rest
 rows f (suc n) g rest = f (g 0) (rows f n (λ i. g (suc i)) rest)
 
 module _ (T : Table) where
-  -- attributes, then content
+  -- Attributes(effectiveType), then Content(.., effectiveType) (001, 8.4.2.1)
   unfoldable pub within : (Row → Plan → Plan) → ℕ → Plan
   within f t = attributes (T .attributes t) (contents f (T .row) (T .content t))
 
+  -- a row as 001, 8.5.2.2.5.2 makes an automaton of it: an element declaration node, a sequence node, a choice node, an occurrence node
   unfoldable pub due : (Row → Plan → Plan) → Row → Plan → Plan
   due f (Row.element name type) rest = element name type (λ t. within f t) rest
   due f (Row.sequence first count) rest = rows f count (λ i. T .row (first + i)) rest
