@@ -72,7 +72,7 @@ module _ (t : List ℕ) (name type : ℕ) where
       }
 
   same-reading : (s : List ℕ) (e x e′ x′ : ℕ) (mode mode′ : Mode) (tree tree′ : Nodes) (used used′ : ℕ) → Reading t name type s e x mode tree used
-      → Reading t name type s e′ x′ mode′ tree′ used′ → Same t name type mode mode′ tree tree′ used used′
+      → Reading t name type s e′ x′ mode′ tree′ used′ → Same mode mode′ tree tree′ used used′
   same-reading s e x e′ x′ mode mode′ tree tree′ used used′ h k =
       let r = reading-complete (wordsOf t) name type s ((e + e′) / 4) (x + x′) mode tree used (wider s e x (e + e′) (x + x′) mode tree used (omega arith) (omega arith) h .is) in
       let r′ = reading-complete (wordsOf t) name type s ((e + e′) / 4) (x + x′) mode′ tree′ used′ (wider s e′ x′ (e + e′) (x + x′) mode′ tree′ used′ (omega arith) (omega arith) k .is) in

@@ -56,7 +56,7 @@ capped-twice p = omega arith
 
 module _ (t t′ : List ℕ) (name type : ℕ) (s : List ℕ) (e x : ℕ) (pair : Pair t t′) where
   abbrev N : ℕ → Bool
-  N = new t t′ name type s e x
+  N = new t t′
 
   pub second-accepts : readCall t′ name type s e x 152 .number ≡ 0 → SecondAccepts t t′ name type s e x
   second-accepts c =
