@@ -13,14 +13,16 @@ use Rattle.host.proofs.Names.{filled-at}
 
 -- a number that stands past the first bytes
 pub half-past : (a b : List ℕ) (j : ℕ) → halfFrom (a ++ b) (length a + j) ≡ halfFrom b j
-half-past a b j = let e : length a + j + 1 ≡ length a + (j + 1) = omega arith in rw (e, getD-append-add a b j 0, getD-append-add a b (j + 1) 0)
+half-past a b j =
+    let e : length a + j + 1 ≡ length a + (j + 1) = omega arith in rw (e, getD-append-add a b j 0, getD-append-add a b (j + 1) 0)
 
 pub word-past : (a b : List ℕ) (j : ℕ) → wordFrom (a ++ b) (length a + j) ≡ wordFrom b j
 word-past a b j =
     let e₁ : length a + j + 1 ≡ length a + (j + 1) = omega arith in
     let e₂ : length a + j + 2 ≡ length a + (j + 2) = omega arith in
     let e₃ : length a + j + 3 ≡ length a + (j + 3) = omega arith in
-    rw (e₁, e₂, e₃, getD-append-add a b j 0, getD-append-add a b (j + 1) 0, getD-append-add a b (j + 2) 0, getD-append-add a b (j + 3) 0)
+    let at : (i : ℕ) → getD (a ++ b) (length a + i) 0 ≡ getD b i 0 = λ i. getD-append-add a b i 0 in
+    rw (e₁, e₂, e₃, at j, at (j + 1), at (j + 2), at (j + 3))
 
 name-at : (l : List ℕ) (i : ℕ) → halfFrom (namesOf l) (2 * i) ≡ getD l i 0
 unfolding spelled
@@ -41,7 +43,8 @@ area-fetches o = record {
   bits = omega arith;
   names = omega arith;
   name = λ i.
-      half-past (bytesOf (areaWords o)) (namesOf (filled 64 (o .path))) (2 * i) ∙ name-at (filled 64 (o .path)) i ∙ sym (filled-at 64 (o .path) i);
+      half-past (bytesOf (areaWords o)) (namesOf (filled 64 (o .path))) (2 * i)
+      ∙ name-at (filled 64 (o .path)) i ∙ sym (filled-at 64 (o .path) i);
 }
 
 pub area-one : (o o′ : Outcome) → o .number ≡ o′ .number → areaOf o ≡ areaOf o′ → cappedAt o ≡ cappedAt o′

@@ -24,7 +24,8 @@ module _ (t : List ℕ) where
   unfolding tableVerdict
   right-whole e = go (eqb (length t % 4) 0) refl e
     where
-      go : (b : Bool) → eqb (length t % 4) 0 ≡ b → cond b (verdict (wordsOf t)) (first 0 (headerWords (wordsOf t)) then wrong (length t / 4)) ≡ right
+      go : (b : Bool) → eqb (length t % 4) 0 ≡ b
+          → cond b (verdict (wordsOf t)) (first 0 (headerWords (wordsOf t)) then wrong (length t / 4)) ≡ right
           → (length t % 4 ≡ 0) × (verdict (wordsOf t) ≡ right)
       go true y z = (eqb-true (length t % 4) 0 y, z)
       go false y z = absurd (never-right (first 0 (headerWords (wordsOf t))) (length t / 4) z)

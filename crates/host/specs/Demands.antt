@@ -46,19 +46,21 @@ shown e x mode tree used =
 abbrev pub wrote : (room mode n text used : ℕ) → (payload : List ℕ) → Back
 wrote room mode n text used payload = back 0 (areaOf (told 0 mode n text used [])) (filled room payload ∷ [])
 
--- DEMAND 1. Every call is answered, and a number other than 0 is a refusal: 24 where the area has another size, which
--- is then zero throughout; else one whose place and path stand in the area.
-pub data Refused (area : ℕ) (sizes : List ℕ) (o : Back) : Type 0 where
-  no-area : (area ≡ areaBytes → ⊥) → o ≡ back 24 (zeros area) (map zeros sizes) → Refused area sizes o
-  named : (n p : ℕ) (π : Path) → area ≡ areaBytes → 1 ≤ n → length π ≤ 64 → o ≡ refusal sizes n p π
-      → Refused area sizes o
+-- DEMAND 1. Every call is answered: with 0; or with 24 where the area has another size, which is then zero throughout;
+-- or with a refusal whose place and path stand in the area. Only 0 leaves something in an output buffer.
+pub data Answered (area : ℕ) (sizes : List ℕ) (o : Back) : Type 0 where
+  accepted : area ≡ areaBytes → o .number ≡ 0 → Answered area sizes o
+  no-area : (area ≡ areaBytes → ⊥) → o ≡ back 24 (zeros area) (map zeros sizes) → Answered area sizes o
+  refused : (n p : ℕ) (π : Path) → area ≡ areaBytes → 1 ≤ n → length π ≤ 64 → o ≡ refusal sizes n p π
+      → Answered area sizes o
 
--- The bit reader has no output buffer; its area then has the value 0, the place that was given and the bits left
--- there.
-pub data RefusedBits (s : List ℕ) (at area : ℕ) (o : Back) : Type 0 where
-  no-area : (area ≡ 12 → ⊥) → o ≡ back 24 (zeros area) [] → RefusedBits s at area o
-  named : (n : ℕ) → area ≡ 12 → 1 ≤ n → o ≡ back n (bytesOf (0 ∷ at ∷ leftAt s at ∷ [])) []
-      → RefusedBits s at area o
+-- The bit reader has no output buffer; on a refusal its area has the value 0, the place that was given and the bits
+-- left there.
+pub data AnsweredBits (s : List ℕ) (at area : ℕ) (o : Back) : Type 0 where
+  accepted : area ≡ 12 → o .number ≡ 0 → AnsweredBits s at area o
+  no-area : (area ≡ 12 → ⊥) → o ≡ back 24 (zeros area) [] → AnsweredBits s at area o
+  refused : (n : ℕ) → area ≡ 12 → 1 ≤ n → o ≡ back n (bytesOf (0 ∷ at ∷ leftAt s at ∷ [])) []
+      → AnsweredBits s at area o
 
 -- What the accessors of include/bim.h fetch from an area.
 pub record Fetches (A : List ℕ) (o : Outcome) : Type 0 where
@@ -82,15 +84,12 @@ cappedAt o = record {
 }
 
 pub record Demand1 : Type 0 where
-  pub check : (t : List ℕ) (area : ℕ) → (checkTable t area .number ≡ 0 → ⊥) → Refused area [] (checkTable t area)
+  pub check : (t : List ℕ) (area : ℕ) → Answered area [] (checkTable t area)
   pub read : (t : List ℕ) (name type : ℕ) (s : List ℕ) (e x area : ℕ)
-      → (readCall t name type s e x area .number ≡ 0 → ⊥)
-      → Refused area (e ∷ x ∷ []) (readCall t name type s e x area)
+      → Answered area (e ∷ x ∷ []) (readCall t name type s e x area)
   pub write : (t : List ℕ) (name type mode : ℕ) (E X : List ℕ) (room area : ℕ)
-      → (writeCall t name type mode E X room area .number ≡ 0 → ⊥)
-      → Refused area (room ∷ []) (writeCall t name type mode E X room area)
-  pub bits : (s : List ℕ) (at : ℕ) (c : Coding) (area : ℕ) → (bitsCall s at c area .number ≡ 0 → ⊥)
-      → RefusedBits s at area (bitsCall s at c area)
+      → Answered area (room ∷ []) (writeCall t name type mode E X room area)
+  pub bits : (s : List ℕ) (at : ℕ) (c : Coding) (area : ℕ) → AnsweredBits s at area (bitsCall s at c area)
   -- an area can be read back, part by part; so two answers with one number and one area are one answer, but for
   -- places over 2^32 - 1
   pub fetches : (o : Outcome) → Fetches (areaOf o) o
