@@ -4,3 +4,9 @@ mod Checking
 mod Replies
 mod Lists
 mod Codes
+mod WholeTables
+mod AreaBack
+mod Demand1
+mod Demand2
+mod Demand3
+mod Demands

@@ -37,7 +37,7 @@ names-zero names s s′ count e n z = z ∙ rw (n, e)
 zero-at : (n i : ℕ) → getD {A = ℕ} (replicate n 0) i 0 ≡ 0
 zero-at n i = ordered i n (λ h. getD-replicate n i 0 0 h) (λ h. List·getD-eq-default (replicate n 0) 0 (omega (arith, length-replicate {A = ℕ} n 0)))
 
-filled-at : (n : ℕ) (l : List ℕ) (i : ℕ) → getD l i 0 ≡ getD (filled n l) i 0
+pub filled-at : (n : ℕ) (l : List ℕ) (i : ℕ) → getD l i 0 ≡ getD (filled n l) i 0
 unfolding filled
 filled-at n l i = ordered i (length l) (λ h. sym (List·getD-append l z 0 i h)) (λ h. go h)
   where

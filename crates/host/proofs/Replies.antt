@@ -1,5 +1,5 @@
 -- The reading of bytes: what the words and the words lent for events become.
-use Prim.Native.Nat.{ℕ, _*_, _/_, _≤_}
+use Prim.Native.Nat.{ℕ, suc, _*_, _/_, _≤_}
 use mathlib.Core.Path.{_≡_, sym, ap, subst, _∙_}
 use mathlib.Core.List.{List, [], _∷_, _++_}
 use native.Mathlib.Omega.{arith}
@@ -9,6 +9,8 @@ use Rattle.model.specs.Whole.{Reply, Outcome, outcome, reading, eventsLeft, tex
 use Rattle.reader.specs.Answers.{answerIs}
 use Rattle.reader.specs.declared.Answer.{Answer}
 use Rattle.words.specs.Bytes.{wordsOf, bytesOf}
+use Rattle.words.specs.BytesLaws.{Bytes}
+use Rattle.value.specs.Simple.{Octets}
 use Rattle.host.specs.Area.{areaOf}
 use Rattle.host.specs.AreaLaws.{first-length}
 use Rattle.host.specs.Calls.{back, zeros, readBytes, readCall, eventsBack}
@@ -94,3 +96,8 @@ path-fits t name type s e x a E X b =
     let m = path-most t name type s e x in
     let q = ap (λ (o : Outcome). length (o .path)) (b .answer) in
     omega arith
+
+-- a list whose elements are bytes, as a slice's are
+pub octets : (s : List ℕ) → Bytes s → Octets s
+octets [] h = tt
+octets (x ∷ s) h = (h 0, octets s (λ i. h (suc i)))

@@ -9,3 +9,4 @@ pub mod Paths
 pub mod WriteLaws
 pub mod Determined
 pub mod RoomLaws
+pub mod Demands

@@ -17,6 +17,7 @@ use writes::write_bytes;
 ghost use mathlib.Core.Path.{_≡_};
 ghost use mathlib.Core.List.{[], _∷_};
 ghost use lib.ListN.{length};
+ghost use Rattle.value.specs.Simple.{Octets};
 ghost use Rattle.host.specs.Calls.{back, checkTable, readCall, writeCall};
 
 // Judges a table.
@@ -51,7 +52,8 @@ pub extern "C" fn bim_read(
     texts: &mut [u8],
     area: &mut [u8],
 ) -> u32
-    ensures { λ r. ⌜ back r (now (area .exit)) (now (events .exit) ∷ now (texts .exit) ∷ []) ≡ readCall (now (table .entry)) «root_name» «root_type» (now (payload .entry)) (length (now (events .entry))) (length (now (texts .entry))) (length (now (area .entry))) ⌝ }
+    ensures answer { λ r. ⌜ back r (now (area .exit)) (now (events .exit) ∷ now (texts .exit) ∷ []) ≡ readCall (now (table .entry)) «root_name» «root_type» (now (payload .entry)) (length (now (events .entry))) (length (now (texts .entry))) (length (now (area .entry))) ⌝ }
+    ensures octets { λ r. ⌜ Octets (now (payload .entry)) ⌝ }
 {
     if area.len() != 152 {
         clear(events);

@@ -1,17 +1,17 @@
 -- Demand 3, first half, clause by clause: the first refuses exactly when some outermost newly held element has no length, and then with 9 at the first
 -- such element; otherwise its list is the second's with each of them replaced.
-use Prim.Native.Nat.{ℕ}
+use Prim.Native.Nat.{ℕ, _+_}
 use mathlib.Core.Path.{_≡_, refl, sym, ap, _∙_}
 use mathlib.Core.List.{List, [], _∷_, _++_, reverse}
-use mathlib.Core.Bool.{false}
+use mathlib.Core.Bool.{Bool, true, false, cond}
 use mathlib.Core.Option.{Option, none, some}
 use native.Mathlib.Omega.{arith}
-use Rattle.model.specs.Model.{Mark, Nodes, Path, events, texts}
+use Rattle.model.specs.Model.{event, Mark, Nodes, Path, bitsOf}
+use Rattle.model.specs.Model.Nodes.{leaf, node}
 use Rattle.model.specs.Items.{Mode}
 use Rattle.model.specs.Less.{outermost, replaced, firstBare}
-use Rattle.model.specs.Flat.{Blanked, replaced-flat}
 use Rattle.model.specs.Whole.{Reply, accepted, declined, reading}
-use Rattle.model.specs.Demand3.{Pair, saysLess, newOf, second-accepts, Lengths, FirstIs, none-first, first-some}
+use Rattle.model.specs.Demand3.{Pair, saysLess, newOf, second-accepts, Lengths, FirstIs, first-none, none-first, first-some}
 
 -- a first one is found
 first-found : (before later : List (Mark × Path)) (m : Mark) (π : Path) → Lengths before → m .coded ≡ false → firstBare (before ++ ((m, π) ∷ later)) ≡ some (m, π)
@@ -60,18 +60,33 @@ module _ (l l′ : List ℕ) (pair : Pair l l′) (name type : ℕ) (s : List �
       go none y z = absurd (let w : _≡_ {A = ℕ} 0 1 = cc in omega arith)
       go (some (m, π)) y z = record { element = m; around = π; is-first = first-some Newly m π y; number = cc; place = cc; path = cc }
 
-  -- where both give: the first's list and texts are the second's with each such element replaced by one Blank of the same bit count, its texts left out
+  -- where the first gives: all of them have a length, and its tree is the second's with each replaced by one Blank of the same bit count, its texts
+  -- left out; no other tree, mode or number of bits is allowed
   pub record Replaced (mode′ : Mode) (ms : Nodes) (q′ : ℕ) : Type 0 where
+    pub lengths : Lengths Newly
     pub modes : mode′ ≡ mode
+    pub tree : ms ≡ replaced (newOf l l′) ns
     pub used : q′ ≡ q
-    pub lists : Blanked (newOf l l′) (events ns) (texts ns) (events ms) (texts ms)
 
-  pub lists-replaced : (mode′ : Mode) (ms : Nodes) (q′ : ℕ) → first ≡ accepted mode′ ms q′ → Replaced mode′ ms q′
+  pub gives-only : (mode′ : Mode) (ms : Nodes) (q′ : ℕ) → first ≡ accepted mode′ ms q′ → Replaced mode′ ms q′
   unfolding saysLess
-  lists-replaced mode′ ms q′ z = go (firstBare Newly) (sym z ∙ said)
+  gives-only mode′ ms q′ z = go (firstBare Newly) refl (sym z ∙ said)
     where
-      go : (o : Option (Mark × Path)) → accepted mode′ ms q′ ≡ saysLess mode o (replaced (newOf l l′) ns) q → Replaced mode′ ms q′
-      go none y =
-          let k : replaced (newOf l l′) ns ≡ ms = cc in
-          record { modes = cc; used = cc; lists = rw k at (replaced-flat (newOf l l′) ns) }
-      go (some (m, π)) y = absurd (let w : _≡_ {A = ℕ} 0 1 = cc in omega arith)
+      go : (o : Option (Mark × Path)) → firstBare Newly ≡ o → accepted mode′ ms q′ ≡ saysLess mode o (replaced (newOf l l′) ns) q → Replaced mode′ ms q′
+      go none x y = record { lengths = first-none Newly x; modes = cc; tree = cc; used = cc }
+      go (some (m, π)) x y = absurd (let w : _≡_ {A = ℕ} 0 1 = cc in omega arith)
+
+-- a Blank has the bits of what it stands for, so the sum of all bits stays
+module _ (new : ℕ → Bool) where
+  node-bits : (t : Bool) (m : Mark) (i r : Nodes) → bitsOf (replaced new i) ≡ bitsOf i → bitsOf (replaced new r) ≡ bitsOf r
+      → bitsOf (cond t (leaf (m .at) (event 7 (m .name) (m .type) (m .bits + bitsOf i)) [] (replaced new r)) (node m (replaced new i) (replaced new r)))
+      ≡ bitsOf (node m i r)
+  unfolding bitsOf
+  node-bits true m i r e f = omega arith
+  node-bits false m i r e f = omega arith
+
+  pub replaced-bits : (ns : Nodes) → bitsOf (replaced new ns) ≡ bitsOf ns
+  unfolding replaced bitsOf
+  replaced-bits Nodes.none = refl
+  replaced-bits (leaf at e ts r) = omega (arith, replaced-bits r)
+  replaced-bits (node m i r) = node-bits (new (m .type)) m i r (replaced-bits i) (replaced-bits r)

@@ -41,7 +41,6 @@ pub mod UnseenPayload
 pub mod Own
 pub mod EntryWays
 pub mod Buffers
-pub mod Flat
 pub mod ReadWays
 pub mod WriteWays
 pub mod Demand3Lists

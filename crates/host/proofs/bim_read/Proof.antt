@@ -1,6 +1,7 @@
--- `bim_read`: 24, or the reading of bytes told in the area.
+-- `bim_read`: 24, or the reading of bytes told in the area; and each byte of the payload is one.
 use native.Mathlib.Omega.{arith}
-use Rattle.host.proofs.Replies.{read-unlent, read-told, path-fits}
+use denote.Ref.{now}
+use Rattle.host.proofs.Replies.{read-unlent, read-told, path-fits, octets}
 use borrow.Author.Needs.{needs}
 use Rattle.host.proofs.bim_read.Statement.{statement}
 use Rattle.host.proofs.bim_read.Tie as tie
@@ -28,8 +29,11 @@ returns c =
     let d = c .before .before .before .before .before .before .before .before .before .before in
     let e = d .before .before in
     let a = e .before .before .before .before .before .before .args in
-    read-unlent _ _ _ _ (a .events .now) (a .texts .now) (a .area .now) _ _ _ (e .if1 .taken) (d .clear .ensures)
-    (c .before .before .before .before .before .before .clear2 .ensures) (c .before .before .clear3 .ensures)
+    let k = e .before .before .before .before .shared-slice-known2 in (
+      read-unlent _ _ _ _ (a .events .now) (a .texts .now) (a .area .now) _ _ _ (e .if1 .taken) (d .clear .ensures)
+          (c .before .before .before .before .before .before .clear2 .ensures) (c .before .before .clear3 .ensures),
+      octets (now (a .payload)) (λ i. omega (arith, k .given i)),
+    )
 
 read-bytes-requires : tie.Need-read-bytes-requires
 read-bytes-requires c κs = search needs
@@ -51,8 +55,12 @@ same-length-6 c = search needs
 returns-2 : tie.Need-returns-2
 returns-2 c =
     let b = c .before .before .before .before .before .before .before .before in
-    let a = b .before .before .before .before .before .before .before .before .before .args in
-    read-told _ _ _ _ (a .events .now) (a .texts .now) (a .area .now) _ _ _ (b .read-bytes .result) _ (b .before .before .before .if1 .left) (b .read-bytes .ensures) (c .before .before .tell-answer .ensures)
+    let e = b .before .before .before in
+    let a = e .before .before .before .before .before .before .args in
+    let k = e .before .before .before .before .shared-slice-known2 in (
+      read-told _ _ _ _ (a .events .now) (a .texts .now) (a .area .now) _ _ _ (b .read-bytes .result) _ (e .if1 .left) (b .read-bytes .ensures) (c .before .before .tell-answer .ensures),
+      octets (now (a .payload)) (λ i. omega (arith, k .given i)),
+    )
 
 pub bim-read-spec : {M : Type 1} → statement M
 bim-read-spec =

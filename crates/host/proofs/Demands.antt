@@ -1,0 +1,28 @@
+-- THE THREE DEMANDS, of the calls that a host makes: the statements of specs/Demands.antt, proved.
+use Rattle.host.specs.Demands.{Demand1, Demand2, Demand3}
+use Rattle.host.proofs.AreaBack.{area-fetches, area-one}
+use Rattle.host.proofs.Demand1.{check-answered, read-answered, write-answered, bits-answered}
+use Rattle.host.proofs.Demand2.{accepts-only, accepts-all, writes-only, writes-all, writes-back}
+use Rattle.host.proofs.Demand3.{second-accepts, only-first-accepts}
+
+pub demand1 : Demand1
+demand1 = record {
+  check = check-answered;
+  read = read-answered;
+  write = write-answered;
+  bits = bits-answered;
+  fetches = area-fetches;
+  one-area = area-one;
+}
+
+pub demand2 : Demand2
+demand2 = record {
+  accepts-only = accepts-only;
+  accepts-all = accepts-all;
+  writes-only = writes-only;
+  writes-all = writes-all;
+  writes-back = writes-back;
+}
+
+pub demand3 : Demand3
+demand3 = record { second-accepts = second-accepts; only-first-accepts = only-first-accepts }
