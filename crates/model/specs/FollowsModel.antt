@@ -54,11 +54,11 @@ module _ (mode : Mode) (held : ℕ → Bool) (T : Table) where
   abbrev listed : Nodes → List Bare
   listed ns = map bare (events ns)
 
-  abbrev Follows : ℕ → Part → List Bare → List ℕ → Type 0
-  Follows d Q L X = Model T mode held d Q L X
+  abbrev Modelled : ℕ → Part → List Bare → List ℕ → Type 0
+  Modelled d Q L X = Model T mode held d Q L X
 
   abbrev Gives : Plan → ℕ → Part → Type 0
-  Gives P d Q = (at : ℕ) (ns : Nodes) (w : List ℕ) → Is mode held P at ns w → Follows d Q (listed ns) (texts ns)
+  Gives P d Q = (at : ℕ) (ns : Nodes) (w : List ℕ) → Is mode held P at ns w → Modelled d Q (listed ns) (texts ns)
 
   -- attributes: what stands for one of them, where what stands for the others follows
   module _ (d : ℕ) (a : Attribute) (l : List Attribute) (ih : Gives (model.attributes l done) d (attributes l)) where
@@ -66,14 +66,14 @@ module _ (mode : Mode) (held : ℕ → Bool) (T : Table) where
     Rest = model.attributes l done
 
     present-model : (at : ℕ) (ns : Nodes) (w : List ℕ) → Is mode held (value (a .kind) (a .b) (a .c) Rest) at ns w
-        → Follows d (attributes (a ∷ l)) (word 2 (a .name) 1 ∷ listed ns) (texts ns)
+        → Modelled d (attributes (a ∷ l)) (word 2 (a .name) 1 ∷ listed ns) (texts ns)
     unfolding value events texts eventOf
     present-model at ns w (an-item {v} {ts} {w = x} g j) =
         Model.present (value-of (a .kind) (a .b) (a .c) v ts x g) (ih _ _ _ j)
 
     optional-model : a .must ≡ false → (v at : ℕ) (ns : Nodes) (w : List ℕ) → v < 2
         → Is mode held (maybe v (value (a .kind) (a .b) (a .c) Rest) Rest) at ns w
-        → Follows d (attributes (a ∷ l)) (word 2 (a .name) v ∷ listed ns) (texts ns)
+        → Modelled d (attributes (a ∷ l)) (word 2 (a .name) v ∷ listed ns) (texts ns)
     unfolding maybe
     optional-model e zero at ns w h i = Model.absent e (ih _ _ _ i)
     optional-model e (suc zero) at ns w h i = present-model at ns w i
@@ -101,8 +101,8 @@ module _ (mode : Mode) (held : ℕ → Bool) (T : Table) where
 
     -- two parts after one another
     both-model : {Q : Part} {P R : Plan} {at : ℕ} {ns : Nodes} {w : List ℕ} (s : Split mode held P R at ns w)
-        → Follows d Q (listed (s .ns) ++ listed (s .ms)) (texts (s .ns) ++ texts (s .ms))
-        → Follows d Q (listed ns) (texts ns)
+        → Modelled d Q (listed (s .ns) ++ listed (s .ms)) (texts (s .ns) ++ texts (s .ms))
+        → Modelled d Q (listed ns) (texts ns)
     both-model s m =
         let e = events-then (s .ns) (s .ms) in
         let f = map-append bare (events (s .ns)) (events (s .ms)) in
@@ -158,4 +158,6 @@ module _ (mode : Mode) (held : ℕ → Bool) (T : Table) where
       rw (form-plain h _ refl .1) (Model.choice (picked-value count h) (row-model d (T .row (first + v)) _ r _ j))
   row-model (suc d) (Row.occurs c least most) at ns w (an-item {v} {ts} {w = x} {r} h j) =
       let b = counted-within least most v ts x h in
-      rw (form-plain h _ refl .1) (Model.occurs (b .0) (b .1) (b .2) (repeats-model d (row-model d) v c _ r _ j))
+      let rounds = repeats-model d (row-model d) v c _ r _ j in
+      rw (form-plain h _ refl .1)
+      (Model.occurs {least = least} {most = most} {k = v} (omega arith) (omega arith) (b .2) rounds)

@@ -36,7 +36,7 @@ use Rattle.model.specs.Join.{join, plan-join, attributes-join}
 use Rattle.model.specs.Parts.{is-join}
 use Rattle.model.specs.Content.{word, Flag, Part, row, children, repeats, inside, attributes, content, Model}
 
--- WHAT A RIGHT TABLE GIVES: rows and types whose codes are narrow
+-- WHAT A RIGHT TABLE GIVES: rows and types whose codes take few bits
 abbrev pub KindFine : ℕ → ℕ → Type 0
 KindFine kind b = kind ≡ 4 → b ≤ 65536
 
@@ -54,7 +54,7 @@ ContentFine (rows.Content.particles i) = Unit {0}
 abbrev pub AttributeFine : Attribute → Type 0
 AttributeFine a = KindFine (a .kind) (a .b)
 
-pub record Narrow (T : Table) : Type 0 where
+pub record Bounded (T : Table) : Type 0 where
   pub rows : (p : ℕ) → RowFine (T .types) (T .row p)
   pub contents : (t : ℕ) → t < T .types → ContentFine (T .content t)
   pub attributes : (t : ℕ) → t < T .types → Each AttributeFine (T .attributes t)
@@ -86,9 +86,9 @@ row-past l r p h =
     rw (List·getD-eq-default l 0 {n = i} (omega arith), List·getD-eq-default l 0 {n = i + 2} (omega arith))
     (counts-ok l r .types-some)
 
-pub right-narrow : (l : List ℕ) → verdict l ≡ right → Narrow (tableOf l)
+pub right-bounded : (l : List ℕ) → verdict l ≡ right → Bounded (tableOf l)
 unfolding tableOf
-right-narrow l r = record {
+right-bounded l r = record {
   rows = λ p.
       ordered p (particlesIn l)
       (λ h. row-fine (typesIn l) (particlesIn l) p (rowOf l p) (row-ok l r p h))
@@ -249,15 +249,15 @@ module _ (mode : Mode) (held : ℕ → Bool) where
   absent-stands true a e s = absurd (true≢false e)
   absent-stands false a e s = flag-stands (a .name) (omega arith) s
 
-  module _ (T : Table) (narrow : Narrow T) where
+  module _ (T : Table) (bounded : Bounded T) where
     -- what is due for a part, and what must be known of it
-    abbrev planOf : ℕ → Part → Plan
-    planOf d (row r) = plan T d r done
-    planOf d (children first n) = model.rows (plan T d) n (λ i. T .row (first + i)) done
-    planOf d (repeats c n) = model.rows (plan T d) n (λ i. T .row c) done
-    planOf d (inside t) = within T (plan T d) t
-    planOf d (attributes l) = model.attributes l done
-    planOf d (content c) = contents (plan T d) (T .row) c
+    abbrev planFor : ℕ → Part → Plan
+    planFor d (row r) = plan T d r done
+    planFor d (children first n) = model.rows (plan T d) n (λ i. T .row (first + i)) done
+    planFor d (repeats c n) = model.rows (plan T d) n (λ i. T .row c) done
+    planFor d (inside t) = within T (plan T d) t
+    planFor d (attributes l) = model.attributes l done
+    planFor d (content c) = contents (plan T d) (T .row) c
 
     abbrev Fine : Part → Type 0
     Fine (row r) = RowFine (T .types) r
@@ -278,7 +278,7 @@ module _ (mode : Mode) (held : ℕ → Bool) where
     rows-stand d n g K L X Y s r = rw (plan-join T d (g 0) (others d n (λ i. g (suc i)))) (both-stand s r)
 
     pub model-is : {d : ℕ} {Q : Part} {L : List Bare} {X : List ℕ}
-        → Model T mode held d Q L X → Fine Q → length L ≤ 2048 → Stands (planOf d Q) L X
+        → Model T mode held d Q L X → Fine Q → length L ≤ 2048 → Stands (planFor d Q) L X
     unfolding plan due contents within model.attributes model.rows eventOf formOf Fits mostBits
     model-is (Model.element {name} {type} {flag} {L} f z m) h n =
         let k = length-append L (word 6 0 0 ∷ []) in
@@ -289,7 +289,7 @@ module _ (mode : Mode) (held : ℕ → Bool) where
         let b = bits-most (code.choice count) v l in
         let w = width-under count 6 h in
         item-stands (picked count) (is-simple (a-code {c = code.choice _} {v = v} (omega arith))) (omega arith)
-        (model-is m (narrow .rows (first + v)) (omega arith))
+        (model-is m (bounded .rows (first + v)) (omega arith))
     model-is (Model.occurs {least} {most} {k} a b c m) h n =
         let f = values-times least most h k a b c in
         let s = times-short least most h k f in
@@ -302,21 +302,22 @@ module _ (mode : Mode) (held : ℕ → Bool) where
         let one-on : (i : ℕ) → first + 1 + i ≡ first + suc i = λ i. omega arith in
         let shift : others d j (λ i. T .row (first + 1 + i)) ≡ others d j (λ i. T .row (first + suc i))
         = λ k. others d j (λ i. T .row (one-on i k)) in
-        rows-stand d j (λ i. T .row (first + i)) K L X Y (rw zero-on (model-is m (narrow .rows first) (omega arith)))
+        rows-stand d j (λ i. T .row (first + i)) K L X Y (rw zero-on (model-is m (bounded .rows first) (omega arith)))
         (rw shift at (model-is o tt (omega arith)))
     model-is Model.no-repeat h n = none-stands
     model-is {d} (Model.repeat {c} {n = j} {K} {L} {X} {Y} m o) h n =
         let k = length-append K L in
-        rows-stand d j (λ i. T .row c) K L X Y (model-is m (narrow .rows c) (omega arith)) (model-is o tt (omega arith))
+        let one = model-is m (bounded .rows c) (omega arith) in
+        rows-stand d j (λ i. T .row c) K L X Y one (model-is o tt (omega arith))
     model-is {d} (Model.within {type} {K} {L} m o) h n =
         let k = length-append K L in
         rw (attributes-join (T .attributes type) (contents (plan T d) (T .row) (T .content type)))
-        (both-stand (model-is m (narrow .attributes type h) (omega arith))
-        (model-is o (narrow .contents type h) (omega arith)))
+        (both-stand (model-is m (bounded .attributes type h) (omega arith))
+        (model-is o (bounded .contents type h) (omega arith)))
     model-is Model.no-attribute h n = none-stands
     model-is (Model.present {a} i m) h n = present-stands (a .must) a (h .0) i (model-is m (h .1) (omega arith))
     model-is (Model.absent {a} e m) h n = absent-stands (a .must) a e (model-is m (h .1) (omega arith))
     model-is Model.empty h n = none-stands
     model-is (Model.simple {kind} {b} {c} {v} {X} i) h n =
         subst (Stands (value kind b c done) (word 3 v 0 ∷ [])) (append-nil X) (value-stands kind b c h i none-stands)
-    model-is (Model.particles {i} m) h n = model-is m (narrow .rows i) n
+    model-is (Model.particles {i} m) h n = model-is m (bounded .rows i) n

@@ -17,7 +17,7 @@ use Rattle.model.specs.Lists.{lists-all, spells-all}
 use Rattle.model.specs.WriteComplete.{is-written}
 use Rattle.model.specs.Content.{row, Model}
 use Rattle.model.specs.FollowsModel.{row-model}
-use Rattle.model.specs.ModelIs.{right-narrow, model-is}
+use Rattle.model.specs.ModelIs.{right-bounded, model-is}
 use Rattle.model.specs.Whole.{modeNumber, roomed, spent, written, writing}
 use Rattle.model.specs.Entries.{Entered, planOf, Shaped, listOf, events-length, mode-asked, writing-entered}
 use Rattle.model.specs.Demand2.{Valid}
@@ -57,8 +57,8 @@ module _ (l : List ℕ) (name type : ℕ) (mode : Mode) (L X : List ℕ) where
   follows-valid h =
       let few = h .shape .few in
       let count = events-length L 0 (length L / 4) in
-      let narrow = right-narrow l (h .enters .table-right) in
-      let s = model-is mode (heldOf l) (tableOf l) narrow (h .model) (h .enters .type-known) (omega arith) in
+      let bounded = right-bounded l (h .enters .table-right) in
+      let s = model-is mode (heldOf l) (tableOf l) bounded (h .model) (h .enters .type-known) (omega arith) in
       let p = s .placed 8 in
       record {
         enters = h .enters;
