@@ -1,45 +1,20 @@
 -- The writing of an item's value: what is written may stand there, and what may stand is written.
 use Prim.Native.Nat.{ℕ, _<_}
 use mathlib.Core.Path.{_≡_, refl, sym, subst, _∙_}
-use mathlib.Core.List.{List, [], _∷_, _++_}
+use mathlib.Core.List.{List, [], _++_}
 use native.Mathlib.Omega.{arith}
 use lib.ListN.{length, take, drop, length-append, length-take, take-append-drop}
 use lib.Seq.{take-at, drop-at}
 use Rattle.wire.specs.Res.{got, Ensures, gives, bind, tested, under, then, tested-then, under-then}
-use Rattle.utf8.specs.Text.{textFault}
-use Rattle.utf8.specs.Rfc as rfc
-use Rattle.utf8.specs.Exact.{none-fault}
 use Rattle.value.specs.Code.{Code, choice, Fits, bitsOf, fits, codeOut}
 use Rattle.value.specs.CodeLaws.{fits-true, true-fits}
-use Rattle.value.specs.Simple.{Simple, plain, text, count, bytes, Octets, SimpleIs, a-code, a-text}
+use Rattle.value.specs.Simple.{Simple, plain, text, count, bytes, SimpleIs, a-code, a-text}
 use Rattle.value.specs.SimpleLaws.{passes, passes-then}
+use Rattle.value.specs.ValueLaws.{text-octets, plain-is}
 use Rattle.model.specs.Model.{Item, eventOf}
 use Rattle.model.specs.Model.Item.{required, optional, valued, picked, counted}
 use Rattle.model.specs.Items.{Form, present, simply, formOf, FormIs, is-present, is-simple, ItemIs}
 use Rattle.model.specs.Write.{Bare, bare, wordOf, simpleOut, formOut, itemOut}
-
--- a text of RFC 3629 is of octets
-octets-append : (c l : List ℕ) → Octets c → Octets l → Octets (c ++ l)
-octets-append [] l h k = k
-octets-append (x ∷ c) l h k = (h .0, octets-append c l (h .1) k)
-
-char-octets : {c : List ℕ} → rfc.Char c → Octets c
-char-octets (rfc.utf8-1 a) = (omega arith, tt)
-char-octets (rfc.utf8-2 a b) = (omega arith, (omega arith, tt))
-char-octets (rfc.utf8-3-E0 a b c) = (omega arith, (omega arith, (omega arith, tt)))
-char-octets (rfc.utf8-3-E1-EC a b c) = (omega arith, (omega arith, (omega arith, tt)))
-char-octets (rfc.utf8-3-ED a b c) = (omega arith, (omega arith, (omega arith, tt)))
-char-octets (rfc.utf8-3-EE-EF a b c) = (omega arith, (omega arith, (omega arith, tt)))
-char-octets (rfc.utf8-4-F0 a b c d) = (omega arith, (omega arith, (omega arith, (omega arith, tt))))
-char-octets (rfc.utf8-4-F1-F3 a b c d) = (omega arith, (omega arith, (omega arith, (omega arith, tt))))
-char-octets (rfc.utf8-4-F4 a b c d) = (omega arith, (omega arith, (omega arith, (omega arith, tt))))
-
-rfc-octets : {l : List ℕ} → rfc.Octets l → Octets l
-rfc-octets rfc.empty = tt
-rfc-octets (rfc.more {c} {l} h k) = octets-append c l (char-octets h) (rfc-octets k)
-
-pub text-octets : (l : List ℕ) → textFault l ≡ 0 → Octets l
-text-octets l e = rfc-octets (none-fault l e)
 
 -- what is written may stand
 pub record SimpleWritten (s : Simple) (v : ℕ) (T w U : List ℕ) : Type 0 where
@@ -126,22 +101,18 @@ present-one : {f : Form} {v : ℕ} {T w : List ℕ} → FormIs f v T w → f ≡
 present-one is-present e = refl
 present-one (is-simple h) e = absurd (let z : _≡_ {A = ℕ} 0 1 = cc in omega arith)
 
-plain-fits : {s : Simple} {v : ℕ} {ts w : List ℕ} → SimpleIs s v ts w → (c : Code) → s ≡ plain c → Fits c v
-plain-fits (a-code {c = d} {v} h) c e = let z : d ≡ c = cc in rw z at h
-plain-fits (a-text h k z) c e = absurd (let n : _≡_ {A = ℕ} 0 1 = cc in omega arith)
-
-pub form-fits : {f : Form} {v : ℕ} {ts w : List ℕ} → FormIs f v ts w → (c : Code) → f ≡ simply (plain c) → Fits c v
-form-fits is-present c e = absurd (let n : _≡_ {A = ℕ} 0 1 = cc in omega arith)
-form-fits (is-simple {s} h) c e = let z : s ≡ plain c = cc in plain-fits h c z
+pub form-plain : {f : Form} {v : ℕ} {ts w : List ℕ} → FormIs f v ts w → (c : Code) → f ≡ simply (plain c) → Fits c v × (ts ≡ [])
+form-plain is-present c e = absurd (let n : _≡_ {A = ℕ} 0 1 = cc in omega arith)
+form-plain (is-simple {s} h) c e = let z : s ≡ plain c = cc in plain-is h c z
 
 -- what each item's value is
 pub optional-value : (name : ℕ) {v : ℕ} {ts w : List ℕ} → ItemIs (optional name) v ts w → v < 2
 unfolding formOf Fits
-optional-value name h = form-fits h (choice 2) refl
+optional-value name h = form-plain h (choice 2) refl .0
 
 pub picked-value : (n : ℕ) {v : ℕ} {ts w : List ℕ} → ItemIs (picked n) v ts w → v < n
 unfolding formOf Fits
-picked-value n h = form-fits h (choice n) refl
+picked-value n h = omega (arith, form-plain h _ refl .0)
 
 pub word-back : (i : Item) (v n : ℕ) (ts w : List ℕ) → ItemIs i v ts w → wordOf i (bare (eventOf i v n)) ≡ v
 unfolding wordOf eventOf formOf

@@ -34,6 +34,8 @@ pub mod Demand3
 pub mod Parts
 pub mod Content
 pub mod FollowsModel
+pub mod ModelIs
+pub mod ValidModel
 pub mod Blanks
 pub mod Reader
 pub mod Unseen

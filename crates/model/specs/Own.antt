@@ -1,17 +1,19 @@
 -- Each event's words are a function of its own bits and its row; an absent attribute has no Value.
 use Prim.Native.Nat.{ℕ}
 use mathlib.Core.Path.{_≡_, ap}
+use mathlib.Core.Bool.{Bool}
 use mathlib.Core.List.{List, _∷_}
 use native.Mathlib.Omega.{arith}
 use lib.ListN.{length}
 use Rattle.wire.specs.Bits.{source}
 use Rattle.wire.specs.BitLaws.{At}
 use Rattle.table.specs.Rows.{Attribute, Table}
-use Rattle.model.specs.Model.{Event, event, Item, eventOf}
-use Rattle.model.specs.Items.{ItemIs}
+use Rattle.model.specs.Model.{Item, eventOf}
+use Rattle.model.specs.Items.{Mode, ItemIs}
 use Rattle.model.specs.ItemLaws.{item-reads}
 use Rattle.model.specs.PackLaws.{each-has}
-use Rattle.model.specs.Content.{attributes, Model}
+use Rattle.model.specs.Write.{Bare}
+use Rattle.model.specs.Content.{word, attributes, Model}
 
 own : (w : List ℕ) → At (source w) 0 w (length w)
 own w = record { there = each-has (source w) 0 w (λ i h. ap (source w) (omega arith)); next = omega arith }
@@ -30,6 +32,7 @@ item-own i w {v} {v′} {ts} {ts′} h k =
     let e : v ≡ v′ = ap (λ (r : ℕ × List ℕ × ℕ). r .0) z in
     record { values = e; texts = ap (λ (r : ℕ × List ℕ × ℕ). r .1) z; events = ap (λ (x : ℕ). eventOf i x (length w)) e }
 
--- an absent attribute has no Value: after its event come the events of the attributes after it
-pub absent-no-value : {T : Table} {a : Attribute} {l : List Attribute} {n : ℕ} {L : List Event} → Model T (attributes (a ∷ l)) (event 2 (a .name) 0 n ∷ L) → Model T (attributes l) L
+-- an absent attribute has no Value: after its event come the events of the attributes after it, with all the texts
+pub absent-no-value : {T : Table} {mode : Mode} {held : ℕ → Bool} {d : ℕ} {a : Attribute} {l : List Attribute} {L : List Bare} {X : List ℕ}
+    → Model T mode held d (attributes (a ∷ l)) (word 2 (a .name) 0 ∷ L) X → Model T mode held d (attributes l) L X
 absent-no-value (Model.absent e m) = m

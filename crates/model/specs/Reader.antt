@@ -2,13 +2,14 @@
 -- follows the content models, its Blanks stand where they should, and its bits add up.
 use Prim.Native.Nat.{ℕ, _+_, _*_, _≤_}
 use mathlib.Core.Path.{_≡_, _∙_}
-use mathlib.Core.List.{List}
+use mathlib.Core.List.{List, map}
 use native.Mathlib.Omega.{arith}
 use lib.ListN.{length}
 use Rattle.table.specs.Rows.{Row, tableOf, heldOf}
 use Rattle.model.specs.Model.{Nodes, events, texts}
 use Rattle.model.specs.Items.{Mode}
 use Rattle.model.specs.Trees.{total, slots-length, bytes-length}
+use Rattle.model.specs.Write.{bare}
 use Rattle.model.specs.Content.{row, Model}
 use Rattle.model.specs.FollowsModel.{row-model}
 use Rattle.model.specs.Blanks.{Exact, is-exact}
@@ -33,8 +34,8 @@ module _ (l : List ℕ) (name type : ℕ) (s : List ℕ) (words bytes : ℕ) (mo
       reading-entered l name type s words bytes (h .enters) ∙ payload-reads (heldOf l) (planOf l name type) s (roomOf words bytes) mode ns used (h .is)
 
   module _ (e : reading l name type s words bytes ≡ accepted mode ns used) where
-    -- content models and occurrence bounds
-    pub list-follows : Model (tableOf l) (row (Row.element name type)) (events ns)
+    -- content models and occurrence bounds, values of their kinds, held marks, flags, at most 64 rows open
+    pub list-follows : Model (tableOf l) mode (heldOf l) 64 (row (Row.element name type)) (map bare (events ns)) (texts ns)
     list-follows = let f = reading-sound e .is .found in row-model mode (heldOf l) (tableOf l) 64 (Row.element name type) 8 ns (f .bits) (f .is)
 
     -- a Blank only of a type that is not held, an opened element only of one that is

@@ -27,7 +27,7 @@ pub record Written (mode : Mode) (held : ℕ → Bool) (P : Plan) (M : List Bare
   pub text : T ≡ spells tree U
 
 -- a Start whose second word suits the mode
-head-written : (mode : Mode) (t q n : ℕ) → flagIn mode q ≡ q → n < 2 ^ 32 → HeadIs mode t t (lengthOf q n) (headOut mode (lengthOf q n))
+pub head-written : (mode : Mode) (t q n : ℕ) → flagIn mode q ≡ q → n < 2 ^ 32 → HeadIs mode t t (lengthOf q n) (headOut mode (lengthOf q n))
 unfolding headOut flagIn Fits
 head-written Mode.never t zero n e h = no-head
 head-written Mode.never t (suc k) n e h = absurd (omega arith)
@@ -36,14 +36,14 @@ head-written Mode.optional t (suc k) n e h = flag-on {n = n} (omega arith)
 head-written Mode.always t zero n e h = absurd (omega arith)
 head-written Mode.always t (suc k) n e h = head-on {n = n} (omega arith)
 
-flag-back : (mode : Mode) (q n : ℕ) → flagIn mode q ≡ q → flagIn mode q ≡ flagOf (coded (lengthOf q n))
+pub flag-back : (mode : Mode) (q n : ℕ) → flagIn mode q ≡ q → flagIn mode q ≡ flagOf (coded (lengthOf q n))
 unfolding flagIn flagOf
 flag-back mode zero n e = e
 flag-back Mode.never (suc k) n e = absurd (omega arith)
 flag-back Mode.optional (suc k) n e = omega arith
 flag-back Mode.always (suc k) n e = refl
 
-measures : (q n : ℕ) → Measures (lengthOf q n) n
+pub measures : (q n : ℕ) → Measures (lengthOf q n) n
 measures zero n = tt
 measures (suc k) n = refl
 

@@ -72,6 +72,9 @@ module _ (b : ℕ → ℕ) (bit : Binary b) where
       let e : less lo (up lo (r .0)) ≡ r .0 = omega arith in
       gives (record { fits = (omega arith, rw e (f .fits)); stands = rw e (f .stands); within = f .within })
 
+pub sign-small : (v : ℕ) → v < 2 ^ 32 → (signOf v < 2) × (magnitudeOf v < 2 ^ 32)
+sign-small v h = ⊎-elim (λ x. omega (arith, x .0, x .1)) (λ x. omega (arith, x .0, x .2)) (parts-within v h)
+
 -- and the code of a value is read as the value
 module _ (b : ℕ → ℕ) where
   choice-reads : (n wall at v p : ℕ) → v < n → At b at (choiceBits n v) p → p ≤ wall → choiceAt b n wall at ≡ got (v, p)
@@ -90,9 +93,6 @@ module _ (b : ℕ → ℕ) where
       ⊎-elim (λ x. rw (x .0) (under-then 13 (omega (arith, x .1)) (ap (λ (n : ℕ). got (n, q)) (rw (x .0) at w))))
       (λ x. rw (x .0) (under-then 13 (x .2) (under-then 15 (x .1) (ap (λ (n : ℕ). got (n, q)) (rw (x .0) at w)))))
       (parts-within v h)
-
-  sign-small : (v : ℕ) → v < 2 ^ 32 → (signOf v < 2) × (magnitudeOf v < 2 ^ 32)
-  sign-small v h = ⊎-elim (λ x. omega (arith, x .0, x .1)) (λ x. omega (arith, x .0, x .2)) (parts-within v h)
 
   code-reads : (c : Code) (wall at v p : ℕ) → Fits c v → At b at (bitsOf c v) p → p ≤ wall → codeAt c b wall at ≡ got (v, p)
   unfolding codeAt bitsOf Fits someOf

@@ -2,6 +2,7 @@ pub mod Code
 pub mod CodeLaws
 pub mod Simple
 pub mod SimpleLaws
+pub mod Values
 pub mod Answer
 pub mod FormWays
 pub mod Octets
@@ -10,4 +11,5 @@ pub mod KindWays
 pub mod Written
 pub mod WriteWays
 pub mod LayWays
+pub mod ValueLaws
 pub mod Cases
