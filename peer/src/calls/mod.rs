@@ -18,8 +18,8 @@ pub use change::change;
 pub use coded::{code, decode, seeds};
 
 use crate::cases;
+use crate::host;
 use crate::rng::Rng;
-use case::big_endian;
 
 /// The three C calls, with their buffers as slices.
 pub trait Calls {
@@ -30,7 +30,8 @@ pub trait Calls {
     fn read(
         &self,
         table: &[u8],
-        root: (u32, u32),
+        root_name: u32,
+        root_type: u32,
         payload: &[u8],
         events: &mut [u8],
         texts: &mut [u8],
@@ -41,15 +42,63 @@ pub trait Calls {
     fn write(
         &self,
         table: &[u8],
-        root: (u32, u32),
+        root_name: u32,
+        root_type: u32,
         mode: u32,
         events: &[u8],
         texts: &[u8],
         payload: &mut [u8],
         area: &mut [u8],
     ) -> u32;
-    /// Whether `write` is there.
-    fn writes(&self) -> bool;
+}
+
+/// Makes a type of three functions that have the calls' arguments.
+#[macro_export]
+macro_rules! calls_of {
+    ($(#[$meta:meta])* $name:ident = $check:path, $read:path, $write:path) => {
+        $(#[$meta])*
+        pub struct $name;
+
+        impl $crate::calls::Calls for $name {
+            fn check_table(&self, table: &[u8], area: &mut [u8]) -> u32 {
+                $check(table, area)
+            }
+
+            #[inline(always)]
+            fn read(
+                &self,
+                table: &[u8],
+                root_name: u32,
+                root_type: u32,
+                payload: &[u8],
+                events: &mut [u8],
+                texts: &mut [u8],
+                area: &mut [u8],
+            ) -> u32 {
+                $read(table, root_name, root_type, payload, events, texts, area)
+            }
+
+            #[inline(always)]
+            fn write(
+                &self,
+                table: &[u8],
+                root_name: u32,
+                root_type: u32,
+                mode: u32,
+                events: &[u8],
+                texts: &[u8],
+                payload: &mut [u8],
+                area: &mut [u8],
+            ) -> u32 {
+                $write(table, root_name, root_type, mode, events, texts, payload, area)
+            }
+        }
+    };
+}
+
+calls_of! {
+    /// The peer's own calls, which judge the others.
+    Judge = host::check_table, host::read, host::write
 }
 
 /// The named cases, then at least `cases` seeded calls to read and check, as many to write, and as many pairs of tables
@@ -58,9 +107,7 @@ pub fn run(calls: &dyn Calls, cases: u64, seed: u64) -> Bench<'_> {
     let mut bench = Bench::new(calls, seed);
     bench.begin_part("named");
     reading::named(&mut bench);
-    if calls.writes() {
-        writing::named(&mut bench);
-    }
+    writing::named(&mut bench);
     all_seeded(&mut bench, cases, seed);
     bench
 }
@@ -75,9 +122,7 @@ pub fn sample(calls: &dyn Calls, cases: u64, seed: u64) -> Bench<'_> {
 
 fn all_seeded(bench: &mut Bench<'_>, cases: u64, seed: u64) {
     seeded(bench, "reading", seed.wrapping_mul(4), cases, reading::round);
-    if bench.writes() {
-        seeded(bench, "writing", seed.wrapping_mul(4) + 1, cases, writing::round);
-    }
+    seeded(bench, "writing", seed.wrapping_mul(4) + 1, cases, writing::round);
     seeded(bench, "pairs", seed.wrapping_mul(4) + 2, cases, pairs::round);
 }
 
@@ -103,14 +148,5 @@ pub fn ask(bench: &mut Bench<'_>, case: &Case) {
 
 /// The named cases as calls.
 fn named() -> Vec<Case> {
-    let call = |named: cases::Case| match named.call {
-        cases::Call::Table { table } => Case::check(big_endian(&table)),
-        cases::Call::Read { table, root, payload, event_words, text_room } => {
-            Case::read(&table, root, payload, 4 * event_words, text_room)
-        }
-        cases::Call::Write { table, root, mode, events, texts, room } => {
-            Case::write(&table, root, mode, big_endian(&events), texts, room)
-        }
-    };
-    cases::all().into_iter().map(call).collect()
+    cases::all().iter().map(|named| Case::of(&named.call)).collect()
 }

@@ -23,9 +23,6 @@ extern "C" {
         area: *mut u8,
         area_len: usize,
     ) -> u32;
-}
-
-extern "C" {
     fn bim_bits_fixed(
         bytes: *const u8,
         bytes_len: usize,
@@ -37,10 +34,6 @@ extern "C" {
     fn bim_bits_vlu5(bytes: *const u8, bytes_len: usize, place: u32, area: *mut u8, area_len: usize) -> u32;
     fn bim_bits_vlu8(bytes: *const u8, bytes_len: usize, place: u32, area: *mut u8, area_len: usize) -> u32;
     fn bim_bits_left(bytes: *const u8, bytes_len: usize, place: u32) -> u32;
-}
-
-#[cfg(feature = "host_write")]
-extern "C" {
     fn bim_write(
         table: *const u8,
         table_len: usize,
@@ -89,7 +82,8 @@ impl Calls for Library {
     fn read(
         &self,
         table: &[u8],
-        (name, of_type): (u32, u32),
+        root_name: u32,
+        root_type: u32,
         payload: &[u8],
         events: &mut [u8],
         texts: &mut [u8],
@@ -99,8 +93,8 @@ impl Calls for Library {
             bim_read(
                 self.given(table),
                 table.len(),
-                name,
-                of_type,
+                root_name,
+                root_type,
                 self.given(payload),
                 payload.len(),
                 self.lent(events),
@@ -113,11 +107,11 @@ impl Calls for Library {
         }
     }
 
-    #[cfg(feature = "host_write")]
     fn write(
         &self,
         table: &[u8],
-        (name, of_type): (u32, u32),
+        root_name: u32,
+        root_type: u32,
         mode: u32,
         events: &[u8],
         texts: &[u8],
@@ -128,8 +122,8 @@ impl Calls for Library {
             bim_write(
                 self.given(table),
                 table.len(),
-                name,
-                of_type,
+                root_name,
+                root_type,
                 mode,
                 self.given(events),
                 events.len(),
@@ -141,15 +135,6 @@ impl Calls for Library {
                 area.len(),
             )
         }
-    }
-
-    #[cfg(not(feature = "host_write"))]
-    fn write(&self, _: &[u8], _: (u32, u32), _: u32, _: &[u8], _: &[u8], _: &mut [u8], _: &mut [u8]) -> u32 {
-        unreachable!("the writer is not linked")
-    }
-
-    fn writes(&self) -> bool {
-        cfg!(feature = "host_write")
     }
 }
 

@@ -1,14 +1,14 @@
 //! Codes read: seeded bits, right and damaged, at every alignment and below every wall around their end.
 
 use crate::proved::{self, Answer, OUTSIDE};
-use crate::tally::Tally;
 use crate::texts;
-use peer::answer::number::{NAMES_NOTHING, PAST_END, TOO_LARGE};
+use peer::bim;
 use peer::bits::fixed;
 use peer::codes::{self, Reading, Taken};
 use peer::gen::edge_word;
 use peer::model::{bits5, bits_of, bytes_of, groups};
 use peer::rng::Rng;
+use peer::tally::Tally;
 use peer::value;
 
 /// What the peer says of a code: value, bits and the number more that some codes tell.
@@ -70,7 +70,7 @@ impl Pattern {
                 Err(OUTSIDE)
             } else if self.at > wall {
                 // The peer is never asked past a wall; by the paper no bit of the item lies below it.
-                Err(PAST_END)
+                Err(bim::PAST_END)
             } else {
                 peer(&self.payload, wall, self.at)
             };
@@ -145,7 +145,7 @@ fn fixed_width(rng: &mut Rng, tally: &mut Tally) {
     if width > 32 {
         // No word holds so many: 13, wherever the wall is.
         for wall in pattern.walls() {
-            let number = if wall > 8 * pattern.payload.len() { OUTSIDE } else { TOO_LARGE };
+            let number = if wall > 8 * pattern.payload.len() { OUTSIDE } else { bim::TOO_LARGE };
             let answer = proved::fixed(&pattern.payload, wall, pattern.at, width);
             tally.hold("fixed", number, answer, Answer::refused(number), || format!("width {width} end {wall}"));
         }
@@ -173,7 +173,7 @@ fn numbers(rng: &mut Rng, tally: &mut Tally) {
         &[most],
         |s, end, at| proved::number(s, end, at, most),
         |s, end, at| match codes::strict5(s, end, at)? {
-            read if read.value > most => Err(TOO_LARGE),
+            read if read.value > most => Err(bim::TOO_LARGE),
             read => Ok(taken(read)),
         },
     );
@@ -241,7 +241,7 @@ fn range_code(rng: &mut Rng, b: i32, c: i32) -> Vec<bool> {
 
 /// What a row says that no right table has: its code has no word at all, and takes no bits to say so.
 fn nothing() -> Said {
-    Err(NAMES_NOTHING)
+    Err(bim::NO_SUCH_CODE)
 }
 
 fn ranges(rng: &mut Rng, tally: &mut Tally) {
@@ -293,13 +293,13 @@ pub fn occurs_row(rng: &mut Rng) -> (u32, u32) {
 /// Whether a right table can have the row (document 01, particle rows). One more is left out: least 0 and most 0 is no
 /// row, and both sides read it as one choice without bits.
 pub fn is_row(least: u32, most: u32) -> bool {
-    least <= 65_535 && least <= most && most <= codes::UNBOUNDED
+    least <= 65_535 && least <= most && most <= bim::UNBOUNDED
 }
 
 fn counts(rng: &mut Rng, tally: &mut Tally) {
     let (least, most) = occurs_row(rng);
     // Both sides would count on from a least that no row can have: 65,536 to unbounded.
-    if least > 65_535 && least <= most && most == codes::UNBOUNDED {
+    if least > 65_535 && least <= most && most == bim::UNBOUNDED {
         return;
     }
     let span = most.wrapping_sub(least);
@@ -308,7 +308,7 @@ fn counts(rng: &mut Rng, tally: &mut Tally) {
     if least == 0 && most > 1 {
         code.push(!rng.one_in(4));
     }
-    if most == codes::UNBOUNDED {
+    if most == bim::UNBOUNDED {
         code.extend(five(rng, above));
     } else {
         let width = codes::width(u64::from(span) + 1) as usize;
@@ -336,29 +336,25 @@ pub fn simple_row(rng: &mut Rng) -> (u32, u32, u32) {
         0 => (rng.pick(&[7, 8, 65_536, u32::MAX]), edge_word(rng), edge_word(rng)),
         1..=8 => {
             let (b, c) = range_ends(rng);
-            (value::RANGED, b as u32, c as u32)
+            (bim::RANGED, b as u32, c as u32)
         }
-        9..=14 => (value::ENUMERATION, pick(rng, &[1, 2, 3, 5, 64, 65, 65_535, 65_536]), 0),
-        _ => (
-            rng.pick(&[value::BOOLEAN, value::UNSIGNED, value::SIGNED, value::SIGNED, value::TEXT, value::FLOAT]),
-            0,
-            0,
-        ),
+        9..=14 => (bim::ENUMERATION, pick(rng, &[1, 2, 3, 5, 64, 65, 65_535, 65_536]), 0),
+        _ => (rng.pick(&[bim::BOOLEAN, bim::UNSIGNED, bim::SIGNED, bim::SIGNED, bim::TEXT, bim::FLOAT]), 0, 0),
     }
 }
 
 fn value_code(rng: &mut Rng, kind: u32, b: u32, c: u32) -> Vec<bool> {
     match kind {
-        value::BOOLEAN => noise(rng, 1),
-        value::RANGED => range_code(rng, b as i32, c as i32),
-        value::SIGNED => {
+        bim::BOOLEAN => noise(rng, 1),
+        bim::RANGED => range_code(rng, b as i32, c as i32),
+        bim::SIGNED => {
             let magnitude = pick(rng, &[0, 1, (1 << 31) - 1, 1 << 31, (1 << 31) + 1, u32::MAX]);
             let sign = noise(rng, 1);
             [sign, five(rng, magnitude)].concat()
         }
-        value::ENUMERATION => index(rng, b),
-        value::TEXT => text_code(rng),
-        value::FLOAT => noise(rng, 32),
+        bim::ENUMERATION => index(rng, b),
+        bim::TEXT => text_code(rng),
+        bim::FLOAT => noise(rng, 32),
         _ => {
             let value = edge_word(rng);
             five(rng, value)
@@ -396,7 +392,7 @@ fn values(rng: &mut Rng, tally: &mut Tally) {
         &[kind, b, c],
         |s, end, at| proved::simple(s, end, at, kind, b, c),
         |s, end, at| {
-            if kind > value::FLOAT || kind == value::RANGED && b as i32 > c as i32 {
+            if kind > bim::FLOAT || kind == bim::RANGED && b as i32 > c as i32 {
                 return nothing();
             }
             value::read(kind, b, c, s, end, at).map(|read| (read.word, read.bits, read.text as u32))

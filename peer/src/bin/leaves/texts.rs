@@ -1,27 +1,15 @@
 //! Texts: every kind of damage at every place and every alignment.
 
 use crate::proved::{self, Answer, OUTSIDE};
-use crate::tally::Tally;
 use peer::model::{bits_of, bytes_of};
 use peer::rng::Rng;
+use peer::tally::Tally;
 use peer::utf8;
 
 /// Characters at the ends of the ranges of RFC 3629.
 const CHARACTERS: [char; 14] = [
-    '\0',
-    'a',
-    '\u{7f}',
-    '\u{80}',
-    '\u{7ff}',
-    '\u{800}',
-    '\u{fff}',
-    '\u{1000}',
-    '\u{d7ff}',
-    '\u{e000}',
-    '\u{ffff}',
-    '\u{10000}',
-    '\u{fffff}',
-    '\u{10ffff}',
+    '\0', 'a', '\u{7f}', '\u{80}', '\u{7ff}', '\u{800}', '\u{fff}', '\u{1000}', '\u{d7ff}', '\u{e000}', '\u{ffff}',
+    '\u{10000}', '\u{fffff}', '\u{10ffff}',
 ];
 
 /// What is no UTF-8: each begins at the end of a range that the RFC leaves out, or breaks off.
