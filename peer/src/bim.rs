@@ -135,8 +135,14 @@ pub const MODE_NONE: u32 = 0;
 pub const MODE_OPTIONAL: u32 = 1;
 /// Every element has one.
 pub const MODE_ALWAYS: u32 = 2;
+/// The first byte of a payload of mode 0.
+pub const MODE_BYTE_NONE: u8 = 0x0f;
+/// Of mode 1.
+pub const MODE_BYTE_OPTIONAL: u8 = 0x4f;
+/// Of mode 2.
+pub const MODE_BYTE_ALWAYS: u8 = 0x8f;
 /// The mode bytes, by mode.
-pub const MODE_BYTES: [u8; 3] = [0x0f, 0x4f, 0x8f];
+pub const MODE_BYTES: [u8; 3] = [MODE_BYTE_NONE, MODE_BYTE_OPTIONAL, MODE_BYTE_ALWAYS];
 /// The words of an event.
 pub const EVENT_WORDS: usize = EVENT / 4;
 /// The first word of every table.

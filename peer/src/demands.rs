@@ -5,34 +5,34 @@
 
 use crate::answer::{refusal, Answer, Path};
 use crate::bim;
-use crate::call::{Call, Read, Write};
+use crate::call::{Call, Read, Write, READER, WRITER};
 use crate::cases::Case;
 use crate::model;
-use crate::{reader, table, writer};
+use crate::{reader, table, tally, writer};
 
 /// What the run has met so far.
-#[derive(Clone, Debug, Default, PartialEq, Eq)]
+#[derive(Default)]
 pub struct Tally {
-    /// Reader answers by number, 0 for acceptance.
-    pub read: [u64; bim::AREA_SIZE as usize + 1],
-    /// Writer answers by number, 0 for acceptance.
-    pub written: [u64; bim::AREA_SIZE as usize + 1],
+    /// Answers of reader and writer.
+    pub met: tally::Tally,
     /// Table checks: right, wrong.
     pub tables: [u64; 2],
     /// Accepted readings with a Blank.
     pub blanks: u64,
     /// Accepted readings without one, written back to the same bytes.
     pub identical: u64,
-    /// Demand 3: both accept and something was newly held.
-    pub both: u64,
-    /// Demand 3: the second accepts, the first refuses with 9.
-    pub first_refuses: u64,
-    /// Demand 3: the first accepts, the second refuses inside a Blank.
-    pub second_refuses: u64,
-    /// Demand 3: the first accepts, the second lacks room.
-    pub second_lacks_room: u64,
-    /// Demand 3: neither accepts, or the tables are the same.
-    pub neither: u64,
+    /// What the pairs of tables showed.
+    pub pairs: Pairs,
+}
+
+impl Tally {
+    /// Whether reader and writer were met with every number that they can answer; tells those that were not.
+    pub fn is_whole(&self) -> bool {
+        // 24 is the C boundary's.
+        let [reader @ .., _] = &READER;
+        let [writer @ .., _] = &WRITER;
+        self.met.has_met(&[("reader", reader), ("writer", writer)])
+    }
 }
 
 /// A reader's answer with its buffers.
@@ -95,7 +95,7 @@ pub fn read(tally: &mut Tally, call: &Read) -> Result<Outcome, String> {
     let mut texts = vec![0xdd; call.text_room];
     let (name, of_type) = call.root;
     let answer = reader::read(&call.table, name, of_type, &call.payload, &mut events, &mut texts);
-    tally.read[answer.number as usize] += 1;
+    tally.met.count("reader", answer.number);
     demand(answer_has_its_shape(&answer), || format!("demand 1: the answer's shape: {answer:?}"))?;
     // On refusal both counts are 0, so this is "every output buffer all zeros".
     let spare_is_zero =
@@ -155,7 +155,7 @@ pub fn write(tally: &mut Tally, call: &Write) -> Result<(Answer, Vec<u8>), Strin
     let mut payload = vec![0xdd; call.room];
     let (name, of_type) = call.root;
     let answer = writer::write(&call.table, name, of_type, call.mode, &call.events, &call.texts, &mut payload);
-    tally.written[answer.number as usize] += 1;
+    tally.met.count("writer", answer.number);
     demand(answer_has_its_shape(&answer) && answer.path.names().is_empty(), || {
         format!("demand 1: the answer's shape: {answer:?}")
     })?;
@@ -316,20 +316,46 @@ pub enum Pair {
     Neither,
 }
 
+/// How often the pairs of tables showed what.
+#[derive(Default)]
+pub struct Pairs([u64; 5]);
+
+impl Pairs {
+    /// Counts a pair.
+    pub fn count(&mut self, pair: Pair) {
+        self.0[pair as usize] += 1;
+    }
+
+    /// How many there were.
+    pub fn all(&self) -> u64 {
+        self.0.iter().sum()
+    }
+
+    /// Whether every part of the demand was tried; tells where one was not.
+    pub fn are_whole(&self) -> bool {
+        if self.0.contains(&0) {
+            println!("NEVER MET: a part of demand 3");
+        }
+        !self.0.contains(&0)
+    }
+}
+
+impl std::fmt::Display for Pairs {
+    fn fmt(&self, f: &mut std::fmt::Formatter<'_>) -> std::fmt::Result {
+        let [both, first, second, room, neither] = self.0;
+        write!(f, "blanked {both}, first refuses 9 {first}, second refuses in a Blank {second}, ")?;
+        write!(f, "second lacks room {room}, else {neither}")
+    }
+}
+
 /// Demand 3, for one payload, root and room under two valid tables alike but for held marks, where the second holds
 /// all that the first holds.
 pub fn two_tables(tally: &mut Tally, first_table: &[u32], second_call: &Read) -> Result<(), String> {
     let first_call = Read { table: first_table.to_vec(), ..second_call.clone() };
     let first = read(tally, &first_call)?;
     let second = read(tally, second_call)?;
-    let count = match judge_pair(first_table, &second_call.table, second_call.root, &first, &second)? {
-        Pair::Blanked => &mut tally.both,
-        Pair::FirstRefuses => &mut tally.first_refuses,
-        Pair::SecondRefuses => &mut tally.second_refuses,
-        Pair::SecondLacksRoom => &mut tally.second_lacks_room,
-        Pair::Neither => &mut tally.neither,
-    };
-    *count += 1;
+    let pair = judge_pair(first_table, &second_call.table, second_call.root, &first, &second)?;
+    tally.pairs.count(pair);
     Ok(())
 }
 

@@ -14,23 +14,10 @@ use crate::table::{Particle, Table};
 const ENDLESS: u64 = 3000;
 
 /// Occurs rows worth trying, both sides of every case of the code among them.
+#[rustfmt::skip]
 const BOUNDS: [(u32, u32); 16] = [
-    (0, 1),
-    (0, 1),
-    (1, 1),
-    (0, 2),
-    (0, 3),
-    (1, 3),
-    (2, 2),
-    (2, 6),
-    (0, 7),
-    (0, 8),
-    (0, 65_535),
-    (0, 65_536),
-    (0, 65_536),
-    (1, 65_536),
-    (3, 65_536),
-    (65_535, 65_536),
+    (0, 1), (0, 1), (1, 1), (0, 2), (0, 3), (1, 3), (2, 2), (2, 6), (0, 7), (0, 8), (0, bim::MOST_COUNT),
+    (0, bim::UNBOUNDED), (0, bim::UNBOUNDED), (1, bim::UNBOUNDED), (3, bim::UNBOUNDED), (bim::MOST_COUNT, bim::UNBOUNDED),
 ];
 
 /// Particle rows, the common ones more often.
@@ -52,34 +39,8 @@ const SIMPLE_KINDS: [u32; 9] = [
 
 /// Words that lie at some limit.
 const EDGES: [u32; 28] = [
-    0,
-    1,
-    2,
-    3,
-    4,
-    5,
-    6,
-    7,
-    8,
-    15,
-    16,
-    63,
-    64,
-    65,
-    256,
-    257,
-    1024,
-    1025,
-    4095,
-    4096,
-    65_535,
-    65_536,
-    65_537,
-    1 << 28,
-    (1 << 31) - 1,
-    1 << 31,
-    u32::MAX - 1,
-    u32::MAX,
+    0, 1, 2, 3, 4, 5, 6, 7, 8, 15, 16, 63, 64, 65, 256, 257, 1024, 1025, 4095, 4096, 65_535, 65_536, 65_537,
+    0x1000_0000, 0x7fff_ffff, 0x8000_0000, 0xffff_fffe, 0xffff_ffff,
 ];
 
 /// A word that is often at a limit.
@@ -97,7 +58,7 @@ fn parameters(rng: &mut Rng, kind: u32) -> (u32, u32) {
         bim::RANGED => {
             let b = edge_word(rng) as i32;
             let span = match rng.below(6) {
-                0 => rng.pick(&[65_534, 65_535, 65_536, 65_537]),
+                0 => bim::MOST_FIXED_SPAN - 1 + rng.below(4) as u32,
                 1 => rng.word() >> 1,
                 2 => 0,
                 _ => rng.below(300) as u32,
@@ -106,7 +67,7 @@ fn parameters(rng: &mut Rng, kind: u32) -> (u32, u32) {
             (b as u32, c as u32)
         }
         bim::ENUMERATION => match rng.below(8) {
-            0 => (rng.pick(&[1, 65_535, 65_536]), 0),
+            0 => (rng.pick(&[1, bim::MOST_ENUMERATION - 1, bim::MOST_ENUMERATION]), 0),
             _ => (rng.within(1, 40) as u32, 0),
         },
         _ => (0, 0),
@@ -274,8 +235,6 @@ pub struct Sample {
     pub texts: Vec<u8>,
     /// The payload's bits, the mode byte included.
     pub bits: Vec<bool>,
-    /// Whether some code is not the one a writer makes.
-    pub quirky: bool,
 }
 
 impl Sample {
@@ -361,11 +320,11 @@ fn sample_of(rng: &mut Rng, words: &[u32], root: (u32, u32), quirk: usize, open:
     let costs = Costs::of(&table);
     let mode = rng.below(3) as u32;
     let budget = if rng.one_in(20) { 400 } else { rng.within(0, 60) as u64 };
-    let mut maker = Maker { table, costs, rng, mode, budget, quirk, quirky: false, events: vec![], texts: vec![] };
+    let mut maker = Maker { table, costs, rng, mode, budget, quirk, events: vec![], texts: vec![] };
     let body = maker.element(root.0, root.1 as usize, open)?;
     let mut bits = bits_of(bim::MODE_BYTES[mode as usize].into(), 8);
     bits.extend(body);
-    Some(Sample { root, mode, events: maker.events, texts: maker.texts, bits, quirky: maker.quirky })
+    Some(Sample { root, mode, events: maker.events, texts: maker.texts, bits })
 }
 
 struct Maker<'a> {
@@ -376,7 +335,6 @@ struct Maker<'a> {
     /// Events that may be spent beyond the cheapest list.
     budget: u64,
     quirk: usize,
-    quirky: bool,
     events: Vec<[u32; 4]>,
     texts: Vec<u8>,
 }
@@ -384,9 +342,7 @@ struct Maker<'a> {
 impl Maker<'_> {
     /// Whether the code at hand shall be odd.
     fn odd(&mut self) -> bool {
-        let odd = self.quirk > 0 && self.rng.one_in(self.quirk);
-        self.quirky |= odd;
-        odd
+        self.quirk > 0 && self.rng.one_in(self.quirk)
     }
 
     /// vluimsbf5 of `value`, at times too long or too large.

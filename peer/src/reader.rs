@@ -28,7 +28,12 @@ pub fn read(
 
 /// The length coding mode of a mode byte: 0F, 4F or 8F.
 pub fn mode_of(byte: u8) -> Option<u32> {
-    bim::MODE_BYTES.iter().position(|&mode_byte| mode_byte == byte).map(|mode| mode as u32)
+    match byte {
+        bim::MODE_BYTE_NONE => Some(bim::MODE_NONE),
+        bim::MODE_BYTE_OPTIONAL => Some(bim::MODE_OPTIONAL),
+        bim::MODE_BYTE_ALWAYS => Some(bim::MODE_ALWAYS),
+        _ => None,
+    }
 }
 
 /// The table, if it and the root are right (1, then 2).

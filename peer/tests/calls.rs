@@ -1,14 +1,14 @@
 //! The comparison of the C calls notices every one of these faults in a stand-in, and none in the peer itself.
 
+#[macro_use]
+mod common;
+
 use peer::bim;
-use peer::calls::{run, Calls};
+use peer::calls::{run, Calls, Reading, Writing};
 use peer::host;
 use std::hint::black_box;
 
-/// Where a stand-in departs from the peer.
-#[derive(Clone, Copy, Debug, PartialEq, Eq)]
-enum Fault {
-    None,
+faults! {
     /// The area keeps a byte of what stood there.
     AreaByteLeft,
     /// A refused reading leaves its events.
@@ -85,16 +85,8 @@ impl Calls for StandIn {
         number
     }
 
-    fn read(
-        &self,
-        table: &[u8],
-        mut name: u32,
-        of_type: u32,
-        payload: &[u8],
-        events: &mut [u8],
-        texts: &mut [u8],
-        area: &mut [u8],
-    ) -> u32 {
+    fn read(&self, lent: Reading<'_>) -> u32 {
+        let Reading { table, root: (mut name, of_type), payload, events, texts, area } = lent;
         if self.0 == RootWraps {
             name &= 0xffff;
         }
@@ -137,17 +129,8 @@ impl Calls for StandIn {
         number
     }
 
-    fn write(
-        &self,
-        table: &[u8],
-        name: u32,
-        of_type: u32,
-        mode: u32,
-        events: &[u8],
-        texts: &[u8],
-        payload: &mut [u8],
-        area: &mut [u8],
-    ) -> u32 {
+    fn write(&self, lent: Writing<'_>) -> u32 {
+        let Writing { table, root: (name, of_type), mode, events, texts, payload, area } = lent;
         if self.0 == RoomOneShort {
             let most = payload.len().saturating_sub(1);
             payload[most..].fill(0);
@@ -180,11 +163,7 @@ fn the_peer_itself_has_no_fault() {
 
 #[test]
 fn every_fault_is_noticed() {
-    for fault in [
-        AreaByteLeft, EventsLeft, OddBytesLeft, TextsLeft, AreaRefusedTextsLeft, LargerArea, RaggedTable, RootWraps,
-        BeforeEvents, BehindTexts, InputTouched, PathLonger, BlankShort, BlankTexts, ReadsOn, PayloadByteLeft,
-        FourthWord, RoomOneShort, LateBlank, LongListPlace,
-    ] {
+    for &fault in FAULTS {
         assert!(run(&StandIn(fault), 2_500, 1).differing() > 0, "{fault:?}");
     }
 }

@@ -16,12 +16,7 @@ fn the_named_cases_reach_every_number() {
     for case in cases::all() {
         let _ = named(&mut tally, case);
     }
-    for number in 1..=17 {
-        assert!(tally.read[number] > 0, "reader {number}");
-    }
-    for number in [1, 2, 6, 9, 16, 18, 19, 20, 21, 22, 23] {
-        assert!(tally.written[number] > 0, "writer {number}");
-    }
+    assert!(tally.is_whole());
 }
 
 #[test]

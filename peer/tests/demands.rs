@@ -19,7 +19,7 @@ fn the_demands_hold_for_some_thousand_seeds() {
         assert_eq!(result, Ok(()), "seed {seed}");
     }
     assert!(!kinds.contains(&0), "{kinds:?}");
-    assert!(tally.read[0] > 0 && tally.written[0] > 0 && tally.blanks > 0);
+    assert!(tally.met.has_met(&[("reader", &[bim::ACCEPTED]), ("writer", &[bim::ACCEPTED])]) && tally.blanks > 0);
 }
 
 #[test]

@@ -1,14 +1,14 @@
 //! The comparison of the bit reader's C calls notices every one of these faults in a stand-in, and none in the peer itself.
 
+#[macro_use]
+mod common;
+
 use peer::bim;
 use peer::calls::{run_bits, BitCalls};
 use peer::lent::{self, Coding};
 use std::hint::black_box;
 
-/// Where a stand-in departs from the peer.
-#[derive(Clone, Copy, Debug, PartialEq, Eq)]
-enum Fault {
-    None,
+faults! {
     /// A refused code moves the place.
     RefusedMoves,
     /// A refused code leaves the value that stood in the area.
@@ -95,10 +95,7 @@ fn the_peer_itself_has_no_fault() {
 
 #[test]
 fn every_fault_is_noticed() {
-    for fault in [
-        RefusedMoves, ValueLeft, LeftBefore, LeftWraps, NothingPastEnd, WideIsPastEnd, LongForm, LargerArea, AreaLeft,
-        BehindArea, ReadsOn, CountWraps,
-    ] {
+    for &fault in FAULTS {
         assert!(!run_bits(&StandIn(fault), 20_000, 1).report(), "{fault:?} went unnoticed");
     }
 }

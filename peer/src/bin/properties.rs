@@ -53,19 +53,8 @@ fn main() -> ExitCode {
     }
     println!("named cases {}, sides of limits {}", cases.len(), sides.len());
     report(&tally, &kinds);
-    for number in 1..=17 {
-        if tally.read[number] == 0 {
-            faults.push(format!("the reader never refused with {number}"));
-        }
-    }
-    for number in [1, 2, 6, 9, 16, 18, 19, 20, 21, 22, 23] {
-        if tally.written[number] == 0 {
-            faults.push(format!("the writer never refused with {number}"));
-        }
-    }
-    let of_demand_3 = [tally.both, tally.first_refuses, tally.second_refuses, tally.second_lacks_room];
-    if of_demand_3.contains(&0) {
-        faults.push("a part of demand 3 was never tried".to_string());
+    if !tally.is_whole() || !tally.pairs.are_whole() {
+        faults.push("not all was met".to_string());
     }
     println!("time {:.1} s", begun.elapsed().as_secs_f64());
     faults.iter().for_each(|fault| println!("FAILED: {fault}"));
@@ -79,21 +68,10 @@ fn report(tally: &Tally, kinds: &[u64]) {
     for (kind, count) in KINDS.iter().zip(kinds) {
         println!("trials of {kind}: {count}");
     }
-    let line = |what: &str, counts: &[u64]| {
-        print!("{what}: accepted {}", counts[0]);
-        for (number, count) in counts.iter().enumerate().skip(1) {
-            if *count > 0 {
-                print!(", {number}: {count}");
-            }
-        }
-        println!();
-    };
-    line("reader", &tally.read);
-    line("writer", &tally.written);
+    for (side, _, numbers) in tally.met.rows() {
+        println!("{side}: {}", numbers.replacen("0: ", "accepted ", 1));
+    }
     println!("table check: right {}, wrong {}", tally.tables[0], tally.tables[1]);
     println!("accepted with Blanks {}, written back identically {}", tally.blanks, tally.identical);
-    println!(
-        "demand 3: blanked {}, first refuses 9 {}, second refuses in a Blank {}, second lacks room {}, else {}",
-        tally.both, tally.first_refuses, tally.second_refuses, tally.second_lacks_room, tally.neither
-    );
+    println!("demand 3: {}", tally.pairs);
 }

@@ -117,7 +117,7 @@ impl<'a> Bench<'a> {
     pub fn count_pair(&mut self, pair: Option<Pair>) {
         self.cases += 1;
         if let Some(pair) = pair {
-            self.tally.count_pair(pair);
+            self.tally.pairs.count(pair);
         }
     }
 
@@ -125,11 +125,7 @@ impl<'a> Bench<'a> {
     fn lent(&mut self, case: &Case) -> (Left, Option<String>) {
         let mut inputs: Vec<_> = case.inputs.iter().map(|bytes| Lent::holding(&mut self.junk, bytes)).collect();
         let mut outputs: Vec<_> = case.rooms.iter().map(|&room| Lent::of_junk(&mut self.junk, room)).collect();
-        let number = {
-            let inputs: Vec<_> = inputs.iter().map(Lent::lent).collect();
-            let mut outputs: Vec<_> = outputs.iter_mut().map(Lent::lent_mut).collect();
-            case.ask(self.calls, &inputs, &mut outputs)
-        };
+        let number = case.ask(self.calls, &inputs, &mut outputs);
         // Whatever the call did, the buffers are looked at again: the compiler may not count on them.
         black_box((&mut inputs, &mut outputs));
         let beside = inputs.iter().chain(&outputs).any(|lent| !lent.guards_stand());
@@ -188,8 +184,7 @@ impl<'a> Bench<'a> {
 /// What the peer leaves.
 pub fn on_peer(case: &Case) -> Left {
     let mut outputs: Vec<_> = case.rooms.iter().map(|&room| vec![DIRT; room]).collect();
-    let inputs: Vec<_> = case.inputs.iter().map(Vec::as_slice).collect();
-    let number = case.ask(&Judge, &inputs, &mut outputs.iter_mut().map(Vec::as_mut_slice).collect::<Vec<_>>());
+    let number = case.ask(&Judge, &case.inputs, &mut outputs);
     Left { number, outputs }
 }
 
@@ -248,5 +243,17 @@ impl Lent {
     pub(super) fn guards_stand(&self) -> bool {
         let (before, after) = self.guards.split_at(self.first);
         self.bytes[..self.first] == *before && self.bytes[self.first + self.room..] == *after
+    }
+}
+
+impl AsRef<[u8]> for Lent {
+    fn as_ref(&self) -> &[u8] {
+        self.lent()
+    }
+}
+
+impl AsMut<[u8]> for Lent {
+    fn as_mut(&mut self) -> &mut [u8] {
+        self.lent_mut()
     }
 }

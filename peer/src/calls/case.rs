@@ -1,6 +1,6 @@
 //! One call's input, and what the peer or another answers.
 
-use super::Calls;
+use super::{Calls, Reading, Writing};
 use crate::answer::{refusal, Answer, Path};
 use crate::bim;
 use crate::call::{self, Read, Write};
@@ -32,8 +32,8 @@ impl Call {
     pub fn numbers(self) -> &'static [u32] {
         match self {
             Call::Check => &[bim::ACCEPTED, bim::TABLE, bim::AREA_SIZE],
-            Call::Read => &[0, 1, 2, 3, 4, 5, 6, 7, 8, 9, 10, 11, 12, 13, 14, 15, 16, 17, bim::AREA_SIZE],
-            Call::Write => &[0, 1, 2, 6, 9, 16, 18, 19, 20, 21, 22, 23, bim::AREA_SIZE],
+            Call::Read => &call::READER,
+            Call::Write => &call::WRITER,
         }
     }
 
@@ -113,17 +113,24 @@ impl Case {
         Case::of(&call::Call::Write(sample.writing(table, 0)))
     }
 
-    /// Asks `calls`.
+    /// Asks `calls`, with these bytes for inputs and these buffers.
     #[inline(always)]
-    pub fn ask(&self, calls: &(impl Calls + ?Sized), inputs: &[&[u8]], outputs: &mut [&mut [u8]]) -> u32 {
-        let (name, of_type) = self.root;
-        match (self.call, inputs, outputs) {
-            (Call::Check, [table], [area]) => calls.check_table(table, area),
-            (Call::Read, [table, payload], [events, texts, area]) => {
-                calls.read(table, name, of_type, payload, events, texts, area)
+    pub fn ask<I, O>(&self, calls: &(impl Calls + ?Sized), inputs: &[I], outputs: &mut [O]) -> u32
+    where
+        I: AsRef<[u8]>,
+        O: AsMut<[u8]>,
+    {
+        let root = self.root;
+        let given = |index: usize| inputs[index].as_ref();
+        match (self.call, outputs) {
+            (Call::Check, [area]) => calls.check_table(given(0), area.as_mut()),
+            (Call::Read, [events, texts, area]) => {
+                let (events, texts, area) = (events.as_mut(), texts.as_mut(), area.as_mut());
+                calls.read(Reading { table: given(0), root, payload: given(1), events, texts, area })
             }
-            (Call::Write, [table, events, texts], [payload, area]) => {
-                calls.write(table, name, of_type, self.mode, events, texts, payload, area)
+            (Call::Write, [payload, area]) => {
+                let (table, mode, payload, area) = (given(0), self.mode, payload.as_mut(), area.as_mut());
+                calls.write(Writing { table, root, mode, events: given(1), texts: given(2), payload, area })
             }
             _ => panic!("{self:?} has not the buffers of its call"),
         }

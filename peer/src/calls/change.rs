@@ -38,7 +38,15 @@ fn other_room(rng: &mut Rng, case: &mut Case) {
     let outputs = case.rooms.len() - usize::from(!rng.one_in(8));
     if outputs > 0 {
         let room = &mut case.rooms[rng.below(outputs)];
-        *room = rng.pick(&[0, room.saturating_sub(1), *room + 1, room.saturating_sub(16), *room + 16, 8192, 32_768]);
+        *room = rng.pick(&[
+            0,
+            room.saturating_sub(1),
+            *room + 1,
+            room.saturating_sub(bim::EVENT),
+            *room + bim::EVENT,
+            bim::MOST_PAYLOAD,
+            32_768,
+        ]);
     }
 }
 
@@ -82,7 +90,9 @@ fn other_flags(rng: &mut Rng, case: &mut Case) {
     if case.call == Call::Write {
         let (mode, among) = rng.pick(&[(0, 1), (1, 2), (1, 2), (2, 2)]);
         case.mode = mode;
-        for event in case.inputs[1].chunks_exact_mut(16).filter(|event| event[..4] == bim::KIND_START.to_be_bytes()) {
+        for event in
+            case.inputs[1].chunks_exact_mut(bim::EVENT).filter(|event| event[..4] == bim::KIND_START.to_be_bytes())
+        {
             event[11] = if mode == 2 { 1 } else { rng.below(among) as u8 };
         }
     }

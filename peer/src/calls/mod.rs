@@ -21,38 +21,51 @@ use crate::cases;
 use crate::host;
 use crate::rng::Rng;
 
-/// The three C calls, with their buffers as slices.
+/// What `bim_read` is given and lent.
+pub struct Reading<'a> {
+    /// Given: the table's bytes.
+    pub table: &'a [u8],
+    /// Given: root name and type.
+    pub root: (u32, u32),
+    /// Given: the payload.
+    pub payload: &'a [u8],
+    /// Lent for the events.
+    pub events: &'a mut [u8],
+    /// Lent for the texts.
+    pub texts: &'a mut [u8],
+    /// Lent for the answer.
+    pub area: &'a mut [u8],
+}
+
+/// What `bim_write` is given and lent.
+pub struct Writing<'a> {
+    /// Given: the table's bytes.
+    pub table: &'a [u8],
+    /// Given: root name and type.
+    pub root: (u32, u32),
+    /// Given: the mode.
+    pub mode: u32,
+    /// Given: the list's bytes.
+    pub events: &'a [u8],
+    /// Given: the texts.
+    pub texts: &'a [u8],
+    /// Lent for the payload.
+    pub payload: &'a mut [u8],
+    /// Lent for the answer.
+    pub area: &'a mut [u8],
+}
+
+/// The three C calls.
 pub trait Calls {
     /// `bim_check_table`.
     fn check_table(&self, table: &[u8], area: &mut [u8]) -> u32;
     /// `bim_read`.
-    #[allow(clippy::too_many_arguments)] // the boundary's names and order are fixed
-    fn read(
-        &self,
-        table: &[u8],
-        root_name: u32,
-        root_type: u32,
-        payload: &[u8],
-        events: &mut [u8],
-        texts: &mut [u8],
-        area: &mut [u8],
-    ) -> u32;
+    fn read(&self, lent: Reading<'_>) -> u32;
     /// `bim_write`.
-    #[allow(clippy::too_many_arguments)] // the boundary's names and order are fixed
-    fn write(
-        &self,
-        table: &[u8],
-        root_name: u32,
-        root_type: u32,
-        mode: u32,
-        events: &[u8],
-        texts: &[u8],
-        payload: &mut [u8],
-        area: &mut [u8],
-    ) -> u32;
+    fn write(&self, lent: Writing<'_>) -> u32;
 }
 
-/// Makes a type of three functions that have the calls' arguments.
+/// Makes a type of three functions that have the calls' arguments in their order.
 #[macro_export]
 macro_rules! calls_of {
     ($(#[$meta:meta])* $name:ident = $check:path, $read:path, $write:path) => {
@@ -65,32 +78,15 @@ macro_rules! calls_of {
             }
 
             #[inline(always)]
-            fn read(
-                &self,
-                table: &[u8],
-                root_name: u32,
-                root_type: u32,
-                payload: &[u8],
-                events: &mut [u8],
-                texts: &mut [u8],
-                area: &mut [u8],
-            ) -> u32 {
-                $read(table, root_name, root_type, payload, events, texts, area)
+            fn read(&self, lent: $crate::calls::Reading<'_>) -> u32 {
+                let $crate::calls::Reading { table, root, payload, events, texts, area } = lent;
+                $read(table, root.0, root.1, payload, events, texts, area)
             }
 
             #[inline(always)]
-            fn write(
-                &self,
-                table: &[u8],
-                root_name: u32,
-                root_type: u32,
-                mode: u32,
-                events: &[u8],
-                texts: &[u8],
-                payload: &mut [u8],
-                area: &mut [u8],
-            ) -> u32 {
-                $write(table, root_name, root_type, mode, events, texts, payload, area)
+            fn write(&self, lent: $crate::calls::Writing<'_>) -> u32 {
+                let $crate::calls::Writing { table, root, mode, events, texts, payload, area } = lent;
+                $write(table, root.0, root.1, mode, events, texts, payload, area)
             }
         }
     };

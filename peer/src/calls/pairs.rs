@@ -34,7 +34,7 @@ pub fn round(bench: &mut Bench<'_>, rng: &mut Rng) {
         Some(sample) => Case::read_sample(&table, sample),
         None => {
             let root = (rng.below(50) as u32, rng.below(table[1] as usize) as u32);
-            Case::read(&table, root, gen::noise(rng), 16 * rng.below(100), rng.below(40))
+            Case::read(&table, root, gen::noise(rng), bim::EVENT * rng.below(100), rng.below(40))
         }
     };
     let types = sample.map_or(vec![], |sample| element_types(&table, sample.root, &sample.events));
@@ -56,7 +56,7 @@ pub fn round(bench: &mut Bench<'_>, rng: &mut Rng) {
         // Room for the first, and not always for the second: the last part of the demand.
         let least = bench.ask_aside("the first alone", &case);
         if least.is_accepted() {
-            let (events, texts) = (16 * least.word(2), least.word(3));
+            let (events, texts) = (bim::EVENT * least.word(2), least.word(3));
             case.rooms[0] = rng.within(events, case.rooms[0].max(events));
             case.rooms[1] = rng.within(texts, case.rooms[1].max(texts));
         }

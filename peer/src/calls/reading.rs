@@ -8,6 +8,8 @@ use crate::gen::{self, damage_payload, damage_table, edge_word, let_go, table_an
 use crate::rng::Rng;
 use crate::words::big_endian;
 
+const MOST: usize = bim::MOST_EVENTS;
+
 /// One seeded round: a case and its neighbours.
 pub fn round(bench: &mut Bench<'_>, rng: &mut Rng) {
     match rng.below(40) {
@@ -40,7 +42,7 @@ fn written_back(bench: &mut Bench<'_>, case: &Case, left: &Left) {
     let (Some(events), Some(texts)) = (left.events(), left.texts()) else {
         return bench.hold(case, false, || "the area counts more than the buffers have".to_string());
     };
-    if events.chunks_exact(16).any(|event| event[..4] == bim::KIND_BLANK.to_be_bytes()) {
+    if events.chunks_exact(bim::EVENT).any(|event| event[..4] == bim::KIND_BLANK.to_be_bytes()) {
         return;
     }
     let mut back = Case::write(&[], case.root, left.word(1) as u32, events.to_vec(), texts.to_vec(), 0);
@@ -79,7 +81,7 @@ fn valid(bench: &mut Bench<'_>, rng: &mut Rng) {
 /// Rooms of every size around what the reading took.
 fn rooms_around(bench: &mut Bench<'_>, rng: &mut Rng, case: &mut Case, left: &Left) {
     let (events, texts) =
-        if left.is_accepted() { (16 * left.word(2), left.word(3)) } else { (case.rooms[0], case.rooms[1]) };
+        if left.is_accepted() { (bim::EVENT * left.word(2), left.word(3)) } else { (case.rooms[0], case.rooms[1]) };
     let every = if rng.one_in(20) { 20 } else { 3 };
     for _ in 0..every {
         case.rooms = vec![(events + rng.below(37)).saturating_sub(18), texts + rng.below(3), bim::AREA];
@@ -236,7 +238,7 @@ pub fn root(rng: &mut Rng, root: (u32, u32), types: u32) -> (u32, u32) {
     match rng.below(6) {
         0 => (root.0, types),
         1 => (root.0, types - 1),
-        2 => (rng.pick(&[0, 65_535, 65_536, 65_537, 1 << 31, u32::MAX]), root.1),
+        2 => (rng.pick(&[0, bim::MOST_NAME, bim::MOST_NAME + 1, 65_537, 1 << 31, u32::MAX]), root.1),
         3 => (edge_word(rng), root.1),
         4 => (root.0, edge_word(rng)),
         _ => (edge_word(rng), edge_word(rng)),
@@ -256,7 +258,7 @@ fn noise(bench: &mut Bench<'_>, rng: &mut Rng) {
     let table = gen::table(rng);
     let table = let_go(rng, &table, 4);
     let root = (rng.below(50) as u32, rng.below(table[1] as usize) as u32);
-    let mut case = Case::read(&table, root, gen::noise(rng), 16 * rng.below(100), rng.below(60));
+    let mut case = Case::read(&table, root, gen::noise(rng), bim::EVENT * rng.below(100), rng.below(60));
     for _ in 0..3 {
         ask(bench, "noise as payload", &case);
         case.inputs[1] = gen::noise(rng);
@@ -289,9 +291,9 @@ fn deep(bench: &mut Bench<'_>, rng: &mut Rng) {
 /// Payloads and tables about as large as may be, and more.
 fn large(bench: &mut Bench<'_>, rng: &mut Rng) {
     let mut case = held_in_part(rng, 0);
-    let length = rng.pick(&[8190, 8191, 8192, 8193, 8194, 9000, 70_000]);
+    let length = bim::MOST_PAYLOAD.saturating_add_signed(rng.pick(&[-2, -1, 0, 1, 2, 808, 61_808]));
     case.inputs[1].resize(length, 0);
-    case.rooms[0] = rng.pick(&[2047, 2048, 2049, 4000]) * 16 + rng.below(16);
+    case.rooms[0] = rng.pick(&[MOST - 1, MOST, MOST + 1, 4000]) * bim::EVENT + rng.below(bim::EVENT);
     ask(bench, "large payloads", &case);
     case.inputs[1].iter_mut().skip(1).for_each(|byte| *byte = (rng.word() & rng.word() & rng.word()) as u8);
     ask(bench, "large payloads", &case);
@@ -323,7 +325,8 @@ pub fn named(bench: &mut Bench<'_>) {
             Call::Read => {
                 check(bench, "tables of named cases", &base.inputs[0]);
                 let left = ask(bench, "named payloads", &base);
-                for room in [0, 1, 16, 2047 * 16, 2048 * 16 - 1, 2048 * 16, 2049 * 16, 5000 * 16 + 3] {
+                let full = MOST * bim::EVENT;
+                for room in [0, 1, bim::EVENT, full - bim::EVENT, full - 1, full, full + bim::EVENT, 80_003] {
                     let rooms = vec![room, base.rooms[1], bim::AREA];
                     ask(bench, "named payloads, rooms at the limit", &Case { rooms, ..base.clone() });
                 }

@@ -1,7 +1,7 @@
 //! What was compared: cases by part and kind, pairs of tables, and the smallest case that differs.
 
 use super::case::{Call, Case};
-use crate::demands::Pair;
+use crate::demands::Pairs;
 use crate::tally;
 use std::collections::BTreeMap;
 
@@ -11,7 +11,7 @@ pub struct Tally {
     /// Cases by part and kind.
     kinds: BTreeMap<(&'static str, &'static str), u64>,
     /// What the pairs of tables showed of demand 3.
-    pairs: [u64; 5],
+    pub pairs: Pairs,
     /// Answers and differences.
     pub met: tally::Tally,
     /// The smallest case that differs.
@@ -23,11 +23,6 @@ impl Tally {
     pub fn count(&mut self, part: &'static str, kind: &'static str, call: Call, number: u32) {
         *self.kinds.entry((part, kind)).or_default() += 1;
         self.met.count(call.name(), number);
-    }
-
-    /// Counts a pair of tables.
-    pub fn count_pair(&mut self, pair: Pair) {
-        self.pairs[pair as usize] += 1;
     }
 
     /// Keeps a difference.
@@ -58,16 +53,8 @@ impl Tally {
         }
         self.report_answers();
         let mut good = sample || self.met.has_met(&Call::ALL.map(|call| (call.name(), call.numbers())));
-        let [both, first, second, room, neither] = self.pairs;
-        println!(
-            "demand 3: {} pairs: blanked {both}, first refuses 9 {first}, second refuses in a Blank {second}, \
-             second lacks room {room}, else {neither}",
-            self.pairs.iter().sum::<u64>()
-        );
-        if self.pairs.contains(&0) && !sample {
-            println!("NEVER MET: a part of demand 3");
-            good = false;
-        }
+        println!("demand 3: {} pairs: {}", self.pairs.all(), self.pairs);
+        good &= sample || self.pairs.are_whole();
         println!("{} differences", self.met.differing());
         self.met.shows_none() && good
     }

@@ -51,12 +51,12 @@ fn read_back(bench: &mut Bench<'_>, case: &Case, left: &Left) {
     let read = bench.ask_aside("read back", &back);
     let alike = |(got, given): (&[u8], &[u8])| got[..12] == given[..12];
     let same = read.is_accepted()
-        && read.outputs[0].chunks_exact(16).zip(list.chunks_exact(16)).all(alike)
+        && read.outputs[0].chunks_exact(bim::EVENT).zip(list.chunks_exact(bim::EVENT)).all(alike)
         && read.outputs[1] == *texts
         && read.outputs[2] == left.outputs[1];
     bench.hold(case, same, || format!("demand 2: read back as {read:02x?}"));
     let bits_of = |event: &[u8]| u32::from_be_bytes([event[12], event[13], event[14], event[15]]) as usize;
-    let sum: usize = read.outputs[0].chunks_exact(16).map(bits_of).sum();
+    let sum: usize = read.outputs[0].chunks_exact(bim::EVENT).map(bits_of).sum();
     bench.hold(case, sum + 8 == bits, || format!("demand 2: read back, the events have {sum} bits of {bits}"));
 }
 
@@ -307,8 +307,9 @@ fn deep(bench: &mut Bench<'_>, rng: &mut Rng) {
 fn large(bench: &mut Bench<'_>, rng: &mut Rng) {
     let (table, sample) = table_and_sample(rng, 0);
     let mut case = Case::write_sample(&table, &sample);
-    let events = rng.pick(&[2047, 2048, 2049, 3000]);
-    case.inputs[1] = case.inputs[1].iter().copied().cycle().take(16 * events + rng.pick(&[0, 0, 0, 1, 15])).collect();
+    let events = rng.pick(&[bim::MOST_EVENTS - 1, bim::MOST_EVENTS, bim::MOST_EVENTS + 1, 3000]);
+    case.inputs[1] =
+        case.inputs[1].iter().copied().cycle().take(bim::EVENT * events + rng.pick(&[0, 0, 0, 1, 15])).collect();
     ask(bench, "long lists", &case);
 }
 
@@ -325,8 +326,8 @@ pub fn named(bench: &mut Bench<'_>) {
             [room, 0],
             [room, bim::AREA - 1],
             [room, bim::AREA + 1],
-            [8191, bim::AREA],
-            [8192, bim::AREA],
+            [bim::MOST_PAYLOAD - 1, bim::AREA],
+            [bim::MOST_PAYLOAD, bim::AREA],
             [9000, bim::AREA],
         ] {
             ask(bench, "named lists, other rooms", &Case { rooms: rooms.to_vec(), ..base.clone() });

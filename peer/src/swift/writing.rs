@@ -111,7 +111,12 @@ impl Call<'_> {
         if bytes > bim::MOST_PAYLOAD || bytes > payload.len() {
             return Err((bim::PAYLOAD_ROOM, 0));
         }
-        put_out(&pieces[..filled], texts, bim::MODE_BYTES[mode as usize], &mut payload[..bytes]);
+        put_out(
+            &pieces[..filled],
+            texts,
+            [bim::MODE_BYTE_NONE, bim::MODE_BYTE_OPTIONAL, bim::MODE_BYTE_ALWAYS][mode as usize],
+            &mut payload[..bytes],
+        );
         Ok(bits)
     }
 }

@@ -1,6 +1,15 @@
 //! What the tests share: calls over buffers filled with dirt, and tables written row by row.
 
-#![allow(dead_code, unused_imports)] // no test file uses all of it
+#![allow(dead_code, unused_imports, unused_macros)] // no test file uses all of it
+
+/// Where a stand-in departs from the peer: nowhere, or in one of these ways.
+macro_rules! faults {
+    ($($(#[$doc:meta])* $name:ident,)*) => {
+        #[derive(Clone, Copy, Debug, PartialEq, Eq)]
+        enum Fault { None, $($(#[$doc])* $name,)* }
+        const FAULTS: &[Fault] = &[$(Fault::$name,)*];
+    };
+}
 
 use peer::answer::Answer;
 use peer::rows::Rows;

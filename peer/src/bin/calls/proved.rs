@@ -3,7 +3,7 @@
 //! SAFETY, of every call below: the archive's functions are proved safe for all arguments of their types, with no
 //! `requires`; a slice passes as its pointer and its length, and no two of them overlap.
 
-use peer::calls::{BitCalls, Calls};
+use peer::calls::{BitCalls, Calls, Reading, Writing};
 use peer::lent::Coding;
 use std::cell::Cell;
 
@@ -79,22 +79,14 @@ impl Calls for Library {
         unsafe { bim_check_table(self.given(table), table.len(), self.lent(area), area.len()) }
     }
 
-    fn read(
-        &self,
-        table: &[u8],
-        root_name: u32,
-        root_type: u32,
-        payload: &[u8],
-        events: &mut [u8],
-        texts: &mut [u8],
-        area: &mut [u8],
-    ) -> u32 {
+    fn read(&self, lent: Reading<'_>) -> u32 {
+        let Reading { table, root, payload, events, texts, area } = lent;
         unsafe {
             bim_read(
                 self.given(table),
                 table.len(),
-                root_name,
-                root_type,
+                root.0,
+                root.1,
                 self.given(payload),
                 payload.len(),
                 self.lent(events),
@@ -107,23 +99,14 @@ impl Calls for Library {
         }
     }
 
-    fn write(
-        &self,
-        table: &[u8],
-        root_name: u32,
-        root_type: u32,
-        mode: u32,
-        events: &[u8],
-        texts: &[u8],
-        payload: &mut [u8],
-        area: &mut [u8],
-    ) -> u32 {
+    fn write(&self, lent: Writing<'_>) -> u32 {
+        let Writing { table, root, mode, events, texts, payload, area } = lent;
         unsafe {
             bim_write(
                 self.given(table),
                 table.len(),
-                root_name,
-                root_type,
+                root.0,
+                root.1,
                 mode,
                 self.given(events),
                 events.len(),

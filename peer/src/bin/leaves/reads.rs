@@ -231,7 +231,7 @@ fn within(rng: &mut Rng, span: u32) -> u32 {
 fn range_code(rng: &mut Rng, b: i32, c: i32) -> Vec<bool> {
     let span = (i64::from(c) - i64::from(b)).max(0) as u32;
     let above = within(rng, span);
-    if span > 65_535 {
+    if span > bim::MOST_FIXED_SPAN {
         return five(rng, above);
     }
     let width = codes::width(u64::from(span) + 1) as usize;
@@ -258,34 +258,17 @@ fn ranges(rng: &mut Rng, tally: &mut Tally) {
 
 /// The least and most count of an occurs row, now and then of none that a right table has.
 pub fn occurs_row(rng: &mut Rng) -> (u32, u32) {
+    #[rustfmt::skip]
     const ROWS: [(u32, u32); 20] = [
-        (0, 1),
-        (1, 1),
-        (0, 2),
-        (0, 3),
-        (1, 2),
-        (1, 3),
-        (2, 2),
-        (2, 6),
-        (0, 7),
-        (0, 8),
-        (7, 8),
-        (0, 65_534),
-        (0, 65_535),
-        (1, 65_535),
-        (65_535, 65_535),
-        (0, 65_536),
-        (1, 65_536),
-        (3, 65_536),
-        (65_534, 65_536),
-        (65_535, 65_536),
+        (0, 1), (1, 1), (0, 2), (0, 3), (1, 2), (1, 3), (2, 2), (2, 6), (0, 7), (0, 8), (7, 8), (0, 65_534), (0, 65_535),
+        (1, 65_535), (65_535, 65_535), (0, 65_536), (1, 65_536), (3, 65_536), (65_534, 65_536), (65_535, 65_536),
     ];
     match rng.below(30) {
         0 => (edge_word(rng), edge_word(rng)),
         1..=15 => rng.pick(&ROWS),
         _ => {
-            let most = if rng.one_in(3) { rng.within(1, 65_536) } else { rng.within(1, 40) };
-            (rng.below(most.min(65_535) + 1) as u32, most as u32)
+            let most = if rng.one_in(3) { rng.within(1, bim::UNBOUNDED as usize) } else { rng.within(1, 40) };
+            (rng.below(most.min(bim::MOST_COUNT as usize) + 1) as u32, most as u32)
         }
     }
 }
@@ -293,13 +276,13 @@ pub fn occurs_row(rng: &mut Rng) -> (u32, u32) {
 /// Whether a right table can have the row (document 01, particle rows). One more is left out: least 0 and most 0 is no
 /// row, and both sides read it as one choice without bits.
 pub fn is_row(least: u32, most: u32) -> bool {
-    least <= 65_535 && least <= most && most <= bim::UNBOUNDED
+    least <= bim::MOST_COUNT && least <= most && most <= bim::UNBOUNDED
 }
 
 fn counts(rng: &mut Rng, tally: &mut Tally) {
     let (least, most) = occurs_row(rng);
     // Both sides would count on from a least that no row can have: 65,536 to unbounded.
-    if least > 65_535 && least <= most && most == bim::UNBOUNDED {
+    if least > bim::MOST_COUNT && least <= most && most == bim::UNBOUNDED {
         return;
     }
     let span = most.wrapping_sub(least);
@@ -365,9 +348,7 @@ fn value_code(rng: &mut Rng, kind: u32, b: u32, c: u32) -> Vec<bool> {
 /// A text with its count; now and then another count.
 fn text_code(rng: &mut Rng) -> Vec<bool> {
     let text = match rng.below(400) {
-        0 => texts::long(rng, 4094),
-        1 => texts::long(rng, 4095),
-        2 => texts::long(rng, 4096),
+        about @ 0..3 => texts::long(rng, bim::MOST_TEXT as usize - 1 + about),
         _ => texts::any(rng),
     };
     let count = match rng.below(16) {

@@ -2,7 +2,7 @@
 //! own name, which callgrind can tell apart.
 
 use crate::proved::Library;
-use peer::calls::{Call, Calls, Case};
+use peer::calls::{Calls, Case};
 use peer::{bim, calls_of, host, swift};
 
 /// Who is asked.
@@ -60,16 +60,7 @@ impl Buffers {
 
     #[inline(always)]
     fn call(&mut self, case: &Case, calls: &impl Calls) -> u32 {
-        let (name, of_type) = case.root;
-        match (case.call, &self.inputs[..], &mut self.outputs[..]) {
-            (Call::Read, [table, payload], [events, texts, area]) => {
-                calls.read(table, name, of_type, payload, events, texts, area)
-            }
-            (Call::Write, [table, events, texts], [payload, area]) => {
-                calls.write(table, name, of_type, case.mode, events, texts, payload, area)
-            }
-            _ => panic!("{case:?} is neither read nor written"),
-        }
+        case.ask(calls, &self.inputs, &mut self.outputs)
     }
 }
 
