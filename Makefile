@@ -78,7 +78,7 @@ soak: SEED = $(shell date +%s)
 soak: peer/target/release/calls
 	bash tests/soak $(CASES) $(SEED)
 
-peer/target/release/calls: $(ARCHIVE) $(shell find peer/src peer/build.rs peer/Cargo.toml)
+peer/target/release/calls: $(ARCHIVE) $(shell find peer/src peer/build.rs peer/Cargo.toml) $(wildcard examples/*.txt)
 	cd peer && cargo build --release --locked --offline --quiet --features host_write --bin calls
 	@touch $@
 

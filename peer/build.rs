@@ -1,16 +1,22 @@
-//! Links the proved leaves into `leaves` alone and the proved C calls into `calls` alone: every other target is built
-//! without them. `HOST_ARCHIVE` names another archive of the C calls. `fuzz` gets libFuzzer and blocks.c besides: `FUZZER` and
-//! `FUZZ_BLOCKS` name the archive and the object.
+//! Links the proved leaves into `leaves` alone and the proved C calls into `calls`, `speed` and `fuzz` alone: every other target
+//! is built without them. `HOST_ARCHIVE` names another archive of the C calls. `fuzz` gets libFuzzer and blocks.c besides:
+//! `FUZZER` and `FUZZ_BLOCKS` name the archive and the object.
+
+/// The crates whose archives are linked (`rt staticlib NAME`), and the one that runs the vectors.
+const LEAVES: &str = "probe";
+const CALLS: &str = "host";
+const CASES: &str = "cases";
 
 fn main() {
     println!("cargo:rerun-if-changed=build.rs");
     println!("cargo:rerun-if-env-changed=HOST_ARCHIVE");
-    let built = concat!(env!("CARGO_MANIFEST_DIR"), "/../target/staticlib");
+    println!("cargo:rustc-env=CASES_CRATE={CASES}");
+    let archive = |name| format!(concat!(env!("CARGO_MANIFEST_DIR"), "/../target/staticlib/lib{}.a"), name);
     if std::env::var_os("CARGO_FEATURE_PROVED").is_some() {
-        link("leaves", &format!("{built}/libprobe.a"));
+        link("leaves", &archive(LEAVES));
     }
-    let calls = std::env::var("HOST_ARCHIVE").unwrap_or(format!("{built}/libhost.a"));
-    if std::env::var_os("CARGO_FEATURE_HOST").is_some() {
+    let calls = std::env::var("HOST_ARCHIVE").unwrap_or(archive(CALLS));
+    if std::env::var_os("CARGO_FEATURE_HOST_WRITE").is_some() {
         link("calls", &calls);
         link("speed", &calls);
     }

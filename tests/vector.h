@@ -126,7 +126,7 @@ static inline int next_vector(FILE *file, struct vector *vector)
             set_path(vector, rest);
         else if (strcmp(line, "end") == 0)
             return 1;
-        else if (line[0] != '\0' && line[0] != '#')
+        else if (line[0] != '\0' && line[0] != '#' && strncmp(line, "bits ", 5) != 0)
             no_vector(vector, line);
     }
     return 0;

@@ -2,7 +2,7 @@
 //!
 //! Everywhere a place is a bit from the payload's start, `end` is the wall, and `at <= end <= 8 * payload.len()`.
 
-use crate::answer::number::PAST_END;
+use crate::bim;
 
 /// The 64 bits from `at` on, with zeros past the last byte. One wide load serves every field but a text.
 #[inline]
@@ -30,7 +30,7 @@ pub fn load64(payload: &[u8], at: usize) -> u64 {
 pub fn fixed(payload: &[u8], end: usize, at: usize, width: u32) -> Result<u32, u32> {
     debug_assert!(width <= 32);
     if width as usize > end - at {
-        return Err(PAST_END);
+        return Err(bim::PAST_END);
     }
     if width == 0 {
         return Ok(0);

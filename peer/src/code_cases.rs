@@ -6,8 +6,9 @@
 //! A payload case is the byte 32, a byte 0, six words (table words, payload bytes, root name, root type, event words and text
 //! bytes lent), the table, and the payload.
 
-use crate::cases::Call;
-use crate::vectors::call_of;
+use crate::call::{Call, Read};
+use crate::vectors::case_of;
+use crate::words::{big_endian, unhex};
 
 /// What `cases` is asked, and what it has to print.
 #[derive(Clone, Debug, PartialEq, Eq)]
@@ -21,7 +22,7 @@ pub struct CodeCase {
 /// The case of one line of codes.txt. `None` where the line has another form, or a word that `cases` cannot take: a width
 /// of 2^32 choices.
 pub fn code_case(vector: &str) -> Option<CodeCase> {
-    let (asked, answer) = vector.split_once(" = ")?;
+    let (asked, answer) = vector.trim_end().split_once(" = ")?;
     let words: Vec<_> = asked.split(' ').collect();
     let answers: Vec<_> = answer.split(' ').collect();
     match words[0] {
@@ -59,14 +60,9 @@ pub fn code_case(vector: &str) -> Option<CodeCase> {
 
 /// The case of one block of payloads.txt: its answer's lines, and none of the lent bytes past list and texts that is not 0.
 pub fn payload_case(vector: &str) -> Option<CodeCase> {
-    let Call::Read { table, root, payload, event_words, text_room } = call_of(vector)? else { return None };
-    let sizes = [table.len(), payload.len(), root.0 as usize, root.1 as usize, event_words, text_room];
-    let mut input = vec![32, 0];
-    for size in sizes {
-        input.extend(u32::try_from(size).ok()?.to_be_bytes());
-    }
-    input.extend(table.iter().flat_map(|word| word.to_be_bytes()));
-    input.extend(payload);
+    let Call::Read(Read { table, root, payload, event_words, text_room }) = case_of(vector)?.call else { return None };
+    let sizes = [table.len() as u32, payload.len() as u32, root.0, root.1, event_words as u32, text_room as u32];
+    let input = [vec![32, 0], big_endian(&sizes), big_endian(&table), payload].concat();
     let (_, answer) = vector.split_once("\nanswer ")?;
     Some(CodeCase { input, line: format!("answer {}left 0 0", answer.strip_suffix("end\n")?) })
 }
@@ -78,12 +74,8 @@ fn word(text: &str) -> Option<u32> {
 }
 
 fn read(number: u8, words: [u32; 5], hex: &str, line: &str) -> Option<CodeCase> {
-    let hex = if hex == "-" { "" } else { hex };
-    let bytes: Vec<u8> =
-        (0..hex.len() / 2).map(|at| u8::from_str_radix(&hex[2 * at..2 * at + 2], 16).ok()).collect::<Option<_>>()?;
-    let mut input = vec![number, u8::try_from(bytes.len()).ok()?];
-    input.extend(words.iter().flat_map(|word| word.to_be_bytes()));
-    input.extend(bytes);
+    let bytes = unhex(hex)?;
+    let input = [vec![number, u8::try_from(bytes.len()).ok()?], big_endian(&words), bytes].concat();
     Some(CodeCase { input, line: line.to_string() })
 }
 

@@ -2,15 +2,8 @@
 //!
 //! A refusal here is a bare number; who calls knows the item's place.
 
-use crate::answer::number::{NAMES_NOTHING, NOT_SHORTEST, PAST_END, TOO_LARGE};
+use crate::bim;
 use crate::bits::{fixed, load64, Code};
-
-/// `most` of an occurs row without a bound.
-pub const UNBOUNDED: u32 = 65_536;
-/// The largest count of an occurs row without a bound.
-pub const MOST_COUNT: u32 = 65_535;
-/// The largest difference of a range that is still coded in a fixed width (001, 8.5.4.2.1).
-pub const MOST_FIXED_SPAN: u32 = 65_535;
 
 /// A number as it was read.
 #[derive(Clone, Copy, Debug, PartialEq, Eq)]
@@ -50,15 +43,15 @@ pub fn read5(payload: &[u8], end: usize, at: usize) -> Result<Reading, u32> {
     let room = end - at;
     let ones = window.leading_ones() as usize;
     if room <= ones.min(7) {
-        return Err(PAST_END);
+        return Err(bim::PAST_END);
     }
     if ones >= 8 {
-        return Err(TOO_LARGE);
+        return Err(bim::TOO_LARGE);
     }
     let groups = ones + 1;
     let bits = 5 * groups;
     if room < bits {
-        return Err(PAST_END);
+        return Err(bim::PAST_END);
     }
     let value = ((window << groups) >> (64 - 4 * groups)) as u32;
     Ok(Reading { value, bits, shortest: groups == 1 || value >> (4 * (groups - 1)) != 0 })
@@ -73,7 +66,7 @@ pub fn read8(payload: &[u8], end: usize, at: usize) -> Result<Reading, u32> {
     }
     let second = fixed(payload, end, at + 8, 8)?;
     if second >= 0x80 {
-        return Err(TOO_LARGE);
+        return Err(bim::TOO_LARGE);
     }
     let high = first & 0x7f;
     Ok(Reading { value: high << 7 | second, bits: 16, shortest: high != 0 })
@@ -83,7 +76,7 @@ pub fn read8(payload: &[u8], end: usize, at: usize) -> Result<Reading, u32> {
 #[inline]
 fn strict(reading: Reading) -> Result<Taken, u32> {
     if !reading.shortest {
-        return Err(NOT_SHORTEST);
+        return Err(bim::NOT_SHORTEST);
     }
     Ok(Taken { value: reading.value, bits: reading.bits })
 }
@@ -123,7 +116,7 @@ pub fn read_choice(choices: u32, payload: &[u8], end: usize, at: usize) -> Resul
     let width = width(u64::from(choices));
     let value = fixed(payload, end, at, width)?;
     if value >= choices {
-        return Err(NAMES_NOTHING);
+        return Err(bim::NO_SUCH_CODE);
     }
     Ok(Taken { value, bits: width as usize })
 }
@@ -144,12 +137,12 @@ fn span(b: i32, c: i32) -> u32 {
 #[inline]
 pub fn read_range(b: i32, c: i32, payload: &[u8], end: usize, at: usize) -> Result<Taken, u32> {
     let span = span(b, c);
-    let taken = if span <= MOST_FIXED_SPAN {
+    let taken = if span <= bim::MOST_FIXED_SPAN {
         read_choice(span + 1, payload, end, at)?
     } else {
         let taken = strict5(payload, end, at)?;
         if taken.value > span {
-            return Err(TOO_LARGE);
+            return Err(bim::TOO_LARGE);
         }
         taken
     };
@@ -165,7 +158,7 @@ pub fn write_range(b: i32, c: i32, word: u32) -> Option<Code> {
     }
     let above = (i64::from(value) - i64::from(b)) as u32;
     let span = span(b, c);
-    if span <= MOST_FIXED_SPAN {
+    if span <= bim::MOST_FIXED_SPAN {
         write_choice(span + 1, above)
     } else {
         Some(write5(above))
@@ -186,10 +179,10 @@ pub fn read_occurs(least: u32, most: u32, payload: &[u8], end: usize, at: usize)
         return Ok(Taken { value: 0, bits: 1 });
     }
     let shunt_bits = usize::from(shunt);
-    let taken = if most == UNBOUNDED {
+    let taken = if most == bim::UNBOUNDED {
         let taken = strict5(payload, end, at + shunt_bits)?;
-        if taken.value > MOST_COUNT - least {
-            return Err(TOO_LARGE);
+        if taken.value > bim::MOST_COUNT - least {
+            return Err(bim::TOO_LARGE);
         }
         taken
     } else {
@@ -197,7 +190,7 @@ pub fn read_occurs(least: u32, most: u32, payload: &[u8], end: usize, at: usize)
     };
     // The shunt bit said "some": a count of 0 behind it names nothing.
     if shunt && taken.value == 0 {
-        return Err(NAMES_NOTHING);
+        return Err(bim::NO_SUCH_CODE);
     }
     Ok(Taken { value: least + taken.value, bits: shunt_bits + taken.bits })
 }
@@ -205,13 +198,14 @@ pub fn read_occurs(least: u32, most: u32, payload: &[u8], end: usize, at: usize)
 /// The code of `count` in an occurs row, where the row has it.
 #[inline]
 pub fn write_occurs(least: u32, most: u32, count: u32) -> Option<Code> {
-    if count < least || count > most.min(MOST_COUNT) {
+    if count < least || count > most.min(bim::MOST_COUNT) {
         return None;
     }
     if has_shunt(least, most) && count == 0 {
         return Some(Code::new(0, 1));
     }
     let shunt = if has_shunt(least, most) { Code::new(1, 1) } else { Code::NONE };
-    let number = if most == UNBOUNDED { write5(count - least) } else { write_choice(most - least + 1, count - least)? };
+    let number =
+        if most == bim::UNBOUNDED { write5(count - least) } else { write_choice(most - least + 1, count - least)? };
     Some(shunt.then(number))
 }

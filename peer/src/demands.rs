@@ -3,49 +3,36 @@
 //! Every call goes through `read` or `write` here: dirty buffers in, and the first demand's shape and the model's
 //! answer checked on what comes out.
 
-use crate::answer::{kind, number, Answer};
-use crate::cases::{Call, Case, Expected};
+use crate::answer::{refusal, Answer, Path};
+use crate::bim;
+use crate::call::{Call, Read, Write, READER, WRITER};
+use crate::cases::Case;
 use crate::model;
-use crate::{reader, table, writer};
+use crate::{reader, table, tally, writer};
 
 /// What the run has met so far.
-#[derive(Clone, Debug, Default, PartialEq, Eq)]
+#[derive(Default)]
 pub struct Tally {
-    /// Reader answers by number, 0 for acceptance.
-    pub read: [u64; 25],
-    /// Writer answers by number, 0 for acceptance.
-    pub written: [u64; 25],
+    /// Answers of reader and writer.
+    pub met: tally::Tally,
     /// Table checks: right, wrong.
     pub tables: [u64; 2],
     /// Accepted readings with a Blank.
     pub blanks: u64,
     /// Accepted readings without one, written back to the same bytes.
     pub identical: u64,
-    /// Demand 3: both accept and something was newly held.
-    pub both: u64,
-    /// Demand 3: the second accepts, the first refuses with 9.
-    pub first_refuses: u64,
-    /// Demand 3: the first accepts, the second refuses inside a Blank.
-    pub second_refuses: u64,
-    /// Demand 3: the first accepts, the second lacks room.
-    pub second_lacks_room: u64,
-    /// Demand 3: neither accepts, or the tables are the same.
-    pub neither: u64,
+    /// What the pairs of tables showed.
+    pub pairs: Pairs,
 }
 
-/// A reader's input.
-#[derive(Clone, Debug)]
-pub struct ReadCall<'a> {
-    /// The table.
-    pub table: &'a [u32],
-    /// Root name and type.
-    pub root: (u32, u32),
-    /// The payload.
-    pub payload: &'a [u8],
-    /// Lent event words.
-    pub event_words: usize,
-    /// Lent text bytes.
-    pub text_room: usize,
+impl Tally {
+    /// Whether reader and writer were met with every number that they can answer; tells those that were not.
+    pub fn is_whole(&self) -> bool {
+        // 24 is the C boundary's.
+        let [reader @ .., _] = &READER;
+        let [writer @ .., _] = &WRITER;
+        self.met.has_met(&[("reader", reader), ("writer", writer)])
+    }
 }
 
 /// A reader's answer with its buffers.
@@ -75,23 +62,6 @@ impl Outcome {
     }
 }
 
-/// A writer's input.
-#[derive(Clone, Debug)]
-pub struct WriteCall<'a> {
-    /// The table.
-    pub table: &'a [u32],
-    /// Root name and type.
-    pub root: (u32, u32),
-    /// The mode asked.
-    pub mode: u32,
-    /// The list's words.
-    pub events: &'a [u32],
-    /// The texts.
-    pub texts: &'a [u8],
-    /// Lent payload bytes.
-    pub room: usize,
-}
-
 /// Passes where `good`, and else tells what was violated.
 fn demand(good: bool, what: impl FnOnce() -> String) -> Result<(), String> {
     if good {
@@ -106,7 +76,7 @@ fn answer_has_its_shape(answer: &Answer) -> bool {
     if answer.is_accepted() {
         answer.place == 0 && answer.path.names().is_empty()
     } else {
-        answer.number < number::AREA && (answer.mode, answer.events, answer.text, answer.bits) == (0, 0, 0, 0)
+        answer.number < bim::AREA_SIZE && (answer.mode, answer.events, answer.text, answer.bits) == (0, 0, 0, 0)
     }
 }
 
@@ -120,12 +90,12 @@ pub fn check_table(tally: &mut Tally, words: &[u32]) -> Result<Option<usize>, St
 }
 
 /// Reads into dirty buffers: demand 1's shape, and demand 2's "exactly the reading" against the model.
-pub fn read(tally: &mut Tally, call: &ReadCall<'_>) -> Result<Outcome, String> {
+pub fn read(tally: &mut Tally, call: &Read) -> Result<Outcome, String> {
     let mut events = vec![0xdddd_dddd; call.event_words];
     let mut texts = vec![0xdd; call.text_room];
     let (name, of_type) = call.root;
-    let answer = reader::read(call.table, name, of_type, call.payload, &mut events, &mut texts);
-    tally.read[answer.number as usize] += 1;
+    let answer = reader::read(&call.table, name, of_type, &call.payload, &mut events, &mut texts);
+    tally.met.count("reader", answer.number);
     demand(answer_has_its_shape(&answer), || format!("demand 1: the answer's shape: {answer:?}"))?;
     // On refusal both counts are 0, so this is "every output buffer all zeros".
     let spare_is_zero =
@@ -133,14 +103,14 @@ pub fn read(tally: &mut Tally, call: &ReadCall<'_>) -> Result<Outcome, String> {
     demand(spare_is_zero, || format!("demand 1: spare output is not 0: {answer:?}"))?;
     let outcome = Outcome { answer, events, texts };
     let room = call.event_words / 4;
-    let expected = model::read(call.table, name, of_type, call.payload, room, call.text_room);
+    let expected = model::read(&call.table, name, of_type, &call.payload, room, call.text_room);
     let got = reading_of(&outcome);
     demand(got == expected, || format!("demand 2: the reader gives {got:?}, the model {expected:?}"))?;
     if answer.is_accepted() {
         let list = outcome.list();
         let sum: usize = list.iter().map(|event| event[3] as usize).sum();
         demand(sum + 8 == answer.bits, || format!("the events' bits and 8 are not the bits used: {answer:?}"))?;
-        if list.iter().any(|event| event[0] == kind::BLANK) {
+        if list.iter().any(|event| event[0] == bim::KIND_BLANK) {
             tally.blanks += 1;
         } else {
             written_back(tally, call, &outcome)?;
@@ -169,11 +139,11 @@ fn reading_of(outcome: &Outcome) -> model::Reading {
 }
 
 /// Demand 2: bytes read without blanks are written back identically.
-fn written_back(tally: &mut Tally, call: &ReadCall<'_>, outcome: &Outcome) -> Result<(), String> {
+fn written_back(tally: &mut Tally, call: &Read, outcome: &Outcome) -> Result<(), String> {
     let events = &outcome.events[..4 * outcome.answer.events];
     let mut payload = vec![0xdd; call.payload.len()];
     let answer =
-        writer::write(call.table, call.root.0, call.root.1, outcome.answer.mode, events, outcome.text(), &mut payload);
+        writer::write(&call.table, call.root.0, call.root.1, outcome.answer.mode, events, outcome.text(), &mut payload);
     demand(answer == outcome.answer, || format!("demand 2: read as {:?}, written back as {answer:?}", outcome.answer))?;
     demand(payload == call.payload, || format!("demand 2: {:02x?} is written back as {payload:02x?}", call.payload))?;
     tally.identical += 1;
@@ -181,17 +151,17 @@ fn written_back(tally: &mut Tally, call: &ReadCall<'_>, outcome: &Outcome) -> Re
 }
 
 /// Writes into a dirty buffer: demand 1's shape, the model's answer, and demand 2's reading back.
-pub fn write(tally: &mut Tally, call: &WriteCall<'_>) -> Result<(Answer, Vec<u8>), String> {
+pub fn write(tally: &mut Tally, call: &Write) -> Result<(Answer, Vec<u8>), String> {
     let mut payload = vec![0xdd; call.room];
     let (name, of_type) = call.root;
-    let answer = writer::write(call.table, name, of_type, call.mode, call.events, call.texts, &mut payload);
-    tally.written[answer.number as usize] += 1;
+    let answer = writer::write(&call.table, name, of_type, call.mode, &call.events, &call.texts, &mut payload);
+    tally.met.count("writer", answer.number);
     demand(answer_has_its_shape(&answer) && answer.path.names().is_empty(), || {
         format!("demand 1: the answer's shape: {answer:?}")
     })?;
     let bytes = answer.bits.div_ceil(8);
     demand(payload[bytes..].iter().all(|&byte| byte == 0), || format!("demand 1: spare payload is not 0: {answer:?}"))?;
-    let expected = model::write(call.table, name, of_type, call.mode, call.events, call.texts, call.room);
+    let expected = model::write(&call.table, name, of_type, call.mode, &call.events, &call.texts, call.room);
     let got = if answer.is_accepted() {
         Ok((payload[..bytes].to_vec(), answer.bits))
     } else {
@@ -205,10 +175,10 @@ pub fn write(tally: &mut Tally, call: &WriteCall<'_>) -> Result<(Answer, Vec<u8>
 }
 
 /// Demand 2: what was written reads back, given room, as that list with true bit counts.
-fn read_back(call: &WriteCall<'_>, answer: &Answer, payload: &[u8]) -> Result<(), String> {
+fn read_back(call: &Write, answer: &Answer, payload: &[u8]) -> Result<(), String> {
     let mut events = vec![0xdddd_dddd; call.events.len()];
     let mut texts = vec![0xdd; call.texts.len()];
-    let back = reader::read(call.table, call.root.0, call.root.1, payload, &mut events, &mut texts);
+    let back = reader::read(&call.table, call.root.0, call.root.1, payload, &mut events, &mut texts);
     demand(back == *answer, || format!("demand 2: written as {answer:?}, read back as {back:?}"))?;
     let same_words =
         events.chunks_exact(4).zip(call.events.chunks_exact(4)).all(|(read, given)| read[..3] == given[..3]);
@@ -271,7 +241,7 @@ impl SpanWalk<'_> {
 
     fn value(&mut self, of_type: usize) {
         let word = self.take()[1];
-        if self.table.type_row(of_type).a == crate::value::TEXT {
+        if self.table.type_row(of_type).a == bim::TEXT {
             self.text += word as usize;
         }
     }
@@ -287,11 +257,11 @@ impl SpanWalk<'_> {
             bits: 0,
             name,
             of_type,
-            has_length: head[0] == kind::BLANK || head[2] == 1,
+            has_length: head[0] == bim::KIND_BLANK || head[2] == 1,
             path: self.path.clone(),
             text: (text, 0),
         });
-        if head[0] == kind::START {
+        if head[0] == bim::KIND_START {
             self.path.push(name as u16);
             let row = self.table.type_row(of_type);
             for attribute in row.first_attribute..row.first_attribute + row.attributes {
@@ -300,8 +270,8 @@ impl SpanWalk<'_> {
                 }
             }
             match row.content {
-                table::content::EMPTY => {}
-                table::content::SIMPLE => self.value(of_type),
+                bim::EMPTY => {}
+                bim::SIMPLE => self.value(of_type),
                 _ => self.particle(row.a as usize),
             }
             self.take();
@@ -346,20 +316,46 @@ pub enum Pair {
     Neither,
 }
 
+/// How often the pairs of tables showed what.
+#[derive(Default)]
+pub struct Pairs([u64; 5]);
+
+impl Pairs {
+    /// Counts a pair.
+    pub fn count(&mut self, pair: Pair) {
+        self.0[pair as usize] += 1;
+    }
+
+    /// How many there were.
+    pub fn all(&self) -> u64 {
+        self.0.iter().sum()
+    }
+
+    /// Whether every part of the demand was tried; tells where one was not.
+    pub fn are_whole(&self) -> bool {
+        if self.0.contains(&0) {
+            println!("NEVER MET: a part of demand 3");
+        }
+        !self.0.contains(&0)
+    }
+}
+
+impl std::fmt::Display for Pairs {
+    fn fmt(&self, f: &mut std::fmt::Formatter<'_>) -> std::fmt::Result {
+        let [both, first, second, room, neither] = self.0;
+        write!(f, "blanked {both}, first refuses 9 {first}, second refuses in a Blank {second}, ")?;
+        write!(f, "second lacks room {room}, else {neither}")
+    }
+}
+
 /// Demand 3, for one payload, root and room under two valid tables alike but for held marks, where the second holds
 /// all that the first holds.
-pub fn two_tables(tally: &mut Tally, first_table: &[u32], second_call: &ReadCall<'_>) -> Result<(), String> {
-    let first_call = ReadCall { table: first_table, ..second_call.clone() };
+pub fn two_tables(tally: &mut Tally, first_table: &[u32], second_call: &Read) -> Result<(), String> {
+    let first_call = Read { table: first_table.to_vec(), ..second_call.clone() };
     let first = read(tally, &first_call)?;
     let second = read(tally, second_call)?;
-    let count = match judge_pair(first_table, second_call.table, second_call.root, &first, &second)? {
-        Pair::Blanked => &mut tally.both,
-        Pair::FirstRefuses => &mut tally.first_refuses,
-        Pair::SecondRefuses => &mut tally.second_refuses,
-        Pair::SecondLacksRoom => &mut tally.second_lacks_room,
-        Pair::Neither => &mut tally.neither,
-    };
-    *count += 1;
+    let pair = judge_pair(first_table, &second_call.table, second_call.root, &first, &second)?;
+    tally.pairs.count(pair);
     Ok(())
 }
 
@@ -371,7 +367,7 @@ pub fn judge_pair(
     first: &Outcome,
     second: &Outcome,
 ) -> Result<Pair, String> {
-    let held = |words: &[u32], of_type: usize| words[table::HEADER + table::TYPE_ROW * of_type] == 1;
+    let held = |words: &[u32], of_type: usize| words[bim::HEADER + bim::TYPE_ROW * of_type] == 1;
     match (first.answer.is_accepted(), second.answer.is_accepted()) {
         (_, true) => {
             let all = spans(second_table, root, &second.list());
@@ -386,7 +382,7 @@ pub fn judge_pair(
             let bare = outermost.iter().find(|span| !span.has_length);
             let expected = match bare {
                 Some(span) => {
-                    model::Reading::Refused { number: number::NOT_HELD, place: span.place, path: span.path.clone() }
+                    model::Reading::Refused { number: bim::NOT_HELD, place: span.place, path: span.path.clone() }
                 }
                 None => with_blanks(second, &outermost),
             };
@@ -413,7 +409,7 @@ pub fn judge_pair(
             if inside {
                 return Ok(Pair::SecondRefuses);
             }
-            demand([number::EVENT_ROOM, number::TEXT_ROOM].contains(&refused.number), || {
+            demand([bim::EVENT_ROOM, bim::TEXT_ROOM].contains(&refused.number), || {
                 format!("demand 3: the second refuses outside of every Blank: {refused:?}")
             })?;
             Ok(Pair::SecondLacksRoom)
@@ -430,7 +426,7 @@ fn with_blanks(second: &Outcome, elements: &[&Span]) -> model::Reading {
     let (mut next, mut text) = (0, 0);
     for span in elements {
         events.extend_from_slice(&list[next..span.first]);
-        events.push([kind::BLANK, span.name, span.of_type as u32, span.bits as u32]);
+        events.push([bim::KIND_BLANK, span.name, span.of_type as u32, span.bits as u32]);
         next = span.last + 1;
         texts.extend_from_slice(&second.text()[text..span.text.0]);
         text = span.text.0 + span.text.1;
@@ -443,28 +439,12 @@ fn with_blanks(second: &Outcome, elements: &[&Span]) -> model::Reading {
 /// A named case gives the answer worked out by hand.
 pub fn named(tally: &mut Tally, case: &Case) -> Result<(), String> {
     let answer = match &case.call {
-        Call::Table { table } => {
-            let fault = check_table(tally, table)?;
-            match fault {
-                None => Answer::accepted(0, 0, 0, 0),
-                Some(word) => {
-                    Answer::refused(crate::answer::refusal(number::TABLE, word), crate::answer::Path::empty())
-                }
-            }
-        }
-        Call::Read { table, root, payload, event_words, text_room } => {
-            let call = ReadCall { table, root: *root, payload, event_words: *event_words, text_room: *text_room };
-            read(tally, &call)?.answer
-        }
-        Call::Write { table, root, mode, events, texts, room } => {
-            let call = WriteCall { table, root: *root, mode: *mode, events, texts, room: *room };
-            write(tally, &call)?.0
-        }
+        Call::Table(table) => match check_table(tally, table)? {
+            None => Answer::accepted(0, 0, 0, 0),
+            Some(word) => Answer::refused(refusal(bim::TABLE, word), Path::empty()),
+        },
+        Call::Read(call) => read(tally, call)?.answer,
+        Call::Write(call) => write(tally, call)?.0,
     };
-    let got = if answer.is_accepted() {
-        Expected::Accepted(answer.mode, answer.events, answer.text, answer.bits)
-    } else {
-        Expected::Refused(answer.number, answer.place, answer.path.names().to_vec())
-    };
-    demand(got == case.expected, || format!("\"{}\" gives {got:?}, and should {:?}", case.name, case.expected))
+    demand(answer == case.answer, || format!("\"{}\" gives {answer:?}, and should {:?}", case.name, case.answer))
 }

@@ -3,64 +3,44 @@
 //! A sample's payload is made here from bits of the model, not by the writer, so that the two can be compared; and it
 //! may carry quirks that no writer of ours makes: codes not shortest, codes that name nothing, wrong lengths.
 
+use crate::bim;
+use crate::call::{Read, Write};
 use crate::model::{bits5, bits_of, bytes_of, count_bits, groups, value_bits, width};
 use crate::rng::Rng;
-use crate::table::{content, Particle, Table, HEADER, TYPE_ROW};
-use crate::value;
+use crate::rows::{choice, complex, element, occurs, sequence, simple, Rows, NOTHING};
+use crate::table::{Particle, Table};
 
 /// The costs from here on are as good as endless.
 const ENDLESS: u64 = 3000;
 
 /// Occurs rows worth trying, both sides of every case of the code among them.
+#[rustfmt::skip]
 const BOUNDS: [(u32, u32); 16] = [
-    (0, 1),
-    (0, 1),
-    (1, 1),
-    (0, 2),
-    (0, 3),
-    (1, 3),
-    (2, 2),
-    (2, 6),
-    (0, 7),
-    (0, 8),
-    (0, 65_535),
-    (0, 65_536),
-    (0, 65_536),
-    (1, 65_536),
-    (3, 65_536),
-    (65_535, 65_536),
+    (0, 1), (0, 1), (1, 1), (0, 2), (0, 3), (1, 3), (2, 2), (2, 6), (0, 7), (0, 8), (0, bim::MOST_COUNT),
+    (0, bim::UNBOUNDED), (0, bim::UNBOUNDED), (1, bim::UNBOUNDED), (3, bim::UNBOUNDED), (bim::MOST_COUNT, bim::UNBOUNDED),
+];
+
+/// Particle rows, the common ones more often.
+const KINDS: [u32; 7] =
+    [bim::ELEMENT, bim::ELEMENT, bim::SEQUENCE, bim::SEQUENCE, bim::CHOICE, bim::OCCURS, bim::OCCURS];
+
+/// Simple kinds, those with parameters or texts more often.
+const SIMPLE_KINDS: [u32; 9] = [
+    bim::BOOLEAN,
+    bim::RANGED,
+    bim::RANGED,
+    bim::UNSIGNED,
+    bim::SIGNED,
+    bim::ENUMERATION,
+    bim::TEXT,
+    bim::TEXT,
+    bim::FLOAT,
 ];
 
 /// Words that lie at some limit.
 const EDGES: [u32; 28] = [
-    0,
-    1,
-    2,
-    3,
-    4,
-    5,
-    6,
-    7,
-    8,
-    15,
-    16,
-    63,
-    64,
-    65,
-    256,
-    257,
-    1024,
-    1025,
-    4095,
-    4096,
-    65_535,
-    65_536,
-    65_537,
-    1 << 28,
-    (1 << 31) - 1,
-    1 << 31,
-    u32::MAX - 1,
-    u32::MAX,
+    0, 1, 2, 3, 4, 5, 6, 7, 8, 15, 16, 63, 64, 65, 256, 257, 1024, 1025, 4095, 4096, 65_535, 65_536, 65_537,
+    0x1000_0000, 0x7fff_ffff, 0x8000_0000, 0xffff_fffe, 0xffff_ffff,
 ];
 
 /// A word that is often at a limit.
@@ -75,10 +55,10 @@ pub fn edge_word(rng: &mut Rng) -> u32 {
 /// Parameters b and c of a simple kind.
 fn parameters(rng: &mut Rng, kind: u32) -> (u32, u32) {
     match kind {
-        value::RANGED => {
+        bim::RANGED => {
             let b = edge_word(rng) as i32;
             let span = match rng.below(6) {
-                0 => rng.pick(&[65_534, 65_535, 65_536, 65_537]),
+                0 => bim::MOST_FIXED_SPAN - 1 + rng.below(4) as u32,
                 1 => rng.word() >> 1,
                 2 => 0,
                 _ => rng.below(300) as u32,
@@ -86,8 +66,8 @@ fn parameters(rng: &mut Rng, kind: u32) -> (u32, u32) {
             let c = b.saturating_add_unsigned(span);
             (b as u32, c as u32)
         }
-        value::ENUMERATION => match rng.below(8) {
-            0 => (rng.pick(&[1, 65_535, 65_536]), 0),
+        bim::ENUMERATION => match rng.below(8) {
+            0 => (rng.pick(&[1, bim::MOST_ENUMERATION - 1, bim::MOST_ENUMERATION]), 0),
             _ => (rng.within(1, 40) as u32, 0),
         },
         _ => (0, 0),
@@ -101,23 +81,23 @@ pub fn table(rng: &mut Rng) -> Vec<u32> {
     let mut rows = vec![];
     for _ in 0..types {
         let content = match rng.below(10) {
-            0 => content::EMPTY,
-            1..=4 if particles > 0 => content::PARTICLES,
-            _ => content::SIMPLE,
+            0 => bim::EMPTY,
+            1..=4 if particles > 0 => bim::PARTICLES,
+            _ => bim::SIMPLE,
         };
         let mut row = [1, content, 0, 0, 0, 0, 0];
-        if content == content::PARTICLES {
+        if content == bim::PARTICLES {
             row[4] = rng.below(particles) as u32;
         }
-        if content == content::SIMPLE {
-            let kind = rng.pick(&[0, 1, 1, 2, 3, 4, 5, 5, 6]);
+        if content == bim::SIMPLE {
+            let kind = rng.pick(&SIMPLE_KINDS);
             let (b, c) = parameters(rng, kind);
             row[4..].copy_from_slice(&[kind, b, c]);
         }
         rows.push(row);
     }
     // Attributes need simple types without attributes; the first simple type stays so.
-    let plain = rows.iter().position(|row| row[1] == content::SIMPLE);
+    let plain = rows.iter().position(|row| row[1] == bim::SIMPLE);
     let attributes = if plain.is_some() && !rng.one_in(3) { rng.within(1, 6) } else { 0 };
     for (index, row) in rows.iter_mut().enumerate() {
         if Some(index) != plain && rng.one_in(2) {
@@ -128,21 +108,15 @@ pub fn table(rng: &mut Rng) -> Vec<u32> {
             row[2] = rng.within(0, attributes) as u32;
         }
     }
-    let simple: Vec<_> = (0..types).filter(|&index| rows[index][1] == content::SIMPLE && rows[index][3] == 0).collect();
-    let mut words = vec![1, types as u32, attributes as u32, particles as u32];
-    words.extend(rows.concat());
-    for _ in 0..attributes {
-        words.extend([name(rng), u32::from(rng.one_in(2)), rng.pick(&simple) as u32]);
-    }
-    for row in 0..particles {
-        words.extend(particle(rng, row, particles, types));
-    }
-    words
+    let simple: Vec<_> = (0..types).filter(|&index| rows[index][1] == bim::SIMPLE && rows[index][3] == 0).collect();
+    let attributes = (0..attributes).map(|_| [name(rng), u32::from(rng.one_in(2)), rng.pick(&simple) as u32]).collect();
+    let particles = (0..particles).map(|row| particle(rng, row, particles, types)).collect();
+    Rows { types: rows, attributes, particles }.words()
 }
 
 fn name(rng: &mut Rng) -> u32 {
     match rng.below(8) {
-        0 => 65_535,
+        0 => bim::MOST_NAME,
         _ => rng.below(30) as u32,
     }
 }
@@ -151,18 +125,18 @@ fn name(rng: &mut Rng) -> u32 {
 fn particle(rng: &mut Rng, row: usize, rows: usize, types: usize) -> [u32; 4] {
     let after = rows - row - 1;
     let kind = match after {
-        0 => 0,
-        1 => rng.pick(&[0, 1, 3]),
-        _ => rng.pick(&[0, 0, 1, 1, 2, 3, 3]),
+        0 => bim::ELEMENT,
+        1 => rng.pick(&[bim::ELEMENT, bim::SEQUENCE, bim::OCCURS]),
+        _ => rng.pick(&KINDS),
     };
-    if kind == 0 {
-        return [0, name(rng), rng.below(types) as u32, 0];
+    if kind == bim::ELEMENT {
+        return element(name(rng), rng.below(types) as u32);
     }
-    let least = if kind == 2 { 2 } else { 1 };
+    let least = if kind == bim::CHOICE { 2 } else { 1 };
     let first = row + 1 + rng.below((after - least + 1).min(3));
-    if kind == 3 {
+    if kind == bim::OCCURS {
         let (least, most) = rng.pick(&BOUNDS);
-        return [3, first as u32, least, most];
+        return occurs(first as u32, least, most);
     }
     let number = rng.within(least, (rows - first).min(5));
     [kind, first as u32, number as u32, 0]
@@ -177,7 +151,7 @@ pub fn damage_table(rng: &mut Rng, words: &mut Vec<u32>) {
         }
         1 => words.extend((0..rng.within(1, 9)).map(|_| 0)),
         2 => {
-            let at = rng.below(words.len().min(HEADER));
+            let at = rng.below(words.len().min(bim::HEADER));
             words[at] = edge_word(rng);
         }
         _ => {
@@ -197,7 +171,7 @@ pub fn let_go(rng: &mut Rng, words: &[u32], times: usize) -> Vec<u32> {
     let mut words = words.to_vec();
     for of_type in 0..words[1] as usize {
         if rng.one_in(times) {
-            words[HEADER + TYPE_ROW * of_type] = 0;
+            words[bim::HEADER + bim::TYPE_ROW * of_type] = 0;
         }
     }
     words
@@ -229,8 +203,8 @@ impl Costs {
                     .map(|index| 1 + u64::from(table.attribute_row(index).required))
                     .sum();
                 let inner = match row.content {
-                    content::EMPTY => 0,
-                    content::SIMPLE => 1,
+                    bim::EMPTY => 0,
+                    bim::SIMPLE => 1,
                     _ => costs.rows[row.a as usize],
                 };
                 costs.types[of_type] = (2 + attributes + inner).min(ENDLESS);
@@ -261,8 +235,6 @@ pub struct Sample {
     pub texts: Vec<u8>,
     /// The payload's bits, the mode byte included.
     pub bits: Vec<bool>,
-    /// Whether some code is not the one a writer makes.
-    pub quirky: bool,
 }
 
 impl Sample {
@@ -270,33 +242,57 @@ impl Sample {
     pub fn payload(&self) -> Vec<u8> {
         bytes_of(&self.bits)
     }
+
+    /// Its reading, with so much room.
+    pub fn reading(&self, table: &[u32], event_words: usize, text_room: usize) -> Read {
+        Read { table: table.to_vec(), root: self.root, payload: self.payload(), event_words, text_room }
+    }
+
+    /// Its writing, with so much room over what its payload takes.
+    pub fn writing(&self, table: &[u32], over: usize) -> Write {
+        Write {
+            table: table.to_vec(),
+            root: self.root,
+            mode: self.mode,
+            events: self.events.concat(),
+            texts: self.texts.clone(),
+            room: self.bits.len().div_ceil(8) + over,
+        }
+    }
 }
 
 /// A right table whose root, type 0, nests about as many rows as may be open, of every kind that nests.
 pub fn deep_table(rng: &mut Rng) -> Vec<u32> {
     let depth = rng.within(58, 70);
-    let plain = rng.pick(&[[1, 0, 0, 0, 0, 0, 0], [1, 1, 0, 0, 0, 0, 0]]);
-    let mut types = vec![[1, 2, 0, 0, 0, 0, 0], plain];
-    let mut rows = vec![];
+    let plain = rng.pick(&[NOTHING, simple(bim::BOOLEAN, 0, 0)]);
+    let mut rows = Rows { types: vec![complex(0, 0, 0), plain], ..Rows::default() };
     for row in 0..depth as u32 {
         let next = row + 1;
-        rows.push(match rng.below(6) {
-            0 => [1, next, 1, 0],
-            1 => [2, next, 2, 0],
-            2 => [3, next, 1, 1],
-            3 => [3, next, rng.below(2) as u32, rng.pick(&[1, 2, 65_536])],
+        let particle = match rng.below(6) {
+            0 => sequence(next, 1),
+            1 => choice(next, 2),
+            2 => occurs(next, 1, 1),
+            3 => occurs(next, rng.below(2) as u32, rng.pick(&[1, 2, bim::UNBOUNDED])),
             _ => {
-                types.push([1, 2, 0, 0, next, 0, 0]);
-                [0, name(rng), types.len() as u32 - 1, 0]
+                rows.types.push(complex(0, 0, next));
+                element(name(rng), rows.types.len() as u32 - 1)
             }
-        });
+        };
+        rows.particles.push(particle);
     }
     // Two elements end the chain, since its last row may be a choice.
-    rows.extend([[0, 2, 1, 0], [0, 3, 1, 0]]);
-    let mut words = vec![1, types.len() as u32, 0, rows.len() as u32];
-    words.extend(types.concat());
-    words.extend(rows.concat());
-    words
+    rows.particles.extend([element(2, 1), element(3, 1)]);
+    rows.words()
+}
+
+/// A table that has lists, and a sample of them.
+pub fn table_and_sample(rng: &mut Rng, quirk: usize) -> (Vec<u32>, Sample) {
+    loop {
+        let table = table(rng);
+        if let Some(sample) = sample(rng, &table, quirk) {
+            return (table, sample);
+        }
+    }
 }
 
 /// A sample under a deep table, which may open more rows than are allowed.
@@ -324,11 +320,11 @@ fn sample_of(rng: &mut Rng, words: &[u32], root: (u32, u32), quirk: usize, open:
     let costs = Costs::of(&table);
     let mode = rng.below(3) as u32;
     let budget = if rng.one_in(20) { 400 } else { rng.within(0, 60) as u64 };
-    let mut maker = Maker { table, costs, rng, mode, budget, quirk, quirky: false, events: vec![], texts: vec![] };
+    let mut maker = Maker { table, costs, rng, mode, budget, quirk, events: vec![], texts: vec![] };
     let body = maker.element(root.0, root.1 as usize, open)?;
-    let mut bits = bits_of(u64::from(mode) << 6 | 0x0f, 8);
+    let mut bits = bits_of(bim::MODE_BYTES[mode as usize].into(), 8);
     bits.extend(body);
-    Some(Sample { root, mode, events: maker.events, texts: maker.texts, bits, quirky: maker.quirky })
+    Some(Sample { root, mode, events: maker.events, texts: maker.texts, bits })
 }
 
 struct Maker<'a> {
@@ -339,7 +335,6 @@ struct Maker<'a> {
     /// Events that may be spent beyond the cheapest list.
     budget: u64,
     quirk: usize,
-    quirky: bool,
     events: Vec<[u32; 4]>,
     texts: Vec<u8>,
 }
@@ -347,9 +342,7 @@ struct Maker<'a> {
 impl Maker<'_> {
     /// Whether the code at hand shall be odd.
     fn odd(&mut self) -> bool {
-        let odd = self.quirk > 0 && self.rng.one_in(self.quirk);
-        self.quirky |= odd;
-        odd
+        self.quirk > 0 && self.rng.one_in(self.quirk)
     }
 
     /// vluimsbf5 of `value`, at times too long or too large.
@@ -374,28 +367,28 @@ impl Maker<'_> {
     fn element(&mut self, name: u32, of_type: usize, open: usize) -> Option<Vec<bool>> {
         let open = open.checked_sub(1)?;
         let index = self.events.len();
-        let has_length = self.mode == 2 || (self.mode == 1 && !self.rng.one_in(3));
-        self.events.push([1, name, u32::from(has_length), 0]);
+        let has_length = self.mode == bim::MODE_ALWAYS || (self.mode == bim::MODE_OPTIONAL && !self.rng.one_in(3));
+        self.events.push([bim::KIND_START, name, u32::from(has_length), 0]);
         let row = self.table.type_row(of_type);
         let mut body = vec![];
         for attribute in row.first_attribute..row.first_attribute + row.attributes {
             let attribute = self.table.attribute_row(attribute);
             let present = attribute.required || self.rng.one_in(2);
             let flag = if attribute.required { vec![] } else { vec![present] };
-            self.push(2, attribute.name, u32::from(present), &flag);
+            self.push(bim::KIND_ATTRIBUTE, attribute.name, u32::from(present), &flag);
             body.extend(flag);
             if present {
                 body.extend(self.value(attribute.of_type));
             }
         }
         match row.content {
-            content::EMPTY => {}
-            content::SIMPLE => body.extend(self.value(of_type)),
+            bim::EMPTY => {}
+            bim::SIMPLE => body.extend(self.value(of_type)),
             _ => body.extend(self.particle(row.a as usize, open)?),
         }
-        self.events.push([6, 0, 0, 0]);
+        self.events.push([bim::KIND_END, 0, 0, 0]);
         let mut head = vec![];
-        if self.mode == 1 {
+        if self.mode == bim::MODE_OPTIONAL {
             head.push(has_length);
         }
         if has_length {
@@ -415,12 +408,12 @@ impl Maker<'_> {
     fn value(&mut self, of_type: usize) -> Vec<bool> {
         let row = self.table.type_row(of_type);
         let (b, c) = (i64::from(row.b), i64::from(row.c));
-        if row.a == value::TEXT {
+        if row.a == bim::TEXT {
             return self.text();
         }
         let word = match row.a {
-            value::BOOLEAN => self.rng.below(2) as u32,
-            value::RANGED => {
+            bim::BOOLEAN => self.rng.below(2) as u32,
+            bim::RANGED => {
                 let (low, high) = (i64::from(row.b as i32), i64::from(row.c as i32));
                 let value = match self.rng.below(4) {
                     0 => low,
@@ -429,7 +422,7 @@ impl Maker<'_> {
                 };
                 value as i32 as u32
             }
-            value::ENUMERATION => match self.rng.below(3) {
+            bim::ENUMERATION => match self.rng.below(3) {
                 0 => row.b - 1,
                 _ => self.rng.below(row.b as usize) as u32,
             },
@@ -438,15 +431,15 @@ impl Maker<'_> {
         let mut bits = value_bits(row.a.into(), b, c, word).unwrap_or_default();
         if self.odd() {
             bits = match row.a {
-                value::UNSIGNED => self.number(word.into()),
-                value::SIGNED => {
+                bim::UNSIGNED => self.number(word.into()),
+                bim::SIGNED => {
                     // Minus zero, magnitudes past their limits, and codes that are not shortest.
                     let magnitude = self.rng.pick(&[0, 0, 1, 1 << 31, (1 << 31) + 1]);
                     let mut bits = vec![self.rng.one_in(2)];
                     bits.extend(self.number(magnitude));
                     bits
                 }
-                value::RANGED if bits.len() != width(i64::from(row.c as i32) - i64::from(row.b as i32) + 1) => {
+                bim::RANGED if bits.len() != width(i64::from(row.c as i32) - i64::from(row.b as i32) + 1) => {
                     let above = edge_word(self.rng);
                     self.number(above.into())
                 }
@@ -454,7 +447,7 @@ impl Maker<'_> {
                 _ => vec![true; bits.len()],
             };
         }
-        self.push(3, word, 0, &bits);
+        self.push(bim::KIND_VALUE, word, 0, &bits);
         bits
     }
 
@@ -477,7 +470,7 @@ impl Maker<'_> {
         for &byte in &bytes {
             bits.extend(bits_of(byte.into(), 8));
         }
-        self.push(3, bytes.len() as u32, 0, &bits);
+        self.push(bim::KIND_VALUE, bytes.len() as u32, 0, &bits);
         self.texts.extend(bytes);
         bits
     }
@@ -503,7 +496,7 @@ impl Maker<'_> {
                 if self.odd() {
                     bits = vec![true; bits.len()];
                 }
-                self.push(4, branch as u32, 0, &bits);
+                self.push(bim::KIND_PICK, branch as u32, 0, &bits);
                 bits.extend(self.particle(first + branch, open)?);
                 Some(bits)
             }
@@ -512,14 +505,14 @@ impl Maker<'_> {
                 let cost = self.costs.rows[child];
                 let mut count = least;
                 let wished = self.rng.below(5);
-                while count < most.min(65_535) && count < least + wished as u32 && self.spend(cost) {
+                while count < most.min(bim::MOST_COUNT) && count < least + wished as u32 && self.spend(cost) {
                     count += 1;
                 }
                 let mut bits = count_bits(least.into(), most.into(), count).unwrap_or_default();
                 if self.odd() {
                     bits = self.odd_count(least, most, count, bits);
                 }
-                self.push(5, count, 0, &bits);
+                self.push(bim::KIND_TIMES, count, 0, &bits);
                 for _ in 0..count {
                     bits.extend(self.particle(child, open)?);
                 }
@@ -530,13 +523,13 @@ impl Maker<'_> {
 
     /// A count's code that names nothing, is not shortest or is too large.
     fn odd_count(&mut self, least: u32, most: u32, count: u32, bits: Vec<bool>) -> Vec<bool> {
-        if most != 65_536 {
+        if most != bim::UNBOUNDED {
             let fill = self.rng.one_in(2);
             return bits.iter().enumerate().map(|(at, _)| fill || at == 0).collect();
         }
         let shunt = least == 0;
         let mut odd = if shunt { vec![true] } else { vec![] };
-        let above = self.rng.pick(&[0, count - least, 65_535 - least, 65_536 - least]);
+        let above = self.rng.pick(&[0, count - least, bim::MOST_COUNT - least, bim::MOST_COUNT + 1 - least]);
         odd.extend(self.number(above.into()));
         odd
     }
@@ -609,7 +602,7 @@ pub fn damage_list(rng: &mut Rng, events: &mut Vec<[u32; 4]>, texts: &mut Vec<u8
         1 => events.insert(at, events[at]),
         2 => events.truncate(at),
         3 => events.push([rng.below(9) as u32, 0, 0, 0]),
-        4 => events[at][0] = 7,
+        4 => events[at][0] = bim::KIND_BLANK,
         5 => {
             let other = rng.below(events.len());
             events.swap(at, other);

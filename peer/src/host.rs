@@ -2,23 +2,21 @@
 //!
 //! The area is place, mode, events, text, bits, path count (six words), then 64 names of 2 bytes.
 
-use crate::answer::number::AREA;
-use crate::answer::{number, refusal, Answer, Path, Refusal, MOST_EVENTS};
+use crate::answer::{refusal, Answer, Path, Refusal};
+use crate::bim;
 use crate::reader;
 use crate::table;
+use crate::words::words_of;
 use crate::writer;
-
-/// The bytes of an answer area.
-pub const AREA_BYTES: usize = 152;
 
 /// Judges a table.
 pub fn check_table(table: &[u8], area: &mut [u8]) -> u32 {
-    if area.len() != AREA_BYTES {
+    if area.len() != bim::AREA {
         area.fill(0);
-        return AREA;
+        return bim::AREA_SIZE;
     }
     let answer =
-        match table_words(table).and_then(|words| table::check(&words).map_err(|word| refusal(number::TABLE, word))) {
+        match table_words(table).and_then(|words| table::check(&words).map_err(|word| refusal(bim::TABLE, word))) {
             Ok(()) => Answer::accepted(0, 0, 0, 0),
             Err(refusal) => Answer::refused(refusal, Path::empty()),
         };
@@ -35,13 +33,13 @@ pub fn read(
     texts: &mut [u8],
     area: &mut [u8],
 ) -> u32 {
-    if area.len() != AREA_BYTES {
+    if area.len() != bim::AREA {
         area.fill(0);
         events.fill(0);
         texts.fill(0);
-        return AREA;
+        return bim::AREA_SIZE;
     }
-    let mut words = vec![0; 4 * (events.len() / 16).min(MOST_EVENTS)];
+    let mut words = vec![0; bim::EVENT_WORDS * (events.len() / bim::EVENT).min(bim::MOST_EVENTS)];
     let answer = match table_words(table) {
         Ok(table) => reader::read(&table, root_name, root_type, payload, &mut words, texts),
         Err(refusal) => {
@@ -68,14 +66,14 @@ pub fn write(
     payload: &mut [u8],
     area: &mut [u8],
 ) -> u32 {
-    if area.len() != AREA_BYTES {
+    if area.len() != bim::AREA {
         area.fill(0);
         payload.fill(0);
-        return AREA;
+        return bim::AREA_SIZE;
     }
     let answer = match table_words(table) {
         Ok(table) => {
-            if writer::check_shape(events.len(), 16).is_err() {
+            if writer::check_shape(events.len(), bim::EVENT).is_err() {
                 writer::refuse_shape(&table, root_name, root_type, mode, events.len(), payload)
             } else {
                 let words = words_of(events);
@@ -90,23 +88,18 @@ pub fn write(
     fill_area(&answer, area)
 }
 
-/// The whole words among `bytes`.
-fn words_of(bytes: &[u8]) -> Vec<u32> {
-    bytes.chunks_exact(4).map(|word| u32::from_be_bytes([word[0], word[1], word[2], word[3]])).collect()
-}
-
 /// A table's words. Bytes over a whole word, or too many, make the length wrong; the header stands before that.
 fn table_words(bytes: &[u8]) -> Result<Vec<u32>, Refusal> {
     let whole = bytes.len() / 4;
-    if bytes.len().is_multiple_of(4) && whole <= table::MOST_WORDS {
+    if bytes.len().is_multiple_of(4) && whole <= bim::MOST_WORDS {
         return Ok(words_of(bytes));
     }
-    let header = words_of(&bytes[..4 * whole.min(table::HEADER)]);
+    let header = words_of(&bytes[..4 * whole.min(bim::HEADER)]);
     let word = match table::check_header(&header) {
         Ok(()) => whole,
         Err(word) => word,
     };
-    Err(refusal(number::TABLE, word))
+    Err(refusal(bim::TABLE, word))
 }
 
 /// Places stop at 2^32 - 1.

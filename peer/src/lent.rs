@@ -1,12 +1,9 @@
 //! The lent bit reader at the C boundary, byte for byte: one code of bytes from a place on; the answer is a number and an
 //! area of three words, value, place and bits left.
 
-use crate::answer::number::{ACCEPTED, AREA, PAST_END, TOO_LARGE};
+use crate::bim;
 use crate::bits::fixed;
 use crate::codes::{strict5, strict8, Taken};
-
-/// The bytes of the area.
-pub const AREA_BYTES: usize = 12;
 
 /// How a number is coded.
 #[derive(Clone, Copy, Debug, PartialEq, Eq)]
@@ -31,12 +28,12 @@ pub fn left(bytes: &[u8], place: u32) -> u32 {
 
 /// Reads the code at `place`; a refused one leaves the place where it is.
 pub fn read(bytes: &[u8], place: u32, coding: Coding, area: &mut [u8]) -> u32 {
-    if area.len() != AREA_BYTES {
+    if area.len() != bim::BITS_AREA {
         area.fill(0);
-        return AREA;
+        return bim::AREA_SIZE;
     }
     let (number, value, next) = match code(bytes, place as usize, coding) {
-        Ok(taken) => (ACCEPTED, taken.value, place + taken.bits as u32),
+        Ok(taken) => (bim::ACCEPTED, taken.value, place + taken.bits as u32),
         Err(number) => (number, 0, place),
     };
     for (target, word) in area.chunks_exact_mut(4).zip([value, next, left(bytes, next)]) {
@@ -49,8 +46,8 @@ fn code(bytes: &[u8], at: usize, coding: Coding) -> Result<Taken, u32> {
     let end = wall(bytes);
     match coding {
         // No word holds it, wherever it stands.
-        Coding::Fixed(width) if width > 32 => Err(TOO_LARGE),
-        _ if at > end => Err(PAST_END),
+        Coding::Fixed(width) if width > 32 => Err(bim::TOO_LARGE),
+        _ if at > end => Err(bim::PAST_END),
         Coding::Fixed(width) => fixed(bytes, end, at, width).map(|value| Taken { value, bits: width as usize }),
         Coding::Five => strict5(bytes, end, at),
         Coding::Eight => strict8(bytes, end, at),

@@ -5,7 +5,9 @@
 #![warn(missing_docs)]
 
 pub mod answer;
+pub mod bim;
 pub mod bits;
+pub mod call;
 pub mod calls;
 pub mod cases;
 pub mod code_cases;
@@ -15,15 +17,20 @@ pub mod gen;
 pub mod guide;
 pub mod host;
 pub mod lent;
+pub mod list;
 pub mod listing;
 pub mod model;
+pub mod program;
 pub mod reader;
 pub mod rng;
+pub mod rows;
 pub mod speed;
 pub mod swift;
 pub mod table;
+pub mod tally;
 pub mod trials;
 pub mod utf8;
 pub mod value;
 pub mod vectors;
+pub mod words;
 pub mod writer;

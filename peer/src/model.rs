@@ -1,6 +1,16 @@
 //! The papers once more, bit by bit and without any care for speed: an agenda in place of calls, one bit fetched at a
 //! time, lengths from vectors of bits. It judges reader, writer and table check in `demands`, and shares no code with them.
 
+use crate::bim;
+
+// The model counts in 64-bit signed numbers.
+const HEADER: i64 = bim::HEADER as i64;
+const TYPE_ROW: i64 = bim::TYPE_ROW as i64;
+const ATTRIBUTE_ROW: i64 = bim::ATTRIBUTE_ROW as i64;
+const PARTICLE_ROW: i64 = bim::PARTICLE_ROW as i64;
+const UNBOUNDED: i64 = bim::UNBOUNDED as i64;
+const MOST_COUNT: i64 = bim::MOST_COUNT as i64;
+
 /// What the model answers.
 #[derive(Clone, Debug, PartialEq, Eq)]
 pub enum Reading {
@@ -32,24 +42,25 @@ pub type Writing = Result<(Vec<u8>, usize), (u32, usize)>;
 /// The first word at fault, each word judged by its column.
 pub fn check_table(words: &[u32]) -> Option<usize> {
     let given = words.len();
-    for (index, &word) in words.iter().enumerate().take(4) {
+    for (index, &word) in words.iter().enumerate().take(bim::HEADER) {
         let good = match index {
-            0 => word == 1,
-            1 => word != 0 && word < 257,
-            _ => word < 1025,
+            0 => word == bim::TABLE_MARK,
+            1 => word != 0 && word as usize <= bim::MOST_TYPES,
+            2 => word as usize <= bim::MOST_ATTRIBUTES,
+            _ => word as usize <= bim::MOST_PARTICLES,
         };
         if !good {
             return Some(index);
         }
     }
-    if given < 4 {
+    if given < bim::HEADER {
         return Some(given);
     }
     let rows = Rows { words };
-    if given as i64 != rows.particles_from() + 4 * rows.p() {
+    if given as i64 != rows.particles_from() + PARTICLE_ROW * rows.p() {
         return Some(given);
     }
-    (4..given).find(|&index| !rows.word_good(index as i64))
+    (bim::HEADER..given).find(|&index| !rows.word_good(index as i64))
 }
 
 /// A table as bare words, everything in 64-bit signed numbers.
@@ -72,19 +83,19 @@ impl Rows<'_> {
         self.at(3)
     }
     fn attributes_from(&self) -> i64 {
-        4 + 7 * self.t()
+        HEADER + TYPE_ROW * self.t()
     }
     fn particles_from(&self) -> i64 {
-        self.attributes_from() + 3 * self.a()
+        self.attributes_from() + ATTRIBUTE_ROW * self.a()
     }
     fn of_type(&self, row: i64, column: i64) -> i64 {
-        self.at(4 + 7 * row + column)
+        self.at(HEADER + TYPE_ROW * row + column)
     }
     fn of_attribute(&self, row: i64, column: i64) -> i64 {
-        self.at(self.attributes_from() + 3 * row + column)
+        self.at(self.attributes_from() + ATTRIBUTE_ROW * row + column)
     }
     fn of_particle(&self, row: i64, column: i64) -> i64 {
-        self.at(self.particles_from() + 4 * row + column)
+        self.at(self.particles_from() + PARTICLE_ROW * row + column)
     }
     fn signed(word: i64) -> i64 {
         i64::from(word as u32 as i32)
@@ -94,40 +105,41 @@ impl Rows<'_> {
     fn word_good(&self, index: i64) -> bool {
         let word = self.at(index);
         if index < self.attributes_from() {
-            let row = (index - 4) / 7;
-            let content = self.of_type(row, 1);
-            let simple = self.of_type(row, 4);
-            return match ((index - 4) % 7, content) {
+            let row = (index - HEADER) / TYPE_ROW;
+            let content = self.of_type(row, 1) as u32;
+            let simple = self.of_type(row, 4) as u32;
+            return match ((index - HEADER) % TYPE_ROW, content) {
                 (0, _) => word < 2,
-                (1, _) => word < 3,
+                (1, _) => word <= bim::PARTICLES.into(),
                 (2, _) => word <= self.a(),
                 (3, _) => self.of_type(row, 2) + word <= self.a(),
-                (4, 1) => word < 7,
-                (4, 2) => word < self.p(),
-                (5, 1) if simple == 1 => true,
-                (5, 1) if simple == 4 => word > 0 && word < 65_537,
-                (6, 1) if simple == 1 => Self::signed(self.of_type(row, 5)) <= Self::signed(word),
+                (4, bim::SIMPLE) => word <= bim::FLOAT.into(),
+                (4, bim::PARTICLES) => word < self.p(),
+                (5, bim::SIMPLE) if simple == bim::RANGED => true,
+                (5, bim::SIMPLE) if simple == bim::ENUMERATION => word > 0 && word <= bim::MOST_ENUMERATION.into(),
+                (6, bim::SIMPLE) if simple == bim::RANGED => Self::signed(self.of_type(row, 5)) <= Self::signed(word),
                 _ => word == 0,
             };
         }
         if index < self.particles_from() {
-            return match (index - self.attributes_from()) % 3 {
-                0 => word < 65_536,
+            return match (index - self.attributes_from()) % ATTRIBUTE_ROW {
+                0 => word <= bim::MOST_NAME.into(),
                 1 => word < 2,
-                _ => word < self.t() && self.of_type(word, 1) == 1 && self.of_type(word, 3) == 0,
+                _ => word < self.t() && self.of_type(word, 1) as u32 == bim::SIMPLE && self.of_type(word, 3) == 0,
             };
         }
-        let row = (index - self.particles_from()) / 4;
-        let before = |columns: i64| self.at(index - columns);
-        match ((index - self.particles_from()) % 4, self.of_particle(row, 0)) {
-            (0, _) => word < 4,
-            (1, 0) => word < 65_536,
+        let row = (index - self.particles_from()) / PARTICLE_ROW;
+        let before = self.at(index - 1);
+        let children = |least: i64| word >= least && word <= bim::MOST_CHILDREN.into() && before + word <= self.p();
+        match ((index - self.particles_from()) % PARTICLE_ROW, self.of_particle(row, 0) as u32) {
+            (0, _) => word <= bim::OCCURS.into(),
+            (1, bim::ELEMENT) => word <= bim::MOST_NAME.into(),
             (1, _) => row < word && word < self.p(),
-            (2, 0) => word < self.t(),
-            (2, 1) => word > 0 && word < 65 && before(1) + word <= self.p(),
-            (2, 2) => word > 1 && word < 65 && before(1) + word <= self.p(),
-            (2, _) => word < 65_536,
-            (3, 3) => word > 0 && word < 65_537 && (word == 65_536 || word >= before(1)),
+            (2, bim::ELEMENT) => word < self.t(),
+            (2, bim::SEQUENCE) => children(1),
+            (2, bim::CHOICE) => children(2),
+            (2, _) => word <= MOST_COUNT,
+            (3, bim::OCCURS) => word == UNBOUNDED || word > 0 && word <= MOST_COUNT && word >= before,
             _ => word == 0,
         }
     }
@@ -168,9 +180,9 @@ enum Task {
 
 /// The tasks of a held element's body, first attribute on top.
 fn push_body(rows: &Rows<'_>, agenda: &mut Vec<Task>, of_type: i64, wall: usize, depth: usize) {
-    match rows.of_type(of_type, 1) {
-        0 => {}
-        1 => agenda.push(Task::Value { of_type, wall }),
+    match rows.of_type(of_type, 1) as u32 {
+        bim::EMPTY => {}
+        bim::SIMPLE => agenda.push(Task::Value { of_type, wall }),
         _ => agenda.push(Task::Particle { row: rows.of_type(of_type, 4), wall, depth: depth + 1 }),
     }
     let first = rows.of_type(of_type, 2);
@@ -204,7 +216,7 @@ impl<'a> Fetch<'a> {
 
     fn bit(&mut self) -> Result<i64, u32> {
         if self.at >= self.wall {
-            return Err(5);
+            return Err(bim::PAST_END);
         }
         let bit = self.payload[self.at / 8] >> (7 - self.at % 8) & 1;
         self.at += 1;
@@ -226,7 +238,7 @@ impl<'a> Fetch<'a> {
         while self.bit()? == 1 {
             groups += 1;
             if groups == 9 {
-                return Err(13);
+                return Err(bim::TOO_LARGE);
             }
         }
         let value = self.fixed(4 * groups)?;
@@ -241,7 +253,7 @@ impl<'a> Fetch<'a> {
         }
         let second = self.fixed(8)?;
         if second > 127 {
-            return Err(13);
+            return Err(bim::TOO_LARGE);
         }
         let value = (first - 128) * 128 + second;
         Ok((value, value > 127))
@@ -251,10 +263,10 @@ impl<'a> Fetch<'a> {
     pub fn upto(&mut self, most: i64) -> Result<i64, u32> {
         let (value, shortest) = self.loose5()?;
         if !shortest {
-            return Err(12);
+            return Err(bim::NOT_SHORTEST);
         }
         if value > most {
-            return Err(13);
+            return Err(bim::TOO_LARGE);
         }
         Ok(value)
     }
@@ -262,7 +274,7 @@ impl<'a> Fetch<'a> {
     fn below(&mut self, choices: i64) -> Result<i64, u32> {
         let value = self.fixed(width(choices))?;
         if value >= choices {
-            return Err(14);
+            return Err(bim::NO_SUCH_CODE);
         }
         Ok(value)
     }
@@ -276,33 +288,33 @@ impl<'a> Fetch<'a> {
             if self.fixed(1)? == 0 {
                 return Ok(0);
             }
-            let count = if most == 65_536 { self.upto(65_535)? } else { self.below(most + 1)? };
-            return if count == 0 { Err(14) } else { Ok(count) };
+            let count = if most == UNBOUNDED { self.upto(MOST_COUNT)? } else { self.below(most + 1)? };
+            return if count == 0 { Err(bim::NO_SUCH_CODE) } else { Ok(count) };
         }
-        if most == 65_536 {
-            return Ok(least + self.upto(65_535 - least)?);
+        if most == UNBOUNDED {
+            return Ok(least + self.upto(MOST_COUNT - least)?);
         }
         Ok(least + self.below(most - least + 1)?)
     }
 
     /// A simple value's word and its text.
     pub fn value(&mut self, kind: i64, b: i64, c: i64) -> Result<(u32, Vec<u8>), u32> {
-        let word = match kind {
-            0 => self.fixed(1)?,
-            1 => {
+        let word = match kind as u32 {
+            bim::BOOLEAN => self.fixed(1)?,
+            bim::RANGED => {
                 let (b, c) = (Rows::signed(b), Rows::signed(c));
-                if c - b <= 65_535 {
+                if c - b <= bim::MOST_FIXED_SPAN.into() {
                     b + self.below(c - b + 1)?
                 } else {
                     b + self.upto(c - b)?
                 }
             }
-            2 => self.upto(u32::MAX.into())?,
-            3 => {
+            bim::UNSIGNED => self.upto(u32::MAX.into())?,
+            bim::SIGNED => {
                 let sign = self.fixed(1)?;
                 let magnitude = self.upto((1 << 31) - 1 + sign)?;
                 if sign == 1 && magnitude == 0 {
-                    return Err(15);
+                    return Err(bim::MINUS_ZERO);
                 }
                 if sign == 1 {
                     -magnitude
@@ -310,17 +322,17 @@ impl<'a> Fetch<'a> {
                     magnitude
                 }
             }
-            4 => self.below(b)?,
-            6 => self.fixed(32)?,
+            bim::ENUMERATION => self.below(b)?,
+            bim::FLOAT => self.fixed(32)?,
             _ => {
-                let count = self.upto(4095)?;
+                let count = self.upto(bim::MOST_TEXT.into())?;
                 let mut text = vec![];
                 for _ in 0..count {
                     text.push(self.fixed(8)? as u8);
                 }
                 return match std::str::from_utf8(&text) {
                     Ok(_) => Ok((count as u32, text)),
-                    Err(_) => Err(16),
+                    Err(_) => Err(bim::NOT_UTF8),
                 };
             }
         };
@@ -339,17 +351,17 @@ pub fn read(
 ) -> Reading {
     let refused = |number, place| Reading::Refused { number, place, path: vec![] };
     if let Some(word) = check_table(table) {
-        return refused(1, word);
+        return refused(bim::TABLE, word);
     }
     let rows = Rows { words: table };
-    if i64::from(root_type) >= rows.t() || root_name >= 65_536 {
-        return refused(2, 0);
+    if i64::from(root_type) >= rows.t() || root_name > bim::MOST_NAME {
+        return refused(bim::ROOT, 0);
     }
-    if payload.is_empty() || payload.len() >= 8193 {
-        return refused(3, 0);
+    if payload.is_empty() || payload.len() > bim::MOST_PAYLOAD {
+        return refused(bim::PAYLOAD_SIZE, 0);
     }
-    if ![0x0f, 0x4f, 0x8f].contains(&payload[0]) {
-        return refused(4, 0);
+    if !bim::MODE_BYTES.contains(&payload[0]) {
+        return refused(bim::MODE_BYTE, 0);
     }
     let mut agenda = Agenda {
         rows,
@@ -360,7 +372,7 @@ pub fn read(
             wall: 8 * payload.len(),
             depth: 1,
         }],
-        event_room: event_room.min(2048),
+        event_room: event_room.min(bim::MOST_EVENTS),
         text_room,
         at: 8,
         events: vec![],
@@ -377,7 +389,7 @@ pub fn read(
     }
     let left: Vec<_> = (agenda.at..8 * payload.len()).map(|at| payload[at / 8] >> (7 - at % 8) & 1).collect();
     if left.len() > 7 || left.contains(&1) {
-        return refused(17, agenda.at);
+        return refused(bim::LEFT_OVER, agenda.at);
     }
     Reading::Accepted { mode: agenda.mode, events: agenda.events, texts: agenda.texts, bits: agenda.at }
 }
@@ -410,7 +422,7 @@ struct Agenda<'a> {
 impl Agenda<'_> {
     fn store(&mut self, kind: u32, p: i64, q: i64, next: usize) -> Result<(), Fault> {
         if self.events.len() >= self.event_room {
-            return Err(Fault::Here(7));
+            return Err(Fault::Here(bim::EVENT_ROOM));
         }
         self.events.push([kind, p as u32, q as u32, (next - self.at) as u32]);
         self.at = next;
@@ -421,25 +433,25 @@ impl Agenda<'_> {
         let rows = self.rows;
         match task {
             Task::Element { name, of_type, wall, depth } => {
-                if depth > 64 {
-                    return Err(Fault::Here(6));
+                if depth > bim::MOST_OPEN {
+                    return Err(Fault::Here(bim::DEPTH));
                 }
                 let mut fetch = Fetch::new(payload, wall, self.at);
                 let coded = match self.mode {
-                    0 => false,
-                    1 => fetch.fixed(1)? == 1,
+                    bim::MODE_NONE => false,
+                    bim::MODE_OPTIONAL => fetch.fixed(1)? == 1,
                     _ => true,
                 };
                 let length = if coded { Some(fetch.upto(i64::MAX)? as usize) } else { None };
                 let body = fetch.at;
                 if length.is_some_and(|length| body + length > wall) {
-                    return Err(Fault::Here(10));
+                    return Err(Fault::Here(bim::LENGTH));
                 }
                 if rows.of_type(of_type, 0) == 0 {
-                    let length = length.ok_or(9_u32)?;
-                    return self.store(7, name, of_type, body + length);
+                    let length = length.ok_or(bim::NOT_HELD)?;
+                    return self.store(bim::KIND_BLANK, name, of_type, body + length);
                 }
-                self.store(1, name, coded.into(), body)?;
+                self.store(bim::KIND_START, name, coded.into(), body)?;
                 self.path.push(name as u16);
                 let declared = length.map(|length| (body, body + length));
                 self.tasks.push(Task::Close { declared });
@@ -449,7 +461,7 @@ impl Agenda<'_> {
             Task::Attribute { row, wall } => {
                 let mut fetch = Fetch::new(payload, wall, self.at);
                 let present = rows.of_attribute(row, 1) == 1 || fetch.fixed(1)? == 1;
-                self.store(2, rows.of_attribute(row, 0), present.into(), fetch.at)?;
+                self.store(bim::KIND_ATTRIBUTE, rows.of_attribute(row, 0), present.into(), fetch.at)?;
                 if present {
                     let of_type = rows.of_attribute(row, 2);
                     self.tasks.push(Task::Value { of_type, wall });
@@ -460,32 +472,32 @@ impl Agenda<'_> {
                 let (word, text) =
                     fetch.value(rows.of_type(of_type, 4), rows.of_type(of_type, 5), rows.of_type(of_type, 6))?;
                 if self.texts.len() + text.len() > self.text_room {
-                    return Err(Fault::Here(8));
+                    return Err(Fault::Here(bim::TEXT_ROOM));
                 }
-                self.store(3, word.into(), 0, fetch.at)?;
+                self.store(bim::KIND_VALUE, word.into(), 0, fetch.at)?;
                 self.texts.extend(text);
             }
             Task::Particle { row, wall, depth } => {
                 let word = |column| rows.of_particle(row, column);
                 let mut fetch = Fetch::new(payload, wall, self.at);
-                if word(0) == 0 {
+                if word(0) as u32 == bim::ELEMENT {
                     self.tasks.push(Task::Element { name: word(1), of_type: word(2), wall, depth });
                     return Ok(());
                 }
-                if depth > 64 {
-                    return Err(Fault::Here(6));
+                if depth > bim::MOST_OPEN {
+                    return Err(Fault::Here(bim::DEPTH));
                 }
                 let child = |row| Task::Particle { row, wall, depth: depth + 1 };
-                match word(0) {
-                    1 => self.tasks.extend((word(1)..word(1) + word(2)).rev().map(child)),
-                    2 => {
+                match word(0) as u32 {
+                    bim::SEQUENCE => self.tasks.extend((word(1)..word(1) + word(2)).rev().map(child)),
+                    bim::CHOICE => {
                         let branch = fetch.below(word(2))?;
-                        self.store(4, branch, 0, fetch.at)?;
+                        self.store(bim::KIND_PICK, branch, 0, fetch.at)?;
                         self.tasks.push(child(word(1) + branch));
                     }
                     _ => {
                         let count = fetch.count(word(2), word(3))?;
-                        self.store(5, count, 0, fetch.at)?;
+                        self.store(bim::KIND_TIMES, count, 0, fetch.at)?;
                         self.tasks.push(Task::Again { row: word(1), left: count, wall, depth: depth + 1 });
                     }
                 }
@@ -499,10 +511,10 @@ impl Agenda<'_> {
             Task::Close { declared } => {
                 if let Some((body, end)) = declared {
                     if self.at < end {
-                        return Err(Fault::At(11, body));
+                        return Err(Fault::At(bim::CONTENT_SHORT, body));
                     }
                 }
-                self.store(6, 0, 0, self.at)?;
+                self.store(bim::KIND_END, 0, 0, self.at)?;
                 self.path.pop();
             }
         }
@@ -543,23 +555,23 @@ pub fn value_bits(kind: i64, b: i64, c: i64, word: u32) -> Option<Vec<bool>> {
     let shortest = |value: u64| bits5(value, groups(value));
     let among = |choices: i64, index: i64| (0..choices).contains(&index).then(|| bits_of(index as u64, width(choices)));
     let signed = i64::from(word as i32);
-    match kind {
-        0 => among(2, word.into()),
-        1 => {
+    match kind as u32 {
+        bim::BOOLEAN => among(2, word.into()),
+        bim::RANGED => {
             let (b, c) = (Rows::signed(b), Rows::signed(c));
-            if c - b <= 65_535 {
+            if c - b <= bim::MOST_FIXED_SPAN.into() {
                 return among(c - b + 1, signed - b);
             }
             (b..=c).contains(&signed).then(|| shortest((signed - b) as u64))
         }
-        2 => Some(shortest(word.into())),
-        3 => {
+        bim::UNSIGNED => Some(shortest(word.into())),
+        bim::SIGNED => {
             let mut bits = vec![signed < 0];
             bits.extend(shortest(signed.unsigned_abs()));
             Some(bits)
         }
-        4 => among(b, word.into()),
-        5 => (word < 4096).then(|| shortest(word.into())),
+        bim::ENUMERATION => among(b, word.into()),
+        bim::TEXT => (word <= bim::MOST_TEXT).then(|| shortest(word.into())),
         _ => Some(bits_of(word.into(), 32)),
     }
 }
@@ -567,7 +579,7 @@ pub fn value_bits(kind: i64, b: i64, c: i64, word: u32) -> Option<Vec<bool>> {
 /// An occurs count's bits, where its row has the count.
 pub fn count_bits(least: i64, most: i64, count: u32) -> Option<Vec<bool>> {
     let count = i64::from(count);
-    if count < least || count > most || count > 65_535 {
+    if count < least || count > most || count > MOST_COUNT {
         return None;
     }
     let mut bits = vec![];
@@ -578,7 +590,7 @@ pub fn count_bits(least: i64, most: i64, count: u32) -> Option<Vec<bool>> {
         }
     }
     let above = (count - least) as u64;
-    bits.extend(if most == 65_536 { bits5(above, groups(above)) } else { bits_of(above, width(most - least + 1)) });
+    bits.extend(if most == UNBOUNDED { bits5(above, groups(above)) } else { bits_of(above, width(most - least + 1)) });
     Some(bits)
 }
 
@@ -593,18 +605,18 @@ pub fn write(
     room: usize,
 ) -> Writing {
     if let Some(word) = check_table(table) {
-        return Err((1, word));
+        return Err((bim::TABLE, word));
     }
     let rows = Rows { words: table };
-    if i64::from(root_type) >= rows.t() || root_name >= 65_536 {
-        return Err((2, 0));
+    if i64::from(root_type) >= rows.t() || root_name > bim::MOST_NAME {
+        return Err((bim::ROOT, 0));
     }
-    if mode >= 3 {
-        return Err((22, 0));
+    if mode > bim::MODE_ALWAYS {
+        return Err((bim::WRITE_MODE, 0));
     }
     let count = events.len() / 4;
-    if !events.len().is_multiple_of(4) || count >= 2049 {
-        return Err((18, count));
+    if !events.len().is_multiple_of(4) || count > bim::MOST_EVENTS {
+        return Err((bim::NO_READING, count));
     }
     let mut walk = Walk {
         rows,
@@ -613,22 +625,22 @@ pub fn write(
         next: 0,
         left: texts,
         tasks: vec![Task::Element { name: root_name.into(), of_type: root_type.into(), wall: 0, depth: 1 }],
-        bodies: vec![(None, bits_of(u64::from(mode) << 6 | 0x0f, 8))],
+        bodies: vec![(None, bits_of(bim::MODE_BYTES[mode as usize].into(), 8))],
     };
     while let Some(task) = walk.tasks.pop() {
         walk.step(task).map_err(|number| (number, walk.next))?;
     }
     if walk.next < count {
-        let number = if events[4 * walk.next] == 7 { 19 } else { 18 };
+        let number = if events[4 * walk.next] == bim::KIND_BLANK { bim::BLANK } else { bim::NO_READING };
         return Err((number, walk.next));
     }
     if !walk.left.is_empty() {
-        return Err((23, count));
+        return Err((bim::TEXT_BYTES, count));
     }
     let bits = &walk.bodies[0].1;
     let bytes = bytes_of(bits);
-    if bytes.len() > 8192 || bytes.len() > room {
-        return Err((21, 0));
+    if bytes.len() > bim::MOST_PAYLOAD || bytes.len() > room {
+        return Err((bim::PAYLOAD_ROOM, 0));
     }
     Ok((bytes, bits.len()))
 }
@@ -649,7 +661,7 @@ impl Walk<'_> {
     fn peek(&self) -> Result<[u32; 3], u32> {
         let at = 4 * self.next;
         if at >= self.events.len() {
-            return Err(18);
+            return Err(bim::NO_READING);
         }
         Ok([self.events[at], self.events[at + 1], self.events[at + 2]])
     }
@@ -657,9 +669,9 @@ impl Walk<'_> {
     /// The event's p and q, once its kind is right.
     fn want(&self, kind: u32) -> Result<(u32, u32), u32> {
         match self.peek()? {
-            [7, _, _] => Err(19),
+            [bim::KIND_BLANK, _, _] => Err(bim::BLANK),
             [found, p, q] if found == kind => Ok((p, q)),
-            _ => Err(18),
+            _ => Err(bim::NO_READING),
         }
     }
 
@@ -674,16 +686,16 @@ impl Walk<'_> {
         match task {
             Task::Element { name, of_type, wall, depth } => {
                 self.peek()?;
-                if depth > 64 {
-                    return Err(6);
+                if depth > bim::MOST_OPEN {
+                    return Err(bim::DEPTH);
                 }
-                let (p, q) = self.want(1)?;
+                let (p, q) = self.want(bim::KIND_START)?;
                 let flags: &[u32] = [&[0][..], &[0, 1], &[1]][self.mode as usize];
                 if i64::from(p) != name || !flags.contains(&q) {
-                    return Err(18);
+                    return Err(bim::NO_READING);
                 }
                 if rows.of_type(of_type, 0) == 0 {
-                    return Err(9);
+                    return Err(bim::NOT_HELD);
                 }
                 self.next += 1;
                 self.bodies.push((Some(q), vec![]));
@@ -691,10 +703,10 @@ impl Walk<'_> {
                 push_body(&rows, &mut self.tasks, of_type, wall, depth);
             }
             Task::Attribute { row, wall } => {
-                let (p, q) = self.want(2)?;
+                let (p, q) = self.want(bim::KIND_ATTRIBUTE)?;
                 let required = rows.of_attribute(row, 1) == 1;
                 if i64::from(p) != rows.of_attribute(row, 0) || q > 1 || (required && q == 0) {
-                    return Err(18);
+                    return Err(bim::NO_READING);
                 }
                 self.next += 1;
                 if !required {
@@ -706,19 +718,19 @@ impl Walk<'_> {
                 }
             }
             Task::Value { of_type, .. } => {
-                let (word, q) = self.want(3)?;
+                let (word, q) = self.want(bim::KIND_VALUE)?;
                 if q != 0 {
-                    return Err(18);
+                    return Err(bim::NO_READING);
                 }
                 let column = |column| rows.of_type(of_type, column);
-                let bits = value_bits(column(4), column(5), column(6), word).ok_or(20_u32)?;
-                let size = if column(4) == 5 { word as usize } else { 0 };
+                let bits = value_bits(column(4), column(5), column(6), word).ok_or(bim::OUTSIDE_ROW)?;
+                let size = if column(4) as u32 == bim::TEXT { word as usize } else { 0 };
                 if size > self.left.len() {
-                    return Err(23);
+                    return Err(bim::TEXT_BYTES);
                 }
                 let (text, left) = self.left.split_at(size);
                 if std::str::from_utf8(text).is_err() {
-                    return Err(16);
+                    return Err(bim::NOT_UTF8);
                 }
                 self.left = left;
                 self.next += 1;
@@ -729,35 +741,35 @@ impl Walk<'_> {
             }
             Task::Particle { row, wall, depth } => {
                 let word = |column| rows.of_particle(row, column);
-                if word(0) == 0 {
+                if word(0) as u32 == bim::ELEMENT {
                     self.tasks.push(Task::Element { name: word(1), of_type: word(2), wall, depth });
                     return Ok(());
                 }
                 self.peek()?;
-                if depth > 64 {
-                    return Err(6);
+                if depth > bim::MOST_OPEN {
+                    return Err(bim::DEPTH);
                 }
                 let child = |row| Task::Particle { row, wall, depth: depth + 1 };
-                match word(0) {
-                    1 => self.tasks.extend((word(1)..word(1) + word(2)).rev().map(child)),
-                    2 => {
-                        let (branch, q) = self.want(4)?;
+                match word(0) as u32 {
+                    bim::SEQUENCE => self.tasks.extend((word(1)..word(1) + word(2)).rev().map(child)),
+                    bim::CHOICE => {
+                        let (branch, q) = self.want(bim::KIND_PICK)?;
                         if q != 0 {
-                            return Err(18);
+                            return Err(bim::NO_READING);
                         }
                         if i64::from(branch) >= word(2) {
-                            return Err(20);
+                            return Err(bim::OUTSIDE_ROW);
                         }
                         self.next += 1;
                         self.put(bits_of(branch.into(), width(word(2))));
                         self.tasks.push(child(word(1) + i64::from(branch)));
                     }
                     _ => {
-                        let (count, q) = self.want(5)?;
+                        let (count, q) = self.want(bim::KIND_TIMES)?;
                         if q != 0 {
-                            return Err(18);
+                            return Err(bim::NO_READING);
                         }
-                        let bits = count_bits(word(2), word(3), count).ok_or(20_u32)?;
+                        let bits = count_bits(word(2), word(3), count).ok_or(bim::OUTSIDE_ROW)?;
                         self.next += 1;
                         self.put(bits);
                         self.tasks.push(Task::Again { row: word(1), left: count.into(), wall, depth: depth + 1 });
@@ -771,12 +783,12 @@ impl Walk<'_> {
                 }
             }
             Task::Close { .. } => {
-                if self.want(6)? != (0, 0) {
-                    return Err(18);
+                if self.want(bim::KIND_END)? != (0, 0) {
+                    return Err(bim::NO_READING);
                 }
                 self.next += 1;
                 if let Some((Some(coded), body)) = self.bodies.pop() {
-                    if self.mode == 1 {
+                    if self.mode == bim::MODE_OPTIONAL {
                         self.put(vec![coded == 1]);
                     }
                     if coded == 1 {

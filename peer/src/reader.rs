@@ -3,11 +3,11 @@
 //! Element reads content, content reads particle, particle reads element. A refusal carries number and place up;
 //! the path stands in the reader as it was when the refusal came.
 
-use crate::answer::{kind, number, refusal, Answer, Path, Refusal};
-use crate::answer::{MOST_BYTES, MOST_EVENTS, MOST_NAME, MOST_OPEN};
+use crate::answer::{refusal, Answer, Path, Refusal};
+use crate::bim;
 use crate::bits::{copy_bytes, fixed, load64};
 use crate::codes::{read_choice, read_occurs, strict5};
-use crate::table::{content, Particle, Table, Type};
+use crate::table::{Particle, Table, Type};
 use crate::value;
 
 /// Reads `payload` into `events` (four words each) and `texts`. Spare words and bytes become 0; on refusal all do.
@@ -21,7 +21,7 @@ pub fn read(
 ) -> Answer {
     let answer = read_into(table, root_name, root_type, payload, events, texts);
     // A refused answer counts 0 events and 0 text bytes, so this clears the whole of both.
-    events[4 * answer.events..].fill(0);
+    events[bim::EVENT_WORDS * answer.events..].fill(0);
     texts[answer.text..].fill(0);
     answer
 }
@@ -29,18 +29,18 @@ pub fn read(
 /// The length coding mode of a mode byte: 0F, 4F or 8F.
 pub fn mode_of(byte: u8) -> Option<u32> {
     match byte {
-        0x0f => Some(0),
-        0x4f => Some(1),
-        0x8f => Some(2),
+        bim::MODE_BYTE_NONE => Some(bim::MODE_NONE),
+        bim::MODE_BYTE_OPTIONAL => Some(bim::MODE_OPTIONAL),
+        bim::MODE_BYTE_ALWAYS => Some(bim::MODE_ALWAYS),
         _ => None,
     }
 }
 
 /// The table, if it and the root are right (1, then 2).
 pub fn check_root(table: &[u32], root_name: u32, root_type: u32) -> Result<Table<'_>, Refusal> {
-    let table = Table::new(table).map_err(|word| refusal(number::TABLE, word))?;
-    if root_type as usize >= table.types() || root_name > MOST_NAME {
-        return Err(refusal(number::ROOT, 0));
+    let table = Table::new(table).map_err(|word| refusal(bim::TABLE, word))?;
+    if root_type as usize >= table.types() || root_name > bim::MOST_NAME {
+        return Err(refusal(bim::ROOT, 0));
     }
     Ok(table)
 }
@@ -53,10 +53,10 @@ fn check_call<'a>(
     payload: &[u8],
 ) -> Result<(Table<'a>, u32), Refusal> {
     let table = check_root(table, root_name, root_type)?;
-    if payload.is_empty() || payload.len() > MOST_BYTES {
-        return Err(refusal(number::SIZE, 0));
+    if payload.is_empty() || payload.len() > bim::MOST_PAYLOAD {
+        return Err(refusal(bim::PAYLOAD_SIZE, 0));
     }
-    let mode = mode_of(payload[0]).ok_or(refusal(number::MODE_BYTE, 0))?;
+    let mode = mode_of(payload[0]).ok_or(refusal(bim::MODE_BYTE, 0))?;
     Ok((table, mode))
 }
 
@@ -72,11 +72,11 @@ fn read_into(
         Ok(checked) => checked,
         Err(refusal) => return Answer::refused(refusal, Path::empty()),
     };
-    let room = (events.len() / 4).min(MOST_EVENTS);
+    let room = (events.len() / bim::EVENT_WORDS).min(bim::MOST_EVENTS);
     let mut reader =
         Reader { table, payload, mode, at: 8, events, room, stored: 0, texts, used: 0, path: Path::empty() };
     let end = 8 * payload.len();
-    let read = reader.element(root_name, root_type as usize, end, MOST_OPEN).and_then(|()| reader.padding(end));
+    let read = reader.element(root_name, root_type as usize, end, bim::MOST_OPEN).and_then(|()| reader.padding(end));
     match read {
         Ok(()) => Answer::accepted(mode, reader.stored, reader.used, reader.at),
         Err(refusal) => Answer::refused(refusal, reader.path),
@@ -116,21 +116,21 @@ impl Reader<'_> {
         let row = self.table.type_row(of_type);
         if !row.held {
             if !head.has_length {
-                return Err(refusal(number::NOT_HELD, first));
+                return Err(refusal(bim::NOT_HELD, first));
             }
-            self.store(first, [kind::BLANK, name, of_type as u32], head.end - first)?;
+            self.store(first, [bim::KIND_BLANK, name, of_type as u32], head.end - first)?;
             self.at = head.end;
             return Ok(());
         }
-        self.store(first, [kind::START, name, u32::from(head.has_length)], head.body - first)?;
+        self.store(first, [bim::KIND_START, name, u32::from(head.has_length)], head.body - first)?;
         self.at = head.body;
         self.path.push(name);
         self.attributes(&row, head.end)?;
         self.content(&row, head.end, open)?;
         if head.has_length && self.at != head.end {
-            return Err(refusal(number::LENGTH_NOT_USED, head.body));
+            return Err(refusal(bim::CONTENT_SHORT, head.body));
         }
-        self.store(self.at, [kind::END, 0, 0], 0)?;
+        self.store(self.at, [bim::KIND_END, 0, 0], 0)?;
         self.path.pop();
         Ok(())
     }
@@ -140,8 +140,8 @@ impl Reader<'_> {
         let refused = |number| refusal(number, self.at);
         let mut body = self.at;
         let has_length = match self.mode {
-            0 => false,
-            1 => {
+            bim::MODE_NONE => false,
+            bim::MODE_OPTIONAL => {
                 let flag = fixed(self.payload, end, body, 1).map_err(refused)?;
                 body += 1;
                 flag == 1
@@ -154,7 +154,7 @@ impl Reader<'_> {
         let length = strict5(self.payload, end, body).map_err(refused)?;
         body += length.bits;
         if length.value as usize > end - body {
-            return Err(refused(number::LENGTH_PAST_END));
+            return Err(refused(bim::LENGTH));
         }
         Ok(Head { has_length, end: body + length.value as usize, body })
     }
@@ -169,7 +169,7 @@ impl Reader<'_> {
                 present = fixed(self.payload, end, first, 1).map_err(|number| refusal(number, first))?;
                 bits = 1;
             }
-            self.store(first, [kind::ATTRIBUTE, attribute.name, present], bits)?;
+            self.store(first, [bim::KIND_ATTRIBUTE, attribute.name, present], bits)?;
             self.at += bits;
             if present == 1 {
                 let of_type = self.table.type_row(attribute.of_type);
@@ -181,8 +181,8 @@ impl Reader<'_> {
 
     fn content(&mut self, row: &Type, end: usize, open: usize) -> Result<(), Refusal> {
         match row.content {
-            content::EMPTY => Ok(()),
-            content::SIMPLE => self.value(row, end),
+            bim::EMPTY => Ok(()),
+            bim::SIMPLE => self.value(row, end),
             _ => self.particle(row.a as usize, end, open),
         }
     }
@@ -193,9 +193,9 @@ impl Reader<'_> {
         let value =
             value::read(row.a, row.b, row.c, self.payload, end, first).map_err(|number| refusal(number, first))?;
         if value.text > self.texts.len() - self.used {
-            return Err(refusal(number::TEXT_ROOM, first));
+            return Err(refusal(bim::TEXT_ROOM, first));
         }
-        self.store(first, [kind::VALUE, value.word, 0], value.bits)?;
+        self.store(first, [bim::KIND_VALUE, value.word, 0], value.bits)?;
         self.at += value.bits;
         let target = &mut self.texts[self.used..self.used + value.text];
         copy_bytes(self.payload, self.at - 8 * value.text, target);
@@ -215,7 +215,7 @@ impl Reader<'_> {
                 let open = self.enter(open)?;
                 let branch = read_choice(number as u32, self.payload, end, self.at)
                     .map_err(|number| refusal(number, self.at))?;
-                self.store(self.at, [kind::PICK, branch.value, 0], branch.bits)?;
+                self.store(self.at, [bim::KIND_PICK, branch.value, 0], branch.bits)?;
                 self.at += branch.bits;
                 self.particle(first + branch.value as usize, end, open)
             }
@@ -223,7 +223,7 @@ impl Reader<'_> {
                 let open = self.enter(open)?;
                 let count =
                     read_occurs(least, most, self.payload, end, self.at).map_err(|number| refusal(number, self.at))?;
-                self.store(self.at, [kind::TIMES, count.value, 0], count.bits)?;
+                self.store(self.at, [bim::KIND_TIMES, count.value, 0], count.bits)?;
                 self.at += count.bits;
                 // Every round stores an event, so the room ends even the longest loop.
                 (0..count.value).try_for_each(|_| self.particle(child, end, open))
@@ -233,17 +233,17 @@ impl Reader<'_> {
 
     /// One more row is opened, if one may be; gives how many may still be.
     fn enter(&self, open: usize) -> Result<usize, Refusal> {
-        open.checked_sub(1).ok_or(refusal(number::TOO_DEEP, self.at))
+        open.checked_sub(1).ok_or(refusal(bim::DEPTH, self.at))
     }
 
     /// Stores an event whose item begins at `first`.
     fn store(&mut self, first: usize, words: [u32; 3], bits: usize) -> Result<(), Refusal> {
         if self.stored == self.room {
-            return Err(refusal(number::EVENT_ROOM, first));
+            return Err(refusal(bim::EVENT_ROOM, first));
         }
         let [kind, p, q] = words;
-        let at = 4 * self.stored;
-        self.events[at..at + 4].copy_from_slice(&[kind, p, q, bits as u32]);
+        let at = bim::EVENT_WORDS * self.stored;
+        self.events[at..at + bim::EVENT_WORDS].copy_from_slice(&[kind, p, q, bits as u32]);
         self.stored += 1;
         Ok(())
     }
@@ -252,7 +252,7 @@ impl Reader<'_> {
     fn padding(&self, end: usize) -> Result<(), Refusal> {
         let left = end - self.at;
         if left >= 8 || load64(self.payload, self.at) != 0 {
-            return Err(refusal(number::PADDING, self.at));
+            return Err(refusal(bim::LEFT_OVER, self.at));
         }
         Ok(())
     }

@@ -1,29 +1,6 @@
 //! The schema table: its check, and its rows.
 
-use crate::answer::MOST_NAME;
-use crate::codes::UNBOUNDED;
-use crate::value;
-
-/// Words before the first row.
-pub const HEADER: usize = 4;
-/// Words of a type row.
-pub const TYPE_ROW: usize = 7;
-/// Words of an attribute row.
-pub const ATTRIBUTE_ROW: usize = 3;
-/// Words of a particle row.
-pub const PARTICLE_ROW: usize = 4;
-/// The most words of a table.
-pub const MOST_WORDS: usize = HEADER + TYPE_ROW * 256 + ATTRIBUTE_ROW * 1024 + PARTICLE_ROW * 1024;
-
-/// A type's content word.
-pub mod content {
-    /// Nothing.
-    pub const EMPTY: u32 = 0;
-    /// One simple value.
-    pub const SIMPLE: u32 = 1;
-    /// A particle row.
-    pub const PARTICLES: u32 = 2;
-}
+use crate::bim;
 
 /// A table that was checked.
 #[derive(Clone, Copy)]
@@ -94,7 +71,7 @@ pub enum Particle {
         child: usize,
         /// Least count.
         least: u32,
-        /// Most count, or `UNBOUNDED`.
+        /// Most count, or `bim::UNBOUNDED`.
         most: u32,
     },
 }
@@ -106,11 +83,11 @@ pub fn check(words: &[u32]) -> Result<(), usize> {
 
 /// Judges the header words that are there; `Err` is the first at fault.
 pub fn check_header(words: &[u32]) -> Result<(), usize> {
-    let good: [fn(u32) -> bool; HEADER] = [
-        |mark| mark == 1,
-        |types| (1..=256).contains(&types),
-        |attributes| attributes <= 1024,
-        |particles| particles <= 1024,
+    let good: [fn(u32) -> bool; bim::HEADER] = [
+        |mark| mark == bim::TABLE_MARK,
+        |types| (1..=bim::MOST_TYPES as u32).contains(&types),
+        |attributes| attributes <= bim::MOST_ATTRIBUTES as u32,
+        |particles| particles <= bim::MOST_PARTICLES as u32,
     ];
     match words.iter().zip(good).position(|(&word, good)| !good(word)) {
         Some(fault) => Err(fault),
@@ -147,26 +124,26 @@ impl<'a> Table<'a> {
         let at = self.type_word(row);
         let word = |index: usize| self.words[at + index];
         demand(word(0) <= 1, at)?;
-        demand(word(1) <= content::PARTICLES, at + 1)?;
+        demand(word(1) <= bim::PARTICLES, at + 1)?;
         demand(word(2) as usize <= self.attributes, at + 2)?;
         demand(word(3) as usize <= self.attributes - word(2) as usize, at + 3)?;
         let (a, b, c) = (word(4), word(5), word(6));
         match word(1) {
-            content::EMPTY => {
+            bim::EMPTY => {
                 demand(a == 0, at + 4)?;
                 demand(b == 0, at + 5)?;
                 demand(c == 0, at + 6)
             }
-            content::PARTICLES => {
+            bim::PARTICLES => {
                 demand((a as usize) < self.particles, at + 4)?;
                 demand(b == 0, at + 5)?;
                 demand(c == 0, at + 6)
             }
             _ => {
-                demand(a <= value::FLOAT, at + 4)?;
+                demand(a <= bim::FLOAT, at + 4)?;
                 let (b_good, c_good) = match a {
-                    value::RANGED => (true, b as i32 <= c as i32),
-                    value::ENUMERATION => ((1..=65_536).contains(&b), c == 0),
+                    bim::RANGED => (true, b as i32 <= c as i32),
+                    bim::ENUMERATION => ((1..=bim::MOST_ENUMERATION).contains(&b), c == 0),
                     _ => (b == 0, c == 0),
                 };
                 demand(b_good, at + 5)?;
@@ -178,12 +155,12 @@ impl<'a> Table<'a> {
     fn check_attribute(&self, row: usize) -> Result<(), usize> {
         let at = self.attribute_word(row);
         let word = |index: usize| self.words[at + index];
-        demand(word(0) <= MOST_NAME, at)?;
+        demand(word(0) <= bim::MOST_NAME, at)?;
         demand(word(1) <= 1, at + 1)?;
         let of_type = word(2) as usize;
         demand(of_type < self.types, at + 2)?;
         let of_type = self.type_row(of_type);
-        demand(of_type.content == content::SIMPLE && of_type.attributes == 0, at + 2)
+        demand(of_type.content == bim::SIMPLE && of_type.attributes == 0, at + 2)
     }
 
     fn check_particle(&self, row: usize) -> Result<(), usize> {
@@ -192,38 +169,38 @@ impl<'a> Table<'a> {
         let (p, q, r) = (word(1), word(2), word(3));
         let child_good = p as usize > row && (p as usize) < self.particles;
         match word(0) {
-            0 => {
-                demand(p <= MOST_NAME, at + 1)?;
+            bim::ELEMENT => {
+                demand(p <= bim::MOST_NAME, at + 1)?;
                 demand((q as usize) < self.types, at + 2)?;
                 demand(r == 0, at + 3)
             }
             // A sequence has at least 1 child and a choice at least 2: their kinds' own numbers.
-            group @ (1 | 2) => {
+            group @ (bim::SEQUENCE | bim::CHOICE) => {
                 demand(child_good, at + 1)?;
                 let within = q as usize <= self.particles - p as usize;
-                demand((group..=64).contains(&q) && within, at + 2)?;
+                demand((group..=bim::MOST_CHILDREN).contains(&q) && within, at + 2)?;
                 demand(r == 0, at + 3)
             }
-            3 => {
+            bim::OCCURS => {
                 demand(child_good, at + 1)?;
-                demand(q <= 65_535, at + 2)?;
+                demand(q <= bim::MOST_COUNT, at + 2)?;
                 // Unbounded is over every least, so one comparison serves both kinds of most.
-                demand((1..=UNBOUNDED).contains(&r) && q <= r, at + 3)
+                demand((1..=bim::UNBOUNDED).contains(&r) && q <= r, at + 3)
             }
             _ => Err(at),
         }
     }
 
     fn type_word(&self, row: usize) -> usize {
-        HEADER + TYPE_ROW * row
+        bim::HEADER + bim::TYPE_ROW * row
     }
 
     fn attribute_word(&self, row: usize) -> usize {
-        self.type_word(self.types) + ATTRIBUTE_ROW * row
+        self.type_word(self.types) + bim::ATTRIBUTE_ROW * row
     }
 
     fn particle_word(&self, row: usize) -> usize {
-        self.attribute_word(self.attributes) + PARTICLE_ROW * row
+        self.attribute_word(self.attributes) + bim::PARTICLE_ROW * row
     }
 
     /// T.
@@ -245,7 +222,7 @@ impl<'a> Table<'a> {
     #[inline]
     pub fn type_row(&self, row: usize) -> Type {
         let at = self.type_word(row);
-        let words = &self.words[at..at + TYPE_ROW];
+        let words = &self.words[at..at + bim::TYPE_ROW];
         Type {
             held: words[0] == 1,
             content: words[1],
@@ -261,7 +238,7 @@ impl<'a> Table<'a> {
     #[inline]
     pub fn attribute_row(&self, row: usize) -> Attribute {
         let at = self.attribute_word(row);
-        let words = &self.words[at..at + ATTRIBUTE_ROW];
+        let words = &self.words[at..at + bim::ATTRIBUTE_ROW];
         Attribute { name: words[0], required: words[1] == 1, of_type: words[2] as usize }
     }
 
@@ -269,11 +246,11 @@ impl<'a> Table<'a> {
     #[inline]
     pub fn particle_row(&self, row: usize) -> Particle {
         let at = self.particle_word(row);
-        let words = &self.words[at..at + PARTICLE_ROW];
+        let words = &self.words[at..at + bim::PARTICLE_ROW];
         match words[0] {
-            0 => Particle::Element { name: words[1], of_type: words[2] as usize },
-            1 => Particle::Sequence { first: words[1] as usize, number: words[2] as usize },
-            2 => Particle::Choice { first: words[1] as usize, number: words[2] as usize },
+            bim::ELEMENT => Particle::Element { name: words[1], of_type: words[2] as usize },
+            bim::SEQUENCE => Particle::Sequence { first: words[1] as usize, number: words[2] as usize },
+            bim::CHOICE => Particle::Choice { first: words[1] as usize, number: words[2] as usize },
             _ => Particle::Occurs { child: words[1] as usize, least: words[2], most: words[3] },
         }
     }

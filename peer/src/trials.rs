@@ -1,22 +1,18 @@
 //! One trial is one seeded case of some kind, held against the demands.
 
-use crate::demands::{self, check_table, two_tables, ReadCall, Tally, WriteCall};
-use crate::gen;
+use crate::answer::{refusal, Answer, Path};
+use crate::bim;
+use crate::call::{Read, Write};
+use crate::demands::{self, check_table, two_tables, Tally};
+use crate::gen::{self, table_and_sample};
 use crate::rng::Rng;
+use crate::words::{big_endian, words_of};
 use crate::{bits, codes, host, model, reader, utf8, value, writer};
 
 /// The kinds of trial, by name.
 pub const KINDS: [&str; 10] = [
-    "valid lists",
-    "odd codes",
-    "damaged payloads",
-    "two tables",
-    "damaged lists",
-    "damaged tables",
-    "noise",
-    "codes alone",
-    "C boundary",
-    "deep lists",
+    "valid lists", "odd codes", "damaged payloads", "two tables", "damaged lists", "damaged tables", "noise",
+    "codes alone", "C boundary", "deep lists",
 ];
 
 /// How often each kind comes up among 21.
@@ -41,16 +37,6 @@ pub fn trial(tally: &mut Tally, seed: u64) -> (usize, Result<(), String>) {
     (kind, result)
 }
 
-/// A table that has lists, and a sample of them.
-pub(crate) fn table_and_sample(rng: &mut Rng, quirk: usize) -> (Vec<u32>, gen::Sample) {
-    loop {
-        let table = gen::table(rng);
-        if let Some(sample) = gen::sample(rng, &table, quirk) {
-            return (table, sample);
-        }
-    }
-}
-
 /// Event words and text bytes to lend for lists of about this size: mostly enough, else just short.
 fn rooms(rng: &mut Rng, events: usize, texts: usize) -> (usize, usize) {
     let event_words = match rng.below(6) {
@@ -71,16 +57,8 @@ fn rooms(rng: &mut Rng, events: usize, texts: usize) -> (usize, usize) {
 fn valid_list(tally: &mut Tally, rng: &mut Rng) -> Result<(), String> {
     let (table, sample) = table_and_sample(rng, 0);
     let payload = sample.payload();
-    let words = sample.events.concat();
-    let fits = payload.len() <= 8192 && sample.events.len() <= 2048;
-    let mut call = WriteCall {
-        table: &table,
-        root: sample.root,
-        mode: sample.mode,
-        events: &words,
-        texts: &sample.texts,
-        room: payload.len(),
-    };
+    let fits = payload.len() <= bim::MOST_PAYLOAD && sample.events.len() <= bim::MOST_EVENTS;
+    let mut call = sample.writing(&table, 0);
     let (answer, written) = demands::write(tally, &call)?;
     if answer.is_accepted() != fits {
         return Err(format!("a valid list gets {answer:?}"));
@@ -91,29 +69,23 @@ fn valid_list(tally: &mut Tally, rng: &mut Rng) -> Result<(), String> {
     if written != payload || answer.bits != sample.bits.len() {
         return Err(format!("{payload:02x?} should be written, not {written:02x?}"));
     }
-    let mut read_call = ReadCall {
-        table: &table,
-        root: sample.root,
-        payload: &payload,
-        event_words: words.len(),
-        text_room: sample.texts.len(),
-    };
+    let mut read_call = sample.reading(&table, call.events.len(), sample.texts.len());
     let outcome = demands::read(tally, &read_call)?;
     if outcome.list() != sample.events || outcome.text() != sample.texts {
         return Err(format!("{:?} reads as {:?}", sample.events, outcome.list()));
     }
-    // One unit less of each room: 21, 7 and 8.
+    // One unit less of each room.
     call.room -= 1;
     let short = demands::write(tally, &call)?.0.number;
     read_call.event_words -= 1;
     let few = demands::read(tally, &read_call)?.answer.number;
     read_call.event_words += 1;
-    let mut tight = 8;
+    let mut tight = bim::TEXT_ROOM;
     if !sample.texts.is_empty() {
         read_call.text_room -= 1;
         tight = demands::read(tally, &read_call)?.answer.number;
     }
-    if (short, few, tight) != (21, 7, 8) {
+    if (short, few, tight) != (bim::PAYLOAD_ROOM, bim::EVENT_ROOM, bim::TEXT_ROOM) {
         return Err(format!("short rooms give {short}, {few}, {tight}"));
     }
     Ok(())
@@ -125,27 +97,12 @@ fn deep_list(tally: &mut Tally, rng: &mut Rng) -> Result<(), String> {
     let Some(mut sample) = gen::deep_sample(rng, &table) else {
         return Ok(());
     };
-    let payload = sample.payload();
     if rng.one_in(3) {
         gen::damage_list(rng, &mut sample.events, &mut sample.texts);
     }
-    let list = WriteCall {
-        table: &table,
-        root: sample.root,
-        mode: sample.mode,
-        events: &sample.events.concat(),
-        texts: &sample.texts,
-        room: payload.len() + 9,
-    };
-    demands::write(tally, &list)?;
+    demands::write(tally, &sample.writing(&table, 9))?;
     let first = gen::let_go(rng, &table, 12);
-    let call = ReadCall {
-        table: &table,
-        root: sample.root,
-        payload: &payload,
-        event_words: 4 * sample.events.len() + 16,
-        text_room: sample.texts.len(),
-    };
+    let call = sample.reading(&table, 4 * sample.events.len() + 16, sample.texts.len());
     two_tables(tally, &first, &call)
 }
 
@@ -155,24 +112,22 @@ fn odd_codes(tally: &mut Tally, rng: &mut Rng) -> Result<(), String> {
     let (table, sample) = table_and_sample(rng, quirk);
     let (event_words, text_room) = rooms(rng, sample.events.len(), sample.texts.len());
     let table = gen::let_go(rng, &table, 5);
-    let call = ReadCall { table: &table, root: sample.root, payload: &sample.payload(), event_words, text_room };
-    demands::read(tally, &call).map(drop)
+    demands::read(tally, &sample.reading(&table, event_words, text_room)).map(drop)
 }
 
 /// A payload damaged from outside, now and then with a wrong root.
 fn damaged_payload(tally: &mut Tally, rng: &mut Rng) -> Result<(), String> {
     let (table, sample) = table_and_sample(rng, 0);
-    let mut payload = sample.payload();
-    gen::damage_payload(rng, &mut payload);
-    let (event_words, text_room) = rooms(rng, sample.events.len() + 3, sample.texts.len() + 8);
-    let table = gen::let_go(rng, &table, 5);
-    let root = match rng.below(40) {
-        0 => (sample.root.0, table[1] + rng.below(2) as u32),
-        1 => (gen::edge_word(rng), sample.root.1),
-        2 => (sample.root.0, gen::edge_word(rng)),
-        _ => sample.root,
-    };
-    let call = ReadCall { table: &table, root, payload: &payload, event_words, text_room };
+    let mut call = sample.reading(&table, 0, 0);
+    gen::damage_payload(rng, &mut call.payload);
+    (call.event_words, call.text_room) = rooms(rng, sample.events.len() + 3, sample.texts.len() + 8);
+    call.table = gen::let_go(rng, &table, 5);
+    match rng.below(40) {
+        0 => call.root.1 = table[1] + rng.below(2) as u32,
+        1 => call.root.0 = gen::edge_word(rng),
+        2 => call.root.1 = gen::edge_word(rng),
+        _ => {}
+    }
     demands::read(tally, &call).map(drop)
 }
 
@@ -180,20 +135,14 @@ fn damaged_payload(tally: &mut Tally, rng: &mut Rng) -> Result<(), String> {
 fn two_table_trial(tally: &mut Tally, rng: &mut Rng) -> Result<(), String> {
     let quirk = rng.pick(&[0, 0, 60]);
     let (table, sample) = table_and_sample(rng, quirk);
-    let mut payload = sample.payload();
+    let mut call = sample.reading(&table, 4 * sample.events.len() + 40, sample.texts.len() + 40);
     if rng.one_in(4) {
-        gen::damage_payload(rng, &mut payload);
+        gen::damage_payload(rng, &mut call.payload);
     }
     let second = gen::let_go(rng, &table, 8);
     let first = gen::let_go(rng, &second, 3);
-    let mut call = ReadCall {
-        table: &first,
-        root: sample.root,
-        payload: &payload,
-        event_words: 4 * sample.events.len() + 40,
-        text_room: sample.texts.len() + 40,
-    };
     // Room for the first, and not always for the second: the last part of demand 3.
+    call.table.clone_from(&first);
     let least = demands::read(tally, &call)?.answer;
     let tight = least.is_accepted() && least.events < sample.events.len() && rng.one_in(2);
     if tight {
@@ -202,41 +151,36 @@ fn two_table_trial(tally: &mut Tally, rng: &mut Rng) -> Result<(), String> {
     } else if rng.one_in(4) {
         (call.event_words, call.text_room) = rooms(rng, sample.events.len(), sample.texts.len());
     }
-    call.table = &second;
+    call.table = second;
     two_tables(tally, &first, &call)
 }
 
 /// A list damaged, a type let go, a wrong mode, root, room or shape.
 fn damaged_list(tally: &mut Tally, rng: &mut Rng) -> Result<(), String> {
-    let (mut table, sample) = table_and_sample(rng, 0);
-    let mut events = sample.events.clone();
-    let mut texts = sample.texts.clone();
+    let (table, mut sample) = table_and_sample(rng, 0);
     if !rng.one_in(4) {
-        gen::damage_list(rng, &mut events, &mut texts);
+        gen::damage_list(rng, &mut sample.events, &mut sample.texts);
     }
+    let mut call = sample.writing(&table, 0);
     if rng.one_in(5) {
-        table = gen::let_go(rng, &table, 4);
+        call.table = gen::let_go(rng, &table, 4);
     }
-    let mut words = events.concat();
     if rng.one_in(30) {
-        words.pop();
+        call.events.pop();
     }
-    let mode = match rng.below(10) {
-        0 => rng.below(5) as u32,
-        _ => sample.mode,
+    if rng.below(10) == 0 {
+        call.mode = rng.below(5) as u32;
+    }
+    match rng.below(30) {
+        0 => call.root.1 = gen::edge_word(rng),
+        1 => call.root.0 = gen::edge_word(rng),
+        _ => {}
+    }
+    call.room = match rng.below(8) {
+        0 => call.room.saturating_sub(1),
+        1 => rng.below(call.room + 1),
+        _ => call.room + rng.below(20),
     };
-    let root = match rng.below(30) {
-        0 => (sample.root.0, gen::edge_word(rng)),
-        1 => (gen::edge_word(rng), sample.root.1),
-        _ => sample.root,
-    };
-    let payload = sample.bits.len().div_ceil(8);
-    let room = match rng.below(8) {
-        0 => payload.saturating_sub(1),
-        1 => rng.below(payload + 1),
-        _ => payload + rng.below(20),
-    };
-    let call = WriteCall { table: &table, root, mode, events: &words, texts: &texts, room };
     demands::write(tally, &call).map(drop)
 }
 
@@ -254,19 +198,13 @@ fn damaged_table(tally: &mut Tally, rng: &mut Rng) -> Result<(), String> {
     }
     let fault = check_table(tally, &table)?;
     let root = (rng.below(9) as u32, rng.below(3) as u32);
-    let read = ReadCall { table: &table, root, payload: &gen::noise(rng), event_words: 400, text_room: 100 };
+    let read = Read { table: table.clone(), root, payload: gen::noise(rng), event_words: 400, text_room: 100 };
     let read = demands::read(tally, &read)?.answer;
-    let list = WriteCall {
-        table: &table,
-        root,
-        mode: rng.below(4) as u32,
-        events: &[1, root.0, 0, 0, 6, 0, 0, 0],
-        texts: &[],
-        room: 40,
-    };
+    let events = vec![bim::KIND_START, root.0, 0, 0, bim::KIND_END, 0, 0, 0];
+    let list = Write { table, root, mode: rng.below(4) as u32, events, texts: vec![], room: 40 };
     let written = demands::write(tally, &list)?.0;
     for answer in [read, written] {
-        let named = (answer.number == 1).then_some(answer.place as usize);
+        let named = (answer.number == bim::TABLE).then_some(answer.place as usize);
         if named != fault {
             return Err(format!("the check names {fault:?}, a call {answer:?}"));
         }
@@ -280,19 +218,13 @@ fn noise(tally: &mut Tally, rng: &mut Rng) -> Result<(), String> {
     let first = gen::let_go(rng, &table, 4);
     let payload = gen::noise(rng);
     let (event_words, text_room) = rooms(rng, 100, 40);
-    let call = ReadCall {
-        table: &table,
-        root: (rng.below(50) as u32, rng.below(table[1] as usize) as u32),
-        payload: &payload,
-        event_words,
-        text_room,
-    };
+    let root = (rng.below(50) as u32, rng.below(table[1] as usize) as u32);
+    let call = Read { table, root, payload, event_words, text_room };
     two_tables(tally, &first, &call)?;
     // The same bits as a list.
-    let words: Vec<_> = (0..4 * rng.below(6)).map(|_| rng.below(9) as u32).collect();
-    let call =
-        WriteCall { table: &table, root: call.root, mode: rng.below(3) as u32, events: &words, texts: &[], room: 40 };
-    demands::write(tally, &call).map(drop)
+    let events: Vec<_> = (0..4 * rng.below(6)).map(|_| rng.below(9) as u32).collect();
+    let mode = rng.below(3) as u32;
+    demands::write(tally, &Write { table: call.table, root, mode, events, texts: vec![], room: 40 }).map(drop)
 }
 
 /// Every code by itself, from any bit up to any wall, against the model's; then written and read back.
@@ -330,7 +262,7 @@ fn codes_alone(rng: &mut Rng) -> Result<(), String> {
 
     let (least, most) = loop {
         let (least, most) = (gen::edge_word(rng), gen::edge_word(rng));
-        if least <= 65_535 && (1..=65_536).contains(&most) && least <= most {
+        if least <= bim::MOST_COUNT && (1..=bim::UNBOUNDED).contains(&most) && least <= most {
             break (least, most);
         }
     };
@@ -340,11 +272,11 @@ fn codes_alone(rng: &mut Rng) -> Result<(), String> {
 
     let kind = rng.below(7) as u32;
     let (b, c) = match kind {
-        value::RANGED => {
+        bim::RANGED => {
             let (one, two) = (gen::edge_word(rng) as i32, gen::edge_word(rng) as i32);
             (one.min(two) as u32, one.max(two) as u32)
         }
-        value::ENUMERATION => (rng.within(1, 65_536) as u32, 0),
+        bim::ENUMERATION => (rng.within(1, bim::MOST_ENUMERATION as usize) as u32, 0),
         _ => (0, 0),
     };
     let got = value::read(kind, b, c, &payload, end, at).map(|read| (read.word, read.text, read.bits));
@@ -381,12 +313,8 @@ fn with_bits<'a, T>(
     Ok((value, fetch.at - at))
 }
 
-fn big_endian(words: &[u32]) -> Vec<u8> {
-    words.iter().flat_map(|word| word.to_be_bytes()).collect()
-}
-
 /// The area that an answer fills.
-fn area_of(answer: &crate::answer::Answer) -> Vec<u8> {
+fn area_of(answer: &Answer) -> Vec<u8> {
     let names = answer.path.names();
     let mut area = big_endian(&[
         answer.place as u32,
@@ -397,7 +325,7 @@ fn area_of(answer: &crate::answer::Answer) -> Vec<u8> {
         names.len() as u32,
     ]);
     area.extend(names.iter().flat_map(|name| name.to_be_bytes()));
-    area.resize(152, 0);
+    area.resize(bim::AREA, 0);
     area
 }
 
@@ -419,14 +347,13 @@ fn boundary(rng: &mut Rng) -> Result<(), String> {
         table_bytes.extend(vec![0xdd; more]);
     }
     let whole = table.len();
-    let area_bytes = if rng.one_in(10) { rng.below(300) } else { 152 };
+    let area_bytes = if rng.one_in(10) { rng.below(300) } else { bim::AREA };
     let fault = match model::check_table(&table) {
         Some(word) if word < 4 => Some(word),
         _ if ragged => Some(whole),
         fault => fault,
     };
-    let refusal =
-        |word: usize| crate::answer::Answer::refused(crate::answer::refusal(1, word), crate::answer::Path::empty());
+    let refused = |word: usize| Answer::refused(refusal(bim::TABLE, word), Path::empty());
     let agree = |what: &str, got: (u32, Vec<u8>, Vec<u8>), expected: (u32, Vec<u8>, Vec<u8>)| {
         if got == expected {
             return Ok(());
@@ -438,9 +365,9 @@ fn boundary(rng: &mut Rng) -> Result<(), String> {
     let mut area = vec![0xdd; area_bytes];
     let number = host::check_table(&table_bytes, &mut area);
     let expected = match (area_bytes, fault) {
-        (152, None) => (0, vec![0; 152], vec![]),
-        (152, Some(word)) => (1, area_of(&refusal(word)), vec![]),
-        _ => (24, zeros(&area), vec![]),
+        (bim::AREA, None) => (bim::ACCEPTED, vec![0; bim::AREA], vec![]),
+        (bim::AREA, Some(word)) => (bim::TABLE, area_of(&refused(word)), vec![]),
+        _ => (bim::AREA_SIZE, zeros(&area), vec![]),
     };
     agree("bim_check_table", (number, area, vec![]), expected)?;
 
@@ -451,10 +378,10 @@ fn boundary(rng: &mut Rng) -> Result<(), String> {
     let number = host::read(&table_bytes, name, of_type, &payload, &mut events, &mut texts, &mut area);
     let mut out = events.clone();
     out.extend(&texts);
-    let expected = if area_bytes != 152 {
-        (24, zeros(&area), zeros(&out))
+    let expected = if area_bytes != bim::AREA {
+        (bim::AREA_SIZE, zeros(&area), zeros(&out))
     } else if let Some(word) = fault {
-        (1, area_of(&refusal(word)), zeros(&out))
+        (bim::TABLE, area_of(&refused(word)), zeros(&out))
     } else {
         let mut words = vec![0; 4 * (events.len() / 16)];
         let mut text = vec![0; texts.len()];
@@ -475,15 +402,15 @@ fn boundary(rng: &mut Rng) -> Result<(), String> {
     let mut out = vec![0xdd; sample.bits.len().div_ceil(8) + rng.below(4)];
     let mut area = vec![0xdd; area_bytes];
     let number = host::write(&table_bytes, name, of_type, mode, &list, &sample.texts, &mut out, &mut area);
-    let expected = if area_bytes != 152 {
-        (24, zeros(&area), zeros(&out))
+    let expected = if area_bytes != bim::AREA {
+        (bim::AREA_SIZE, zeros(&area), zeros(&out))
     } else if let Some(word) = fault {
-        (1, area_of(&refusal(word)), zeros(&out))
+        (bim::TABLE, area_of(&refused(word)), zeros(&out))
     } else {
         // Bytes over a whole word read as one more word: the list is as ragged, and its events as many.
         let mut words: Vec<_> = list.chunks(4).map(|word| u32::from_be_bytes([word[0], 0, 0, 0])).collect();
         if list.len().is_multiple_of(4) {
-            words = list.chunks_exact(4).map(|word| u32::from_be_bytes([word[0], word[1], word[2], word[3]])).collect();
+            words = words_of(&list);
         } else if list.len() % 16 > 12 {
             words.pop();
         }

@@ -1,6 +1,6 @@
 //! UTF-8 as RFC 3629 has it: shortest forms, no surrogates, nothing above U+10FFFF.
 
-use crate::answer::number::NOT_UTF8;
+use crate::bim;
 use crate::bits::load64;
 
 const ALL_TOP_BITS: u64 = 0x8080_8080_8080_8080;
@@ -21,7 +21,7 @@ pub fn check_at(payload: &[u8], at: usize, count: usize) -> u32 {
         }
         match character((window >> 32) as u32, count - done) {
             Some(bytes) => done += bytes,
-            None => return NOT_UTF8,
+            None => return bim::NOT_UTF8,
         }
     }
     0

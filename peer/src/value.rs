@@ -1,27 +1,9 @@
 //! Simple values, kinds 0 to 6.
 
-use crate::answer::number::{MINUS_ZERO, NOT_UTF8, OUTSIDE_ROW, PAST_END, TOO_LARGE};
+use crate::bim;
 use crate::bits::{fixed, Code};
 use crate::codes::{read_choice, read_range, strict5, write5, write_choice, write_range, Taken};
 use crate::utf8;
-
-/// 1 bit.
-pub const BOOLEAN: u32 = 0;
-/// From b to c.
-pub const RANGED: u32 = 1;
-/// vluimsbf5.
-pub const UNSIGNED: u32 = 2;
-/// A sign bit, then vluimsbf5 of the magnitude.
-pub const SIGNED: u32 = 3;
-/// An index below b.
-pub const ENUMERATION: u32 = 4;
-/// vluimsbf5 of the byte count (001, 8.5.4.1), then UTF-8.
-pub const TEXT: u32 = 5;
-/// 32 bits, kept as they are.
-pub const FLOAT: u32 = 6;
-
-/// The most bytes of a text.
-pub const MOST_TEXT: u32 = 4095;
 
 /// A simple value as it was read. A text's bytes are the last `8 * text` of its bits.
 #[derive(Clone, Copy, Debug, PartialEq, Eq)]
@@ -38,13 +20,13 @@ pub struct Value {
 #[inline]
 pub fn read(kind: u32, b: u32, c: u32, payload: &[u8], end: usize, at: usize) -> Result<Value, u32> {
     let taken = match kind {
-        BOOLEAN => read_choice(2, payload, end, at)?,
-        RANGED => read_range(b as i32, c as i32, payload, end, at)?,
-        UNSIGNED => strict5(payload, end, at)?,
-        SIGNED => read_signed(payload, end, at)?,
-        ENUMERATION => read_choice(b, payload, end, at)?,
-        TEXT => return read_text(payload, end, at),
-        FLOAT => Taken { value: fixed(payload, end, at, 32)?, bits: 32 },
+        bim::BOOLEAN => read_choice(2, payload, end, at)?,
+        bim::RANGED => read_range(b as i32, c as i32, payload, end, at)?,
+        bim::UNSIGNED => strict5(payload, end, at)?,
+        bim::SIGNED => read_signed(payload, end, at)?,
+        bim::ENUMERATION => read_choice(b, payload, end, at)?,
+        bim::TEXT => return read_text(payload, end, at),
+        bim::FLOAT => Taken { value: fixed(payload, end, at, 32)?, bits: 32 },
         _ => unreachable!("the table check lets no other kind through"),
     };
     Ok(Value { word: taken.value, bits: taken.bits, text: 0 })
@@ -57,10 +39,10 @@ fn read_signed(payload: &[u8], end: usize, at: usize) -> Result<Taken, u32> {
     let magnitude = strict5(payload, end, at + 1)?;
     let most = if negative { 1 << 31 } else { (1 << 31) - 1 };
     if magnitude.value > most {
-        return Err(TOO_LARGE);
+        return Err(bim::TOO_LARGE);
     }
     if negative && magnitude.value == 0 {
-        return Err(MINUS_ZERO);
+        return Err(bim::MINUS_ZERO);
     }
     Ok(Taken {
         value: if negative { magnitude.value.wrapping_neg() } else { magnitude.value },
@@ -72,16 +54,16 @@ fn read_signed(payload: &[u8], end: usize, at: usize) -> Result<Taken, u32> {
 #[inline]
 fn read_text(payload: &[u8], end: usize, at: usize) -> Result<Value, u32> {
     let count = strict5(payload, end, at)?;
-    if count.value > MOST_TEXT {
-        return Err(TOO_LARGE);
+    if count.value > bim::MOST_TEXT {
+        return Err(bim::TOO_LARGE);
     }
     let text = count.value as usize;
     let first = at + count.bits;
     if 8 * text > end - first {
-        return Err(PAST_END);
+        return Err(bim::PAST_END);
     }
     if utf8::check_at(payload, first, text) != 0 {
-        return Err(NOT_UTF8);
+        return Err(bim::NOT_UTF8);
     }
     Ok(Value { word: count.value, bits: count.bits + 8 * text, text })
 }
@@ -90,17 +72,17 @@ fn read_text(payload: &[u8], end: usize, at: usize) -> Result<Value, u32> {
 #[inline]
 pub fn write(kind: u32, b: u32, c: u32, word: u32) -> Result<Code, u32> {
     let code = match kind {
-        BOOLEAN => write_choice(2, word),
-        RANGED => write_range(b as i32, c as i32, word),
-        UNSIGNED => Some(write5(word)),
-        SIGNED => {
+        bim::BOOLEAN => write_choice(2, word),
+        bim::RANGED => write_range(b as i32, c as i32, word),
+        bim::UNSIGNED => Some(write5(word)),
+        bim::SIGNED => {
             let negative = (word as i32) < 0;
             Some(Code::new(u32::from(negative), 1).then(write5((word as i32).unsigned_abs())))
         }
-        ENUMERATION => write_choice(b, word),
-        TEXT => (word <= MOST_TEXT).then(|| write5(word)),
-        FLOAT => Some(Code::new(word, 32)),
+        bim::ENUMERATION => write_choice(b, word),
+        bim::TEXT => (word <= bim::MOST_TEXT).then(|| write5(word)),
+        bim::FLOAT => Some(Code::new(word, 32)),
         _ => unreachable!("the table check lets no other kind through"),
     };
-    code.ok_or(OUTSIDE_ROW)
+    code.ok_or(bim::OUTSIDE_ROW)
 }

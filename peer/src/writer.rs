@@ -2,17 +2,14 @@
 //!
 //! The walk judges every event and gathers its code; a Start's length is known at its End. Then the codes are put out.
 
-use crate::answer::{kind, number, refusal, Answer, Path, Refusal};
-use crate::answer::{MOST_BYTES, MOST_EVENTS, MOST_OPEN};
+use crate::answer::{refusal, Answer, Path, Refusal};
+use crate::bim;
 use crate::bits::{BitWriter, Code};
 use crate::codes::{write5, write_choice, write_occurs};
 use crate::reader::check_root;
-use crate::table::{content, Particle, Table, Type};
+use crate::table::{Particle, Table, Type};
 use crate::utf8;
 use crate::value;
-
-/// Mode bytes of the length coding modes 0, 1 and 2.
-const MODE_BYTES: [u8; 3] = [0x0f, 0x4f, 0x8f];
 
 /// Writes `events` with `texts` into `payload`. Bytes past the payload become 0; on refusal all do.
 pub fn write(
@@ -25,7 +22,7 @@ pub fn write(
     payload: &mut [u8],
 ) -> Answer {
     let written = check_call(table, root_name, root_type, mode).and_then(|table| {
-        check_shape(events.len(), 4)?;
+        check_shape(events.len(), bim::EVENT_WORDS)?;
         write_into(table, root_name, root_type, mode, events, texts, payload)
     });
     answer(written, payload)
@@ -40,7 +37,7 @@ pub fn refuse_shape(
     bytes: usize,
     payload: &mut [u8],
 ) -> Answer {
-    let refused = check_call(table, root_name, root_type, mode).and(Err(refusal(number::NO_READING, bytes / 16)));
+    let refused = check_call(table, root_name, root_type, mode).and(Err(refusal(bim::NO_READING, bytes / bim::EVENT)));
     answer(refused, payload)
 }
 
@@ -54,16 +51,16 @@ fn answer(written: Result<Answer, Refusal>, payload: &mut [u8]) -> Answer {
 /// What can be refused before the list is looked at: 1, 2, 22.
 fn check_call(table: &[u32], root_name: u32, root_type: u32, mode: u32) -> Result<Table<'_>, Refusal> {
     let table = check_root(table, root_name, root_type)?;
-    if mode > 2 {
-        return Err(refusal(number::WRITE_MODE, 0));
+    if mode > bim::MODE_ALWAYS {
+        return Err(refusal(bim::WRITE_MODE, 0));
     }
     Ok(table)
 }
 
 /// A list of `units` words or bytes, `event` to an event: whole events, and at most 2,048 of them.
 pub fn check_shape(units: usize, event: usize) -> Result<(), Refusal> {
-    if !units.is_multiple_of(event) || units / event > MOST_EVENTS {
-        return Err(refusal(number::NO_READING, units / event));
+    if !units.is_multiple_of(event) || units / event > bim::MOST_EVENTS {
+        return Err(refusal(bim::NO_READING, units / event));
     }
     Ok(())
 }
@@ -77,22 +74,22 @@ fn write_into(
     texts: &[u8],
     payload: &mut [u8],
 ) -> Result<Answer, Refusal> {
-    let count = events.len() / 4;
+    let count = events.len() / bim::EVENT_WORDS;
     let mut walk = Walk { table, mode, events, texts, next: 0, used: 0, bits: 8, pieces: Vec::with_capacity(count) };
-    walk.element(root_name, root_type as usize, MOST_OPEN)?;
+    walk.element(root_name, root_type as usize, bim::MOST_OPEN)?;
     if walk.next < count {
-        let number = if walk.event()?.kind == kind::BLANK { number::BLANK } else { number::NO_READING };
+        let number = if walk.event()?.kind == bim::KIND_BLANK { bim::BLANK } else { bim::NO_READING };
         return Err(refusal(number, walk.next));
     }
     if walk.used < texts.len() {
-        return Err(refusal(number::TEXT_BYTES, count));
+        return Err(refusal(bim::TEXT_BYTES, count));
     }
     let bytes = walk.bits.div_ceil(8);
-    if bytes > MOST_BYTES || bytes > payload.len() {
-        return Err(refusal(number::PAYLOAD_ROOM, 0));
+    if bytes > bim::MOST_PAYLOAD || bytes > payload.len() {
+        return Err(refusal(bim::PAYLOAD_ROOM, 0));
     }
     let mut out = BitWriter::new(payload);
-    out.put(Code::new(u32::from(MODE_BYTES[mode as usize]), 8));
+    out.put(Code::new(u32::from(bim::MODE_BYTES[mode as usize]), 8));
     let mut rest = texts;
     for piece in &walk.pieces {
         out.put(piece.code);
@@ -137,26 +134,26 @@ impl Walk<'_> {
     fn element(&mut self, name: u32, of_type: usize, open: usize) -> Result<(), Refusal> {
         let open = self.enter(open)?;
         let row = self.table.type_row(of_type);
-        let start = self.take(kind::START, |event| {
+        let start = self.take(bim::KIND_START, |event| {
             let flag_good = match self.mode {
-                0 => event.q == 0,
-                1 => event.q <= 1,
+                bim::MODE_NONE => event.q == 0,
+                bim::MODE_OPTIONAL => event.q <= 1,
                 _ => event.q == 1,
             };
             event.p == name && flag_good
         })?;
         if !row.held {
-            return self.refuse(number::NOT_HELD);
+            return self.refuse(bim::NOT_HELD);
         }
         let piece = self.pieces.len();
         self.put(Code::NONE);
         let before = self.bits;
         self.attributes(&row)?;
         self.content(&row, open)?;
-        self.take(kind::END, |event| event.p == 0 && event.q == 0)?;
+        self.take(bim::KIND_END, |event| event.p == 0 && event.q == 0)?;
         self.put(Code::NONE);
 
-        let flag = if self.mode == 1 { Code::new(start.q, 1) } else { Code::NONE };
+        let flag = if self.mode == bim::MODE_OPTIONAL { Code::new(start.q, 1) } else { Code::NONE };
         let length = if start.q == 1 {
             // 2,048 texts of 4,095 bytes stay far below 2^32 bits.
             write5((self.bits - before) as u32)
@@ -174,7 +171,7 @@ impl Walk<'_> {
             let attribute = self.table.attribute_row(index);
             let least = u32::from(attribute.required);
             let event =
-                self.take(kind::ATTRIBUTE, |event| event.p == attribute.name && (least..=1).contains(&event.q))?;
+                self.take(bim::KIND_ATTRIBUTE, |event| event.p == attribute.name && (least..=1).contains(&event.q))?;
             self.put(if attribute.required { Code::NONE } else { Code::new(event.q, 1) });
             if event.q == 1 {
                 let of_type = self.table.type_row(attribute.of_type);
@@ -186,25 +183,25 @@ impl Walk<'_> {
 
     fn content(&mut self, row: &Type, open: usize) -> Result<(), Refusal> {
         match row.content {
-            content::EMPTY => Ok(()),
-            content::SIMPLE => self.value(row),
+            bim::EMPTY => Ok(()),
+            bim::SIMPLE => self.value(row),
             _ => self.particle(row.a as usize, open),
         }
     }
 
     fn value(&mut self, row: &Type) -> Result<(), Refusal> {
-        let event = self.take(kind::VALUE, |event| event.q == 0)?;
+        let event = self.take(bim::KIND_VALUE, |event| event.q == 0)?;
         let code = match value::write(row.a, row.b, row.c, event.p) {
             Ok(code) => code,
             Err(number) => return self.refuse(number),
         };
-        let text = if row.a == value::TEXT { event.p as usize } else { 0 };
+        let text = if row.a == bim::TEXT { event.p as usize } else { 0 };
         let left = &self.texts[self.used..];
         if text > left.len() {
-            return self.refuse(number::TEXT_BYTES);
+            return self.refuse(bim::TEXT_BYTES);
         }
         if utf8::check(&left[..text]) != 0 {
-            return self.refuse(number::NOT_UTF8);
+            return self.refuse(bim::NOT_UTF8);
         }
         self.put(code);
         self.put_text(text);
@@ -220,12 +217,12 @@ impl Walk<'_> {
             }
             Particle::Choice { first, number } => {
                 let open = self.enter(open)?;
-                let branch = self.number(kind::PICK, |p| write_choice(number as u32, p))?;
+                let branch = self.number(bim::KIND_PICK, |p| write_choice(number as u32, p))?;
                 self.particle(first + branch as usize, open)
             }
             Particle::Occurs { child, least, most } => {
                 let open = self.enter(open)?;
-                let count = self.number(kind::TIMES, |p| write_occurs(least, most, p))?;
+                let count = self.number(bim::KIND_TIMES, |p| write_occurs(least, most, p))?;
                 (0..count).try_for_each(|_| self.particle(child, open))
             }
         }
@@ -236,7 +233,7 @@ impl Walk<'_> {
         let event = self.take(kind, |event| event.q == 0)?;
         match code(event.p) {
             Some(code) => self.put(code),
-            None => return self.refuse(number::OUTSIDE_ROW),
+            None => return self.refuse(bim::OUTSIDE_ROW),
         }
         Ok(event.p)
     }
@@ -244,25 +241,25 @@ impl Walk<'_> {
     /// One more row is opened, if one may be. An event is wanted in it, and its lack (18) stands before 6.
     fn enter(&self, open: usize) -> Result<usize, Refusal> {
         self.event()?;
-        open.checked_sub(1).ok_or(refusal(number::TOO_DEEP, self.next))
+        open.checked_sub(1).ok_or(refusal(bim::DEPTH, self.next))
     }
 
     /// The next event; 18 at the count where none is left.
     fn event(&self) -> Result<Event, Refusal> {
         match self.events.get(4 * self.next..4 * self.next + 4) {
             Some(&[kind, p, q, _]) => Ok(Event { kind, p, q }),
-            _ => Err(refusal(number::NO_READING, self.next)),
+            _ => Err(refusal(bim::NO_READING, self.next)),
         }
     }
 
     /// The next event, judged but not yet passed: a Blank is 19, one of another kind or with wrong words is 18.
     fn take(&self, kind: u32, good: impl Fn(Event) -> bool) -> Result<Event, Refusal> {
         let event = self.event()?;
-        if event.kind == kind::BLANK {
-            return self.refuse(number::BLANK);
+        if event.kind == bim::KIND_BLANK {
+            return self.refuse(bim::BLANK);
         }
         if event.kind != kind || !good(event) {
-            return self.refuse(number::NO_READING);
+            return self.refuse(bim::NO_READING);
         }
         Ok(event)
     }

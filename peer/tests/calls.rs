@@ -1,13 +1,14 @@
 //! The comparison of the C calls notices every one of these faults in a stand-in, and none in the peer itself.
 
-use peer::calls::{run, Calls};
+#[macro_use]
+mod common;
+
+use peer::bim;
+use peer::calls::{run, Calls, Reading, Writing};
 use peer::host;
 use std::hint::black_box;
 
-/// Where a stand-in departs from the peer.
-#[derive(Clone, Copy, Debug, PartialEq, Eq)]
-enum Fault {
-    None,
+faults! {
     /// The area keeps a byte of what stood there.
     AreaByteLeft,
     /// A refused reading leaves its events.
@@ -54,7 +55,7 @@ use Fault::*;
 struct StandIn(Fault);
 
 fn blank_in(events: &mut [u8]) -> Option<&mut [u8]> {
-    events.chunks_exact_mut(16).find(|event| event[..4] == [0, 0, 0, 7])
+    events.chunks_exact_mut(16).find(|event| event[..4] == bim::KIND_BLANK.to_be_bytes())
 }
 
 /// Reads where a faulty library would. The bench lends every buffer between guards, so that the byte is there.
@@ -78,21 +79,14 @@ impl Calls for StandIn {
         let kept = area.get(151).copied();
         let number = host::check_table(table, area);
         match kept {
-            Some(byte) if self.0 == AreaByteLeft && number == 1 => area[151] = byte,
+            Some(byte) if self.0 == AreaByteLeft && number == bim::TABLE => area[151] = byte,
             _ => {}
         }
         number
     }
 
-    fn read(
-        &self,
-        table: &[u8],
-        (mut name, of_type): (u32, u32),
-        payload: &[u8],
-        events: &mut [u8],
-        texts: &mut [u8],
-        area: &mut [u8],
-    ) -> u32 {
+    fn read(&self, lent: Reading<'_>) -> u32 {
+        let Reading { table, root: (mut name, of_type), payload, events, texts, area } = lent;
         if self.0 == RootWraps {
             name &= 0xffff;
         }
@@ -107,23 +101,23 @@ impl Calls for StandIn {
         let number = host::read(table, name, of_type, given, events, texts, area);
         let whole = old_events.len() / 16 * 16;
         match self.0 {
-            EventsLeft if number == 11 => events.copy_from_slice(&old_events),
+            EventsLeft if number == bim::CONTENT_SHORT => events.copy_from_slice(&old_events),
             OddBytesLeft => events[whole..].copy_from_slice(&old_events[whole..]),
-            TextsLeft if number == 0 => {
+            TextsLeft if number == bim::ACCEPTED => {
                 let used = u32::from_be_bytes(area[12..16].try_into().unwrap()) as usize;
                 texts[used..].copy_from_slice(&old_texts[used..]);
             }
-            AreaRefusedTextsLeft if number == 24 => texts.copy_from_slice(&old_texts),
+            AreaRefusedTextsLeft if number == bim::AREA_SIZE => texts.copy_from_slice(&old_texts),
             BeforeEvents => flip(events.as_mut_ptr().wrapping_sub(1)),
             BehindTexts => flip(texts.as_mut_ptr().wrapping_add(texts.len())),
             InputTouched if !payload.is_empty() => flip(payload.as_ptr().cast_mut()),
-            PathLonger if number == 17 => area[23] += 1,
+            PathLonger if number == bim::LEFT_OVER => area[23] += 1,
             BlankShort => {
                 if let Some(blank) = blank_in(events) {
                     blank[15] = blank[15].wrapping_sub(1);
                 }
             }
-            BlankTexts if number == 0 && blank_in(events).is_some() => {
+            BlankTexts if number == bim::ACCEPTED && blank_in(events).is_some() => {
                 let used = u32::from_be_bytes(area[12..16].try_into().unwrap()) as usize;
                 if let Some(byte) = texts.get_mut(used) {
                     *byte = b'a';
@@ -135,16 +129,8 @@ impl Calls for StandIn {
         number
     }
 
-    fn write(
-        &self,
-        table: &[u8],
-        (name, of_type): (u32, u32),
-        mode: u32,
-        events: &[u8],
-        texts: &[u8],
-        payload: &mut [u8],
-        area: &mut [u8],
-    ) -> u32 {
+    fn write(&self, lent: Writing<'_>) -> u32 {
+        let Writing { table, root: (name, of_type), mode, events, texts, payload, area } = lent;
         if self.0 == RoomOneShort {
             let most = payload.len().saturating_sub(1);
             payload[most..].fill(0);
@@ -152,21 +138,21 @@ impl Calls for StandIn {
         }
         let mut number = host::write(table, name, of_type, mode, events, texts, payload, area);
         match self.0 {
-            PayloadByteLeft if number == 23 && !payload.is_empty() => payload[0] = 0x0f,
-            FourthWord if number == 0 && events.chunks_exact(16).any(|event| event[12] != 0) => {
-                number = 18;
+            PayloadByteLeft if number == bim::TEXT_BYTES && !payload.is_empty() => payload[0] = 0x0f,
+            FourthWord if number == bim::ACCEPTED && events.chunks_exact(16).any(|event| event[12] != 0) => {
+                number = bim::NO_READING;
                 payload.fill(0);
                 area.fill(0);
             }
-            LateBlank if number == 19 && area[..4] == ((events.len() / 16 - 1) as u32).to_be_bytes() => number = 18,
-            LongListPlace if number == 18 && events.len() / 16 > 2048 => area[3] = area[3].wrapping_add(1),
+            LateBlank if number == bim::BLANK && area[..4] == ((events.len() / 16 - 1) as u32).to_be_bytes() => {
+                number = bim::NO_READING
+            }
+            LongListPlace if number == bim::NO_READING && events.len() / 16 > bim::MOST_EVENTS => {
+                area[3] = area[3].wrapping_add(1)
+            }
             _ => {}
         }
         number
-    }
-
-    fn writes(&self) -> bool {
-        true
     }
 }
 
@@ -177,28 +163,7 @@ fn the_peer_itself_has_no_fault() {
 
 #[test]
 fn every_fault_is_noticed() {
-    for fault in [
-        AreaByteLeft,
-        EventsLeft,
-        OddBytesLeft,
-        TextsLeft,
-        AreaRefusedTextsLeft,
-        LargerArea,
-        RaggedTable,
-        RootWraps,
-        BeforeEvents,
-        BehindTexts,
-        InputTouched,
-        PathLonger,
-        BlankShort,
-        BlankTexts,
-        ReadsOn,
-        PayloadByteLeft,
-        FourthWord,
-        RoomOneShort,
-        LateBlank,
-        LongListPlace,
-    ] {
+    for &fault in FAULTS {
         assert!(run(&StandIn(fault), 2_500, 1).differing() > 0, "{fault:?}");
     }
 }

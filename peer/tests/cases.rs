@@ -14,19 +14,14 @@ fn every_named_case_gives_its_answer() {
 fn the_named_cases_reach_every_number() {
     let mut tally = Tally::default();
     for case in cases::all() {
-        let _ = named(&mut tally, &case);
+        let _ = named(&mut tally, case);
     }
-    for number in 1..=17 {
-        assert!(tally.read[number] > 0, "reader {number}");
-    }
-    for number in [1, 2, 6, 9, 16, 18, 19, 20, 21, 22, 23] {
-        assert!(tally.written[number] > 0, "writer {number}");
-    }
+    assert!(tally.is_whole());
 }
 
 #[test]
 fn names_are_told_apart() {
-    let mut names: Vec<_> = cases::all().into_iter().map(|case| case.name).collect();
+    let mut names: Vec<_> = cases::all().iter().map(|case| &case.name).collect();
     let count = names.len();
     names.sort();
     names.dedup();

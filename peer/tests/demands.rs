@@ -4,7 +4,9 @@ mod common;
 
 use common::{worked_table, WORKED_PAYLOAD};
 use peer::answer::{refusal, Answer, Path};
-use peer::demands::{self, judge_pair, Outcome, Pair, ReadCall, Tally};
+use peer::bim;
+use peer::call::Read;
+use peer::demands::{self, judge_pair, Outcome, Pair, Tally};
 use peer::trials::{trial, KINDS};
 
 #[test]
@@ -17,7 +19,7 @@ fn the_demands_hold_for_some_thousand_seeds() {
         assert_eq!(result, Ok(()), "seed {seed}");
     }
     assert!(!kinds.contains(&0), "{kinds:?}");
-    assert!(tally.read[0] > 0 && tally.written[0] > 0 && tally.blanks > 0);
+    assert!(tally.met.has_met(&[("reader", &[bim::ACCEPTED]), ("writer", &[bim::ACCEPTED])]) && tally.blanks > 0);
 }
 
 #[test]
@@ -26,14 +28,20 @@ fn demand_3_judges_answers_that_nobody_should_give() {
     let mut first_table = second_table.clone();
     first_table[4 + 7 * 3] = 0;
     let read = |table: &[u32]| {
-        let call = ReadCall { table, root: (10, 0), payload: &WORKED_PAYLOAD, event_words: 400, text_room: 40 };
+        let call = Read {
+            table: table.to_vec(),
+            root: (10, 0),
+            payload: WORKED_PAYLOAD.to_vec(),
+            event_words: 400,
+            text_room: 40,
+        };
         demands::read(&mut Tally::default(), &call).unwrap()
     };
     let (first, second) = (read(&first_table), read(&second_table));
     let judge = |first: &Outcome, second: &Outcome| judge_pair(&first_table, &second_table, (10, 0), first, second);
     assert_eq!(judge(&first, &second), Ok(Pair::Blanked));
 
-    let blank = first.list().iter().position(|event| event[0] == 7).unwrap();
+    let blank = first.list().iter().position(|event| event[0] == bim::KIND_BLANK).unwrap();
     let mut short = first.clone();
     short.events[4 * blank + 3] -= 1;
     assert!(judge(&short, &second).is_err(), "a Blank one bit short");
@@ -47,13 +55,13 @@ fn demand_3_judges_answers_that_nobody_should_give() {
         path.iter().for_each(|&name| open.push(name));
         Outcome { answer: Answer::refused(refusal(number, place), open), events: vec![], texts: vec![] }
     };
-    assert!(judge(&refuses(9, 18, &[10]), &second).is_err(), "refused in spite of its length");
+    assert!(judge(&refuses(bim::NOT_HELD, 18, &[10]), &second).is_err(), "refused in spite of its length");
 
     let place = 8 + first.list()[..blank].iter().map(|event| event[3] as usize).sum::<usize>();
-    let inside = refuses(16, place + 5, &[10, 11]);
+    let inside = refuses(bim::NOT_UTF8, place + 5, &[10, 11]);
     assert_eq!(judge(&first, &inside), Ok(Pair::SecondRefuses));
-    assert_eq!(judge(&first, &refuses(7, place, &[10])), Ok(Pair::SecondLacksRoom));
-    assert!(judge(&first, &refuses(16, place + 5, &[10])).is_err(), "refused where no Blank is open");
-    assert!(judge(&first, &refuses(16, 8, &[10, 11])).is_err(), "refused before the Blank");
-    assert!(judge(&first, &refuses(16, 67, &[10, 11])).is_err(), "refused behind the Blank");
+    assert_eq!(judge(&first, &refuses(bim::EVENT_ROOM, place, &[10])), Ok(Pair::SecondLacksRoom));
+    assert!(judge(&first, &refuses(bim::NOT_UTF8, place + 5, &[10])).is_err(), "refused where no Blank is open");
+    assert!(judge(&first, &refuses(bim::NOT_UTF8, 8, &[10, 11])).is_err(), "refused before the Blank");
+    assert!(judge(&first, &refuses(bim::NOT_UTF8, 67, &[10, 11])).is_err(), "refused behind the Blank");
 }

@@ -4,10 +4,7 @@ mod common;
 
 use common::{worked_table, WORKED_EVENTS, WORKED_PAYLOAD};
 use peer::host;
-
-fn big_endian(words: &[u32]) -> Vec<u8> {
-    words.iter().flat_map(|word| word.to_be_bytes()).collect()
-}
+use peer::words::big_endian;
 
 /// An area of these six words and these names.
 fn area(words: [u32; 6], names: &[u16]) -> Vec<u8> {

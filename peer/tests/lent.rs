@@ -1,13 +1,14 @@
 //! The comparison of the bit reader's C calls notices every one of these faults in a stand-in, and none in the peer itself.
 
+#[macro_use]
+mod common;
+
+use peer::bim;
 use peer::calls::{run_bits, BitCalls};
-use peer::lent::{self, Coding, AREA_BYTES};
+use peer::lent::{self, Coding};
 use std::hint::black_box;
 
-/// Where a stand-in departs from the peer.
-#[derive(Clone, Copy, Debug, PartialEq, Eq)]
-enum Fault {
-    None,
+faults! {
     /// A refused code moves the place.
     RefusedMoves,
     /// A refused code leaves the value that stood in the area.
@@ -42,11 +43,11 @@ impl BitCalls for StandIn {
         let old = area.to_vec();
         let past = place as usize > 8 * bytes.len();
         match (self.0, coding) {
-            (LargerArea, _) if area.len() == AREA_BYTES + 1 => {
-                area[AREA_BYTES] = 0;
-                return lent::read(bytes, place, coding, &mut area[..AREA_BYTES]);
+            (LargerArea, _) if area.len() == bim::BITS_AREA + 1 => {
+                area[bim::BITS_AREA] = 0;
+                return lent::read(bytes, place, coding, &mut area[..bim::BITS_AREA]);
             }
-            (NothingPastEnd, Coding::Fixed(0)) if past && area.len() == AREA_BYTES => {
+            (NothingPastEnd, Coding::Fixed(0)) if past && area.len() == bim::BITS_AREA => {
                 lent::read(bytes, place, coding, area);
                 return 0;
             }
@@ -62,12 +63,14 @@ impl BitCalls for StandIn {
         }
         let number = lent::read(bytes, place, coding, area);
         match self.0 {
-            RefusedMoves if number == 12 => area[7] = area[7].wrapping_add(1),
-            ValueLeft if number == 5 => area[..4].copy_from_slice(&old[..4]),
-            LeftBefore if number == 0 => area[8..].copy_from_slice(&lent::left(bytes, place).to_be_bytes()),
-            WideIsPastEnd if number == 13 && matches!(coding, Coding::Fixed(_)) && past => return 5,
-            LongForm if number == 12 => return 0,
-            AreaLeft if number == 24 => area.copy_from_slice(&old),
+            RefusedMoves if number == bim::NOT_SHORTEST => area[7] = area[7].wrapping_add(1),
+            ValueLeft if number == bim::PAST_END => area[..4].copy_from_slice(&old[..4]),
+            LeftBefore if number == bim::ACCEPTED => area[8..].copy_from_slice(&lent::left(bytes, place).to_be_bytes()),
+            WideIsPastEnd if number == bim::TOO_LARGE && matches!(coding, Coding::Fixed(_)) && past => {
+                return bim::PAST_END
+            }
+            LongForm if number == bim::NOT_SHORTEST => return 0,
+            AreaLeft if number == bim::AREA_SIZE => area.copy_from_slice(&old),
             BehindArea => {
                 let behind = black_box(area.as_mut_ptr().wrapping_add(area.len()));
                 unsafe { behind.write_volatile(behind.read_volatile() ^ 1) }
@@ -92,20 +95,7 @@ fn the_peer_itself_has_no_fault() {
 
 #[test]
 fn every_fault_is_noticed() {
-    for fault in [
-        RefusedMoves,
-        ValueLeft,
-        LeftBefore,
-        LeftWraps,
-        NothingPastEnd,
-        WideIsPastEnd,
-        LongForm,
-        LargerArea,
-        AreaLeft,
-        BehindArea,
-        ReadsOn,
-        CountWraps,
-    ] {
+    for &fault in FAULTS {
         assert!(!run_bits(&StandIn(fault), 20_000, 1).report(), "{fault:?} went unnoticed");
     }
 }

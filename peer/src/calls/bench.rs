@@ -1,8 +1,8 @@
 //! The bench: every call goes through `ask`, into buffers of junk between guards, and is held against the peer.
 
-use super::case::{Call, Case, Left};
+use super::case::{Case, Left};
 use super::tally::Tally;
-use super::Calls;
+use super::{Calls, Judge};
 use crate::demands::Pair;
 use crate::rng::Rng;
 use std::hint::black_box;
@@ -88,12 +88,7 @@ impl<'a> Bench<'a> {
 
     /// The differences found.
     pub fn differing(&self) -> u64 {
-        self.tally.differing
-    }
-
-    /// Whether there is a writer.
-    pub fn writes(&self) -> bool {
-        self.calls.writes()
+        self.tally.met.differing()
     }
 
     /// Asks both, counts the case as one of `kind` and keeps a difference. Gives what the calls on trial left.
@@ -122,7 +117,7 @@ impl<'a> Bench<'a> {
     pub fn count_pair(&mut self, pair: Option<Pair>) {
         self.cases += 1;
         if let Some(pair) = pair {
-            self.tally.count_pair(pair);
+            self.tally.pairs.count(pair);
         }
     }
 
@@ -130,11 +125,7 @@ impl<'a> Bench<'a> {
     fn lent(&mut self, case: &Case) -> (Left, Option<String>) {
         let mut inputs: Vec<_> = case.inputs.iter().map(|bytes| Lent::holding(&mut self.junk, bytes)).collect();
         let mut outputs: Vec<_> = case.rooms.iter().map(|&room| Lent::of_junk(&mut self.junk, room)).collect();
-        let number = {
-            let inputs: Vec<_> = inputs.iter().map(Lent::lent).collect();
-            let mut outputs: Vec<_> = outputs.iter_mut().map(Lent::lent_mut).collect();
-            case.ask(Some(self.calls), &inputs, &mut outputs)
-        };
+        let number = case.ask(self.calls, &inputs, &mut outputs);
         // Whatever the call did, the buffers are looked at again: the compiler may not count on them.
         black_box((&mut inputs, &mut outputs));
         let beside = inputs.iter().chain(&outputs).any(|lent| !lent.guards_stand());
@@ -149,17 +140,13 @@ impl<'a> Bench<'a> {
 
     /// Prints how often each call answered what.
     pub fn report_answers(&self) {
-        [Call::Check, Call::Read, Call::Write].iter().for_each(|&call| self.tally.report_answers(call));
+        self.tally.report_answers();
     }
 
     /// Prints all, the smallest differing case made smaller still; true where all is well.
     pub fn report(&mut self) -> bool {
-        let mut calls = vec![Call::Check, Call::Read];
-        if self.writes() {
-            calls.push(Call::Write);
-        }
         self.end_part();
-        let good = self.tally.report(&calls, self.sample);
+        let good = self.tally.report(self.sample);
         for (part, cases) in &self.done {
             println!("cases, {part}: {cases}");
         }
@@ -197,8 +184,7 @@ impl<'a> Bench<'a> {
 /// What the peer leaves.
 pub fn on_peer(case: &Case) -> Left {
     let mut outputs: Vec<_> = case.rooms.iter().map(|&room| vec![DIRT; room]).collect();
-    let inputs: Vec<_> = case.inputs.iter().map(Vec::as_slice).collect();
-    let number = case.ask(None, &inputs, &mut outputs.iter_mut().map(Vec::as_mut_slice).collect::<Vec<_>>());
+    let number = case.ask(&Judge, &case.inputs, &mut outputs);
     Left { number, outputs }
 }
 
@@ -257,5 +243,17 @@ impl Lent {
     pub(super) fn guards_stand(&self) -> bool {
         let (before, after) = self.guards.split_at(self.first);
         self.bytes[..self.first] == *before && self.bytes[self.first + self.room..] == *after
+    }
+}
+
+impl AsRef<[u8]> for Lent {
+    fn as_ref(&self) -> &[u8] {
+        self.lent()
+    }
+}
+
+impl AsMut<[u8]> for Lent {
+    fn as_mut(&mut self) -> &mut [u8] {
+        self.lent_mut()
     }
 }

@@ -2,11 +2,12 @@
 //! with junk in them, and slices so long that places end before they do.
 
 use super::bench::Lent;
+use crate::bim;
 use crate::gen::edge_word;
-use crate::lent::{self, Coding, AREA_BYTES};
+use crate::lent::{self, Coding};
 use crate::model::{bits5, bits_of, bytes_of, groups};
 use crate::rng::Rng;
-use std::collections::BTreeMap;
+use crate::tally::{Numbers, Tally};
 use std::hint::black_box;
 
 /// The C calls of the bit reader, with their buffers as slices.
@@ -17,32 +18,28 @@ pub trait BitCalls {
     fn left(&self, bytes: &[u8], place: u32) -> u32;
 }
 
-/// The differences that are shown.
-const SHOWN: usize = 20;
 /// The bytes of slices whose last bits lie around bit 2^32 - 1.
 const LONG: [usize; 3] = [(1 << 29) - 1, 1 << 29, (1 << 29) + 2];
 /// What each call can answer.
-const NUMBERS: [(&str, &[u32]); 3] = [
-    ("bim_bits_fixed", &[0, 5, 13, 24]),
-    ("bim_bits_vlu5", &[0, 5, 12, 13, 24]),
-    ("bim_bits_vlu8", &[0, 5, 12, 13, 24]),
+const VLU: [u32; 5] = [bim::ACCEPTED, bim::PAST_END, bim::NOT_SHORTEST, bim::TOO_LARGE, bim::AREA_SIZE];
+const NUMBERS: [Numbers; 3] = [
+    ("bim_bits_fixed", &[bim::ACCEPTED, bim::PAST_END, bim::TOO_LARGE, bim::AREA_SIZE]),
+    ("bim_bits_vlu5", &VLU),
+    ("bim_bits_vlu8", &VLU),
 ];
 
 /// The calls on trial, and what they answered so far.
 pub struct BitBench<'a> {
     calls: &'a dyn BitCalls,
     junk: Rng,
-    /// Answers by call and number.
-    numbers: BTreeMap<(&'static str, u32), u64>,
+    tally: Tally,
     cases: u64,
-    differing: u64,
-    shown: Vec<String>,
 }
 
 /// The long slices, then at least `cases` seeded calls.
 pub fn run(calls: &dyn BitCalls, cases: u64, seed: u64) -> BitBench<'_> {
     let junk = Rng::new(!seed);
-    let mut bench = BitBench { calls, junk, numbers: BTreeMap::new(), cases: 0, differing: 0, shown: vec![] };
+    let mut bench = BitBench { calls, junk, tally: Tally::default(), cases: 0 };
     bench.long_slices();
     let mut rng = Rng::new(seed.wrapping_mul(4).wrapping_add(3));
     while bench.cases < cases {
@@ -66,17 +63,17 @@ impl BitBench<'_> {
         let held = Lent::holding(&mut self.junk, &bytes);
         let size = 8 * bytes.len() as u32;
         for place in (0..size + 3).chain([rng.word(), u32::MAX - 1, u32::MAX]) {
-            self.ask(held.lent(), place, coding, AREA_BYTES);
+            self.ask(held.lent(), place, coding, bim::BITS_AREA);
             self.ask_left(held.lent(), place);
         }
         for width in (0..41).chain([rng.word(), u32::MAX]) {
-            self.ask(held.lent(), at as u32, Coding::Fixed(width), AREA_BYTES);
+            self.ask(held.lent(), at as u32, Coding::Fixed(width), bim::BITS_AREA);
         }
         for area in [0, 4, 11, 13, 24, 152, rng.below(40)] {
             self.ask(held.lent(), at as u32, coding, area);
         }
         if held.lent() != bytes || !held.guards_stand() {
-            self.differ(|| format!("bytes changed: {bytes:02x?}"));
+            self.tally.differ(|| format!("bytes changed: {bytes:02x?}"));
         }
     }
 
@@ -89,10 +86,10 @@ impl BitBench<'_> {
         for size in LONG {
             for place in (0..90).map(|back| u32::MAX - back) {
                 for coding in [0, 1, 7, 8, 9, 32, 33].map(Coding::Fixed) {
-                    self.ask(&bytes[..size], place, coding, AREA_BYTES);
+                    self.ask(&bytes[..size], place, coding, bim::BITS_AREA);
                 }
-                self.ask(&bytes[..size], place, Coding::Five, AREA_BYTES);
-                self.ask(&bytes[..size], place, Coding::Eight, AREA_BYTES);
+                self.ask(&bytes[..size], place, Coding::Five, bim::BITS_AREA);
+                self.ask(&bytes[..size], place, Coding::Eight, bim::BITS_AREA);
                 self.ask_left(&bytes[..size], place);
             }
         }
@@ -105,11 +102,11 @@ impl BitBench<'_> {
         black_box(&mut area);
         let mut expected = vec![0xdd; room];
         let said = lent::read(bytes, place, coding, &mut expected);
-        *self.numbers.entry((name(coding), said)).or_default() += 1;
+        self.tally.count(name(coding), said);
         self.cases += 1;
         if (number, area.lent()) != (said, &expected[..]) || !area.guards_stand() {
             let got = area.lent().to_vec();
-            self.differ(|| {
+            self.tally.differ(|| {
                 let near = (place as usize / 8).min(bytes.len());
                 let bytes_near = &bytes[near.saturating_sub(2)..bytes.len().min(near + 8)];
                 format!(
@@ -125,34 +122,18 @@ impl BitBench<'_> {
         let (got, expected) = (self.calls.left(bytes, place), lent::left(bytes, place));
         self.cases += 1;
         if got != expected {
-            self.differ(|| format!("left at {place} of {} bytes: {got}, the peer's {expected}", bytes.len()));
-        }
-    }
-
-    fn differ(&mut self, what: impl FnOnce() -> String) {
-        self.differing += 1;
-        if self.shown.len() < SHOWN {
-            self.shown.push(what());
+            self.tally.differ(|| format!("left at {place} of {} bytes: {got}, the peer's {expected}", bytes.len()));
         }
     }
 
     /// Prints all; true where there is no difference and every number of every call was met.
     pub fn report(&self) -> bool {
-        let mut good = self.differing == 0;
-        for (call, numbers) in NUMBERS {
-            let met = |number: &u32| self.numbers.get(&(call, *number)).copied().unwrap_or(0);
-            let counts: Vec<_> = numbers.iter().map(|number| format!("{number}: {}", met(number))).collect();
-            println!("{call}: {} calls   {}", numbers.iter().map(met).sum::<u64>(), counts.join(", "));
-            for number in numbers.iter().filter(|number| met(number) == 0) {
-                println!("NEVER MET: {call} answering {number}");
-                good = false;
-            }
+        for (call, calls, numbers) in self.tally.rows() {
+            println!("{call}: {calls} calls   {numbers}");
         }
-        println!("bit reader: {} calls in all, {} differences", self.cases, self.differing);
-        for difference in &self.shown {
-            println!("DIFFERENT: {difference}");
-        }
-        good
+        let good = self.tally.has_met(&NUMBERS);
+        println!("bit reader: {} calls in all, {} differences", self.cases, self.tally.differing());
+        self.tally.shows_none() && good
     }
 }
 

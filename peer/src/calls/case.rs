@@ -1,10 +1,12 @@
 //! One call's input, and what the peer or another answers.
 
-use super::Calls;
+use super::{Calls, Reading, Writing};
 use crate::answer::{refusal, Answer, Path};
+use crate::bim;
+use crate::call::{self, Read, Write};
 use crate::demands::Outcome;
 use crate::gen::Sample;
-use crate::host;
+use crate::words::{big_endian, hex, words_of};
 
 /// Which call.
 #[derive(Clone, Copy, Debug, PartialEq, Eq)]
@@ -18,6 +20,9 @@ pub enum Call {
 }
 
 impl Call {
+    /// All three.
+    pub const ALL: [Call; 3] = [Call::Check, Call::Read, Call::Write];
+
     /// The call's C name.
     pub fn name(self) -> &'static str {
         ["bim_check_table", "bim_read", "bim_write"][self as usize]
@@ -26,9 +31,9 @@ impl Call {
     /// The numbers that it can answer.
     pub fn numbers(self) -> &'static [u32] {
         match self {
-            Call::Check => &[0, 1, 24],
-            Call::Read => &[0, 1, 2, 3, 4, 5, 6, 7, 8, 9, 10, 11, 12, 13, 14, 15, 16, 17, 24],
-            Call::Write => &[0, 1, 2, 6, 9, 16, 18, 19, 20, 21, 22, 23, 24],
+            Call::Check => &[bim::ACCEPTED, bim::TABLE, bim::AREA_SIZE],
+            Call::Read => &call::READER,
+            Call::Write => &call::WRITER,
         }
     }
 
@@ -66,54 +71,67 @@ pub struct Case {
     pub rooms: Vec<usize>,
 }
 
-/// Where the area is the last room.
-pub const AREA: usize = host::AREA_BYTES;
-
 impl Case {
     /// A table to check.
     pub fn check(table: Vec<u8>) -> Self {
-        Case { call: Call::Check, root: (0, 0), mode: 0, inputs: vec![table], rooms: vec![AREA] }
+        Case { call: Call::Check, root: (0, 0), mode: 0, inputs: vec![table], rooms: vec![bim::AREA] }
     }
 
     /// A payload to read.
     pub fn read(table: &[u32], root: (u32, u32), payload: Vec<u8>, events: usize, texts: usize) -> Self {
         let inputs = vec![big_endian(table), payload];
-        Case { call: Call::Read, root, mode: 0, inputs, rooms: vec![events, texts, AREA] }
+        Case { call: Call::Read, root, mode: 0, inputs, rooms: vec![events, texts, bim::AREA] }
+    }
+
+    /// A call in words.
+    pub fn of(call: &call::Call) -> Self {
+        match call {
+            call::Call::Table(table) => Case::check(big_endian(table)),
+            call::Call::Read(Read { table, root, payload, event_words, text_room }) => {
+                Case::read(table, *root, payload.clone(), 4 * event_words, *text_room)
+            }
+            call::Call::Write(Write { table, root, mode, events, texts, room }) => {
+                Case::write(table, *root, *mode, big_endian(events), texts.clone(), *room)
+            }
+        }
     }
 
     /// A sample's payload to read, with the room that its list takes.
     pub fn read_sample(table: &[u32], sample: &Sample) -> Self {
-        Case::read(table, sample.root, sample.payload(), 16 * sample.events.len(), sample.texts.len())
+        let (words, texts) = (bim::EVENT_WORDS * sample.events.len(), sample.texts.len());
+        Case::of(&call::Call::Read(sample.reading(table, words, texts)))
     }
 
     /// A list to write.
     pub fn write(table: &[u32], root: (u32, u32), mode: u32, list: Vec<u8>, texts: Vec<u8>, room: usize) -> Self {
         let inputs = vec![big_endian(table), list, texts];
-        Case { call: Call::Write, root, mode, inputs, rooms: vec![room, AREA] }
+        Case { call: Call::Write, root, mode, inputs, rooms: vec![room, bim::AREA] }
     }
 
     /// A sample's list to write, with the room that its payload takes.
     pub fn write_sample(table: &[u32], sample: &Sample) -> Self {
-        let list = big_endian(&sample.events.concat());
-        Case::write(table, sample.root, sample.mode, list, sample.texts.clone(), sample.bits.len().div_ceil(8))
+        Case::of(&call::Call::Write(sample.writing(table, 0)))
     }
 
-    /// Asks `calls`, or the peer.
-    pub fn ask(&self, calls: Option<&dyn Calls>, inputs: &[&[u8]], outputs: &mut [&mut [u8]]) -> u32 {
-        let (name, of_type) = self.root;
-        match (self.call, inputs, outputs) {
-            (Call::Check, [table], [area]) => match calls {
-                Some(calls) => calls.check_table(table, area),
-                None => host::check_table(table, area),
-            },
-            (Call::Read, [table, payload], [events, texts, area]) => match calls {
-                Some(calls) => calls.read(table, self.root, payload, events, texts, area),
-                None => host::read(table, name, of_type, payload, events, texts, area),
-            },
-            (Call::Write, [table, events, texts], [payload, area]) => match calls {
-                Some(calls) => calls.write(table, self.root, self.mode, events, texts, payload, area),
-                None => host::write(table, name, of_type, self.mode, events, texts, payload, area),
-            },
+    /// Asks `calls`, with these bytes for inputs and these buffers.
+    #[inline(always)]
+    pub fn ask<I, O>(&self, calls: &(impl Calls + ?Sized), inputs: &[I], outputs: &mut [O]) -> u32
+    where
+        I: AsRef<[u8]>,
+        O: AsMut<[u8]>,
+    {
+        let root = self.root;
+        let given = |index: usize| inputs[index].as_ref();
+        match (self.call, outputs) {
+            (Call::Check, [area]) => calls.check_table(given(0), area.as_mut()),
+            (Call::Read, [events, texts, area]) => {
+                let (events, texts, area) = (events.as_mut(), texts.as_mut(), area.as_mut());
+                calls.read(Reading { table: given(0), root, payload: given(1), events, texts, area })
+            }
+            (Call::Write, [payload, area]) => {
+                let (table, mode, payload, area) = (given(0), self.mode, payload.as_mut(), area.as_mut());
+                calls.write(Writing { table, root, mode, events: given(1), texts: given(2), payload, area })
+            }
             _ => panic!("{self:?} has not the buffers of its call"),
         }
     }
@@ -155,8 +173,7 @@ impl Case {
     pub fn shown(&self) -> String {
         let mut text = format!("{} root {} {} mode {}", self.call.name(), self.root.0, self.root.1, self.mode);
         for (name, bytes) in self.call.input_names().iter().zip(&self.inputs) {
-            let hex: String = bytes.iter().map(|byte| format!("{byte:02x}")).collect();
-            text += &format!("\n  {name}, {} bytes: {hex}", bytes.len());
+            text += &format!("\n  {name}, {} bytes: {}", bytes.len(), hex(bytes));
         }
         for (name, room) in self.call.output_names().iter().zip(&self.rooms) {
             text += &format!("\n  room for {name}: {room} bytes");
@@ -174,11 +191,6 @@ fn shorter(length: usize) -> Vec<usize> {
     lengths
 }
 
-/// Words as 4 big-endian bytes each.
-pub fn big_endian(words: &[u32]) -> Vec<u8> {
-    words.iter().flat_map(|word| word.to_be_bytes()).collect()
-}
-
 /// What a call left: its number and the buffers that it fills.
 #[derive(Clone, Debug, PartialEq, Eq)]
 pub struct Left {
@@ -191,7 +203,7 @@ pub struct Left {
 impl Left {
     /// Whether the call was accepted.
     pub fn is_accepted(&self) -> bool {
-        self.number == 0
+        self.number == bim::ACCEPTED
     }
 
     /// The word of the area at `index`: place, mode, events, text, bits, path count.
@@ -226,7 +238,6 @@ impl Left {
             bits: self.word(4),
             ..Answer::refused(refusal(self.number, self.word(0)), path)
         };
-        let words = events.chunks_exact(4).map(|word| u32::from_be_bytes([word[0], word[1], word[2], word[3]]));
-        Some(Outcome { answer, events: words.collect(), texts: texts.to_vec() })
+        Some(Outcome { answer, events: words_of(events), texts: texts.to_vec() })
     }
 }

@@ -1,13 +1,13 @@
 //! A case changed in one way: what the fuzzer tries besides its own changes to the bytes, which make most cases refused early.
 
 use super::bench::on_peer;
-use super::case::{big_endian, Call, Case};
+use super::case::{Call, Case};
 use super::reading::root;
-use crate::answer::kind;
-use crate::gen::{self, damage_list, damage_payload, damage_table, let_go};
+use crate::bim;
+use crate::gen::{self, damage_list, damage_payload, damage_table, let_go, table_and_sample};
 use crate::host;
 use crate::rng::Rng;
-use crate::trials::table_and_sample;
+use crate::words::{big_endian, words_of};
 
 /// Changes the case.
 pub fn change(rng: &mut Rng, case: &mut Case) {
@@ -38,13 +38,21 @@ fn other_room(rng: &mut Rng, case: &mut Case) {
     let outputs = case.rooms.len() - usize::from(!rng.one_in(8));
     if outputs > 0 {
         let room = &mut case.rooms[rng.below(outputs)];
-        *room = rng.pick(&[0, room.saturating_sub(1), *room + 1, room.saturating_sub(16), *room + 16, 8192, 32_768]);
+        *room = rng.pick(&[
+            0,
+            room.saturating_sub(1),
+            *room + 1,
+            room.saturating_sub(bim::EVENT),
+            *room + bim::EVENT,
+            bim::MOST_PAYLOAD,
+            32_768,
+        ]);
     }
 }
 
 /// Types let go, or a word changed.
 fn change_table(rng: &mut Rng, case: &mut Case) {
-    let right = host::check_table(&case.inputs[0], &mut [0; host::AREA_BYTES]) == 0;
+    let right = host::check_table(&case.inputs[0], &mut [0; bim::AREA]) == 0;
     let mut words: Vec<_> = words_of(&case.inputs[0]);
     if right && rng.one_in(2) {
         words = let_go(rng, &words, 5);
@@ -82,7 +90,9 @@ fn other_flags(rng: &mut Rng, case: &mut Case) {
     if case.call == Call::Write {
         let (mode, among) = rng.pick(&[(0, 1), (1, 2), (1, 2), (2, 2)]);
         case.mode = mode;
-        for event in case.inputs[1].chunks_exact_mut(16).filter(|event| event[..4] == kind::START.to_be_bytes()) {
+        for event in
+            case.inputs[1].chunks_exact_mut(bim::EVENT).filter(|event| event[..4] == bim::KIND_START.to_be_bytes())
+        {
             event[11] = if mode == 2 { 1 } else { rng.below(among) as u8 };
         }
     }
@@ -103,8 +113,4 @@ fn change_content(rng: &mut Rng, case: &mut Case) {
             case.inputs[1] = big_endian(&events.concat());
         }
     }
-}
-
-fn words_of(bytes: &[u8]) -> Vec<u32> {
-    bytes.chunks_exact(4).map(|word| u32::from_be_bytes([word[0], word[1], word[2], word[3]])).collect()
 }

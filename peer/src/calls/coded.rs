@@ -2,7 +2,9 @@
 //! that a changed byte changes a row, and not only the top of a word. A table is given by its words or is one of the named
 //! cases': where it is long and the payload is not, most changes would make it wrong.
 
-use super::case::{big_endian, Call, Case, AREA};
+use super::case::{Call, Case};
+use crate::bim;
+use crate::words::{big_endian, words_of};
 use std::sync::OnceLock;
 
 /// The words that have a byte of their own besides the small ones, from `SPECIAL` on.
@@ -13,7 +15,7 @@ const FOUR_BYTES: u8 = 251;
 /// In the byte before a table: it is one of the named cases'.
 const NAMED: u8 = 0x80;
 /// The most words of a table or list, and the most room: somewhat more than a call can use.
-const MOST_WORDS: usize = 9_000;
+const MOST_GIVEN: usize = 9_000;
 const MOST_ROOM: usize = 33_000;
 /// Words from here on give the area other rooms than the right one, all below this.
 const ODD_AREA: usize = 240;
@@ -75,14 +77,14 @@ fn encode(case: &Case, named: Option<usize>) -> Vec<u8> {
 /// The area's room, mostly the right one.
 fn area(word: u32) -> usize {
     match word as usize {
-        0..ODD_AREA => AREA,
+        0..ODD_AREA => bim::AREA,
         other => other % ODD_AREA,
     }
 }
 
 fn area_word(area: usize) -> u32 {
     match area {
-        AREA => 0,
+        bim::AREA => 0,
         other => (other + ODD_AREA) as u32,
     }
 }
@@ -129,7 +131,7 @@ impl Rest<'_> {
 
     /// Words, their number first, as bytes; and `odd` bytes more.
     fn words(&mut self, odd: u8) -> Vec<u8> {
-        let number = self.word() as usize % (MOST_WORDS + 1);
+        let number = self.word() as usize % (MOST_GIVEN + 1);
         let mut words = vec![];
         while words.len() < number && !self.0.is_empty() {
             words.push(self.word());
@@ -171,9 +173,7 @@ fn put_word(bytes: &mut Vec<u8>, word: u32) {
 fn put_words(bytes: &mut Vec<u8>, words: &[u8]) {
     bytes.push((words.len() % 4) as u8);
     put_word(bytes, (words.len() / 4) as u32);
-    for word in words.chunks_exact(4) {
-        put_word(bytes, u32::from_be_bytes([word[0], word[1], word[2], word[3]]));
-    }
+    words_of(words).into_iter().for_each(|word| put_word(bytes, word));
 }
 
 /// The named cases as a fuzzer's first bytes, with their tables by words and as named: those that code themselves.

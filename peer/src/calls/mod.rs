@@ -18,38 +18,83 @@ pub use change::change;
 pub use coded::{code, decode, seeds};
 
 use crate::cases;
+use crate::host;
 use crate::rng::Rng;
-use case::big_endian;
 
-/// The three C calls, with their buffers as slices.
+/// What `bim_read` is given and lent.
+pub struct Reading<'a> {
+    /// Given: the table's bytes.
+    pub table: &'a [u8],
+    /// Given: root name and type.
+    pub root: (u32, u32),
+    /// Given: the payload.
+    pub payload: &'a [u8],
+    /// Lent for the events.
+    pub events: &'a mut [u8],
+    /// Lent for the texts.
+    pub texts: &'a mut [u8],
+    /// Lent for the answer.
+    pub area: &'a mut [u8],
+}
+
+/// What `bim_write` is given and lent.
+pub struct Writing<'a> {
+    /// Given: the table's bytes.
+    pub table: &'a [u8],
+    /// Given: root name and type.
+    pub root: (u32, u32),
+    /// Given: the mode.
+    pub mode: u32,
+    /// Given: the list's bytes.
+    pub events: &'a [u8],
+    /// Given: the texts.
+    pub texts: &'a [u8],
+    /// Lent for the payload.
+    pub payload: &'a mut [u8],
+    /// Lent for the answer.
+    pub area: &'a mut [u8],
+}
+
+/// The three C calls.
 pub trait Calls {
     /// `bim_check_table`.
     fn check_table(&self, table: &[u8], area: &mut [u8]) -> u32;
     /// `bim_read`.
-    #[allow(clippy::too_many_arguments)] // the boundary's names and order are fixed
-    fn read(
-        &self,
-        table: &[u8],
-        root: (u32, u32),
-        payload: &[u8],
-        events: &mut [u8],
-        texts: &mut [u8],
-        area: &mut [u8],
-    ) -> u32;
+    fn read(&self, lent: Reading<'_>) -> u32;
     /// `bim_write`.
-    #[allow(clippy::too_many_arguments)] // the boundary's names and order are fixed
-    fn write(
-        &self,
-        table: &[u8],
-        root: (u32, u32),
-        mode: u32,
-        events: &[u8],
-        texts: &[u8],
-        payload: &mut [u8],
-        area: &mut [u8],
-    ) -> u32;
-    /// Whether `write` is there.
-    fn writes(&self) -> bool;
+    fn write(&self, lent: Writing<'_>) -> u32;
+}
+
+/// Makes a type of three functions that have the calls' arguments in their order.
+#[macro_export]
+macro_rules! calls_of {
+    ($(#[$meta:meta])* $name:ident = $check:path, $read:path, $write:path) => {
+        $(#[$meta])*
+        pub struct $name;
+
+        impl $crate::calls::Calls for $name {
+            fn check_table(&self, table: &[u8], area: &mut [u8]) -> u32 {
+                $check(table, area)
+            }
+
+            #[inline(always)]
+            fn read(&self, lent: $crate::calls::Reading<'_>) -> u32 {
+                let $crate::calls::Reading { table, root, payload, events, texts, area } = lent;
+                $read(table, root.0, root.1, payload, events, texts, area)
+            }
+
+            #[inline(always)]
+            fn write(&self, lent: $crate::calls::Writing<'_>) -> u32 {
+                let $crate::calls::Writing { table, root, mode, events, texts, payload, area } = lent;
+                $write(table, root.0, root.1, mode, events, texts, payload, area)
+            }
+        }
+    };
+}
+
+calls_of! {
+    /// The peer's own calls, which judge the others.
+    Judge = host::check_table, host::read, host::write
 }
 
 /// The named cases, then at least `cases` seeded calls to read and check, as many to write, and as many pairs of tables
@@ -58,9 +103,7 @@ pub fn run(calls: &dyn Calls, cases: u64, seed: u64) -> Bench<'_> {
     let mut bench = Bench::new(calls, seed);
     bench.begin_part("named");
     reading::named(&mut bench);
-    if calls.writes() {
-        writing::named(&mut bench);
-    }
+    writing::named(&mut bench);
     all_seeded(&mut bench, cases, seed);
     bench
 }
@@ -75,9 +118,7 @@ pub fn sample(calls: &dyn Calls, cases: u64, seed: u64) -> Bench<'_> {
 
 fn all_seeded(bench: &mut Bench<'_>, cases: u64, seed: u64) {
     seeded(bench, "reading", seed.wrapping_mul(4), cases, reading::round);
-    if bench.writes() {
-        seeded(bench, "writing", seed.wrapping_mul(4) + 1, cases, writing::round);
-    }
+    seeded(bench, "writing", seed.wrapping_mul(4) + 1, cases, writing::round);
     seeded(bench, "pairs", seed.wrapping_mul(4) + 2, cases, pairs::round);
 }
 
@@ -103,14 +144,5 @@ pub fn ask(bench: &mut Bench<'_>, case: &Case) {
 
 /// The named cases as calls.
 fn named() -> Vec<Case> {
-    let call = |named: cases::Case| match named.call {
-        cases::Call::Table { table } => Case::check(big_endian(&table)),
-        cases::Call::Read { table, root, payload, event_words, text_room } => {
-            Case::read(&table, root, payload, 4 * event_words, text_room)
-        }
-        cases::Call::Write { table, root, mode, events, texts, room } => {
-            Case::write(&table, root, mode, big_endian(&events), texts, room)
-        }
-    };
-    cases::all().into_iter().map(call).collect()
+    cases::all().iter().map(|named| Case::of(&named.call)).collect()
 }

@@ -1,13 +1,12 @@
 //! Demand 3 on the answers of the calls on trial: pairs of tables alike but for held marks.
 
 use super::bench::Bench;
-use super::case::{big_endian, Case};
-use crate::answer::kind;
+use super::case::Case;
+use crate::bim;
 use crate::demands::{element_types, judge_pair, Pair};
-use crate::gen::{self, let_go, Sample};
+use crate::gen::{self, let_go, table_and_sample, Sample};
 use crate::rng::Rng;
-use crate::table::{HEADER, TYPE_ROW};
-use crate::trials::table_and_sample;
+use crate::words::big_endian;
 use std::panic::{catch_unwind, AssertUnwindSafe};
 
 /// From so many differences on, pairs that differ are judged no more.
@@ -35,7 +34,7 @@ pub fn round(bench: &mut Bench<'_>, rng: &mut Rng) {
         Some(sample) => Case::read_sample(&table, sample),
         None => {
             let root = (rng.below(50) as u32, rng.below(table[1] as usize) as u32);
-            Case::read(&table, root, gen::noise(rng), 16 * rng.below(100), rng.below(40))
+            Case::read(&table, root, gen::noise(rng), bim::EVENT * rng.below(100), rng.below(40))
         }
     };
     let types = sample.map_or(vec![], |sample| element_types(&table, sample.root, &sample.events));
@@ -57,7 +56,7 @@ pub fn round(bench: &mut Bench<'_>, rng: &mut Rng) {
         // Room for the first, and not always for the second: the last part of the demand.
         let least = bench.ask_aside("the first alone", &case);
         if least.is_accepted() {
-            let (events, texts) = (16 * least.word(2), least.word(3));
+            let (events, texts) = (bim::EVENT * least.word(2), least.word(3));
             case.rooms[0] = rng.within(events, case.rooms[0].max(events));
             case.rooms[1] = rng.within(texts, case.rooms[1].max(texts));
         }
@@ -105,14 +104,14 @@ fn judged(
 
 /// Where the held marks of a table stand.
 fn marks(table: &[u32]) -> impl Iterator<Item = usize> {
-    (0..table[1] as usize).map(|of_type| HEADER + TYPE_ROW * of_type)
+    (0..table[1] as usize).map(|of_type| bim::HEADER + bim::TYPE_ROW * of_type)
 }
 
 /// A table and a sample, mostly of more elements than its root.
 fn nested(rng: &mut Rng, quirk: usize) -> (Vec<u32>, Sample) {
     let mut made = table_and_sample(rng, quirk);
     for _ in 0..3 {
-        if made.1.events.iter().filter(|event| event[0] == kind::START).count() > 1 {
+        if made.1.events.iter().filter(|event| event[0] == bim::KIND_START).count() > 1 {
             break;
         }
         made = table_and_sample(rng, quirk);
@@ -126,7 +125,7 @@ fn holds_less(rng: &mut Rng, table: &[u32], types: &[usize]) -> Vec<u32> {
     let mut less = let_go(rng, table, times);
     let held: Vec<_> = marks(table).filter(|&at| table[at] == 1).collect();
     let wanted: Vec<_> =
-        types.iter().map(|of_type| HEADER + TYPE_ROW * of_type).filter(|at| held.contains(at)).collect();
+        types.iter().map(|of_type| bim::HEADER + bim::TYPE_ROW * of_type).filter(|at| held.contains(at)).collect();
     if !wanted.is_empty() && !rng.one_in(4) {
         less[rng.pick(&wanted)] = 0;
     } else if less == table && !held.is_empty() {

@@ -1,12 +1,14 @@
 //! Tables to check and payloads to read.
 
 use super::bench::Bench;
-use super::case::{big_endian, Case, Left, AREA};
-use crate::answer::kind;
+use super::case::{Call, Case, Left};
+use crate::bim;
 use crate::cases;
-use crate::gen::{self, damage_payload, damage_table, edge_word, let_go};
+use crate::gen::{self, damage_payload, damage_table, edge_word, let_go, table_and_sample};
 use crate::rng::Rng;
-use crate::trials::table_and_sample;
+use crate::words::big_endian;
+
+const MOST: usize = bim::MOST_EVENTS;
 
 /// One seeded round: a case and its neighbours.
 pub fn round(bench: &mut Bench<'_>, rng: &mut Rng) {
@@ -29,7 +31,7 @@ pub fn round(bench: &mut Bench<'_>, rng: &mut Rng) {
 /// Asks, and has a reading without blanks written back.
 pub fn ask(bench: &mut Bench<'_>, kind: &'static str, case: &Case) -> Left {
     let left = bench.ask(kind, case);
-    if bench.writes() && left.is_accepted() {
+    if left.is_accepted() {
         written_back(bench, case, &left);
     }
     left
@@ -40,7 +42,7 @@ fn written_back(bench: &mut Bench<'_>, case: &Case, left: &Left) {
     let (Some(events), Some(texts)) = (left.events(), left.texts()) else {
         return bench.hold(case, false, || "the area counts more than the buffers have".to_string());
     };
-    if events.chunks_exact(16).any(|event| event[..4] == kind::BLANK.to_be_bytes()) {
+    if events.chunks_exact(bim::EVENT).any(|event| event[..4] == bim::KIND_BLANK.to_be_bytes()) {
         return;
     }
     let mut back = Case::write(&[], case.root, left.word(1) as u32, events.to_vec(), texts.to_vec(), 0);
@@ -79,25 +81,25 @@ fn valid(bench: &mut Bench<'_>, rng: &mut Rng) {
 /// Rooms of every size around what the reading took.
 fn rooms_around(bench: &mut Bench<'_>, rng: &mut Rng, case: &mut Case, left: &Left) {
     let (events, texts) =
-        if left.is_accepted() { (16 * left.word(2), left.word(3)) } else { (case.rooms[0], case.rooms[1]) };
+        if left.is_accepted() { (bim::EVENT * left.word(2), left.word(3)) } else { (case.rooms[0], case.rooms[1]) };
     let every = if rng.one_in(20) { 20 } else { 3 };
     for _ in 0..every {
-        case.rooms = vec![(events + rng.below(37)).saturating_sub(18), texts + rng.below(3), AREA];
+        case.rooms = vec![(events + rng.below(37)).saturating_sub(18), texts + rng.below(3), bim::AREA];
         ask(bench, "rooms around the need", case);
     }
     for short in 0..=2 {
-        case.rooms = vec![events + rng.below(20), (texts + 1).saturating_sub(short), AREA];
+        case.rooms = vec![events + rng.below(20), (texts + 1).saturating_sub(short), bim::AREA];
         ask(bench, "rooms around the need", case);
     }
-    case.rooms = vec![rng.below(events + 17), rng.below(texts + 2), AREA];
+    case.rooms = vec![rng.below(events + 17), rng.below(texts + 2), bim::AREA];
     ask(bench, "short rooms", case);
     if rng.one_in(60) {
         for room in 0..=events.min(320) + 17 {
-            case.rooms = vec![room, texts, AREA];
+            case.rooms = vec![room, texts, bim::AREA];
             bench.ask("every room for events", case);
         }
         for room in 0..=texts.min(60) {
-            case.rooms = vec![events, room, AREA];
+            case.rooms = vec![events, room, bim::AREA];
             bench.ask("every room for texts", case);
         }
     }
@@ -236,7 +238,7 @@ pub fn root(rng: &mut Rng, root: (u32, u32), types: u32) -> (u32, u32) {
     match rng.below(6) {
         0 => (root.0, types),
         1 => (root.0, types - 1),
-        2 => (rng.pick(&[0, 65_535, 65_536, 65_537, 1 << 31, u32::MAX]), root.1),
+        2 => (rng.pick(&[0, bim::MOST_NAME, bim::MOST_NAME + 1, 65_537, 1 << 31, u32::MAX]), root.1),
         3 => (edge_word(rng), root.1),
         4 => (root.0, edge_word(rng)),
         _ => (edge_word(rng), edge_word(rng)),
@@ -256,7 +258,7 @@ fn noise(bench: &mut Bench<'_>, rng: &mut Rng) {
     let table = gen::table(rng);
     let table = let_go(rng, &table, 4);
     let root = (rng.below(50) as u32, rng.below(table[1] as usize) as u32);
-    let mut case = Case::read(&table, root, gen::noise(rng), 16 * rng.below(100), rng.below(60));
+    let mut case = Case::read(&table, root, gen::noise(rng), bim::EVENT * rng.below(100), rng.below(60));
     for _ in 0..3 {
         ask(bench, "noise as payload", &case);
         case.inputs[1] = gen::noise(rng);
@@ -289,13 +291,13 @@ fn deep(bench: &mut Bench<'_>, rng: &mut Rng) {
 /// Payloads and tables about as large as may be, and more.
 fn large(bench: &mut Bench<'_>, rng: &mut Rng) {
     let mut case = held_in_part(rng, 0);
-    let length = rng.pick(&[8190, 8191, 8192, 8193, 8194, 9000, 70_000]);
+    let length = bim::MOST_PAYLOAD.saturating_add_signed(rng.pick(&[-2, -1, 0, 1, 2, 808, 61_808]));
     case.inputs[1].resize(length, 0);
-    case.rooms[0] = rng.pick(&[2047, 2048, 2049, 4000]) * 16 + rng.below(16);
+    case.rooms[0] = rng.pick(&[MOST - 1, MOST, MOST + 1, 4000]) * bim::EVENT + rng.below(bim::EVENT);
     ask(bench, "large payloads", &case);
     case.inputs[1].iter_mut().skip(1).for_each(|byte| *byte = (rng.word() & rng.word() & rng.word()) as u8);
     ask(bench, "large payloads", &case);
-    let mut table = cases::largest_table();
+    let mut table = cases::largest_table().to_vec();
     if rng.one_in(2) {
         damage_table(rng, &mut table);
     }
@@ -312,25 +314,23 @@ fn large(bench: &mut Bench<'_>, rng: &mut Rng) {
 /// The named cases, and their neighbours: other areas, rooms about the need and about the limit, other lengths.
 pub fn named(bench: &mut Bench<'_>) {
     let mut rng = Rng::new(0);
-    for named in cases::all() {
-        match named.call {
-            cases::Call::Table { table } => {
-                let mut case = Case::check(big_endian(&table));
-                bench.ask("named tables", &case);
-                for area in [0, AREA - 1, AREA + 1] {
-                    case.rooms[0] = area;
-                    bench.ask("named tables, other areas", &case);
+    for base in super::named() {
+        match base.call {
+            Call::Check => {
+                bench.ask("named tables", &base);
+                for area in [0, bim::AREA - 1, bim::AREA + 1] {
+                    bench.ask("named tables, other areas", &Case { rooms: vec![area], ..base.clone() });
                 }
             }
-            cases::Call::Read { table, root, payload, event_words, text_room } => {
-                let base = Case::read(&table, root, payload, 4 * event_words, text_room);
+            Call::Read => {
                 check(bench, "tables of named cases", &base.inputs[0]);
                 let left = ask(bench, "named payloads", &base);
-                for room in [0, 1, 16, 2047 * 16, 2048 * 16 - 1, 2048 * 16, 2049 * 16, 5000 * 16 + 3] {
-                    let rooms = vec![room, base.rooms[1], AREA];
+                let full = MOST * bim::EVENT;
+                for room in [0, 1, bim::EVENT, full - bim::EVENT, full - 1, full, full + bim::EVENT, 80_003] {
+                    let rooms = vec![room, base.rooms[1], bim::AREA];
                     ask(bench, "named payloads, rooms at the limit", &Case { rooms, ..base.clone() });
                 }
-                for area in [0, AREA - 1, AREA + 1] {
+                for area in [0, bim::AREA - 1, bim::AREA + 1] {
                     let rooms = vec![base.rooms[0], base.rooms[1], area];
                     ask(bench, "named payloads, other areas", &Case { rooms, ..base.clone() });
                 }
@@ -339,7 +339,7 @@ pub fn named(bench: &mut Bench<'_>) {
                 ask(bench, "named payloads, tables of odd length", &longer);
                 rooms_around(bench, &mut rng, &mut base.clone(), &left);
             }
-            cases::Call::Write { .. } => {}
+            Call::Write => {}
         }
     }
 }

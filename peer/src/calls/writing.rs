@@ -1,13 +1,12 @@
 //! Lists to write, and what was written read back.
 
 use super::bench::Bench;
-use super::case::{big_endian, Case, Left, AREA};
+use super::case::{Call, Case, Left};
 use super::reading::{area, root};
-use crate::answer::kind;
-use crate::cases;
-use crate::gen::{self, damage_list, damage_table, edge_word, let_go, Sample};
+use crate::bim;
+use crate::gen::{self, damage_list, damage_table, edge_word, let_go, table_and_sample, Sample};
 use crate::rng::Rng;
-use crate::trials::table_and_sample;
+use crate::words::big_endian;
 
 /// One seeded round: a case and its neighbours.
 pub fn round(bench: &mut Bench<'_>, rng: &mut Rng) {
@@ -52,12 +51,12 @@ fn read_back(bench: &mut Bench<'_>, case: &Case, left: &Left) {
     let read = bench.ask_aside("read back", &back);
     let alike = |(got, given): (&[u8], &[u8])| got[..12] == given[..12];
     let same = read.is_accepted()
-        && read.outputs[0].chunks_exact(16).zip(list.chunks_exact(16)).all(alike)
+        && read.outputs[0].chunks_exact(bim::EVENT).zip(list.chunks_exact(bim::EVENT)).all(alike)
         && read.outputs[1] == *texts
         && read.outputs[2] == left.outputs[1];
     bench.hold(case, same, || format!("demand 2: read back as {read:02x?}"));
     let bits_of = |event: &[u8]| u32::from_be_bytes([event[12], event[13], event[14], event[15]]) as usize;
-    let sum: usize = read.outputs[0].chunks_exact(16).map(bits_of).sum();
+    let sum: usize = read.outputs[0].chunks_exact(bim::EVENT).map(bits_of).sum();
     bench.hold(case, sum + 8 == bits, || format!("demand 2: read back, the events have {sum} bits of {bits}"));
 }
 
@@ -135,8 +134,8 @@ fn past(events: &[[u32; 4]], start: usize) -> usize {
     let mut open = 0;
     for (at, event) in events.iter().enumerate().skip(start) {
         match event[0] {
-            kind::START => open += 1,
-            kind::END => open -= 1,
+            bim::KIND_START => open += 1,
+            bim::KIND_END => open -= 1,
             _ => {}
         }
         if open == 0 {
@@ -153,7 +152,7 @@ fn blanks(bench: &mut Bench<'_>, rng: &mut Rng) {
     for _ in 0..4 {
         let mut events = sample.events.clone();
         let at = rng.below(events.len());
-        let blank = [kind::BLANK, events[at][1], rng.below(4) as u32, rng.below(40) as u32];
+        let blank = [bim::KIND_BLANK, events[at][1], rng.below(4) as u32, rng.below(40) as u32];
         match rng.below(4) {
             0 => events[at] = blank,
             1 => events.insert(at, blank),
@@ -210,7 +209,7 @@ fn modes(bench: &mut Bench<'_>, rng: &mut Rng) {
         ask(bench, "every mode", &case);
         // The same list as this mode has it.
         let flag = if rng.one_in(3) { rng.below(2) as u32 } else { mode.min(2) / 2 };
-        sample.events.iter_mut().filter(|event| event[0] == kind::START).for_each(|event| event[2] = flag);
+        sample.events.iter_mut().filter(|event| event[0] == bim::KIND_START).for_each(|event| event[2] = flag);
         put_list(&mut case, &sample.events);
         ask(bench, "every mode", &case);
     }
@@ -308,24 +307,29 @@ fn deep(bench: &mut Bench<'_>, rng: &mut Rng) {
 fn large(bench: &mut Bench<'_>, rng: &mut Rng) {
     let (table, sample) = table_and_sample(rng, 0);
     let mut case = Case::write_sample(&table, &sample);
-    let events = rng.pick(&[2047, 2048, 2049, 3000]);
-    case.inputs[1] = case.inputs[1].iter().copied().cycle().take(16 * events + rng.pick(&[0, 0, 0, 1, 15])).collect();
+    let events = rng.pick(&[bim::MOST_EVENTS - 1, bim::MOST_EVENTS, bim::MOST_EVENTS + 1, 3000]);
+    case.inputs[1] =
+        case.inputs[1].iter().copied().cycle().take(bim::EVENT * events + rng.pick(&[0, 0, 0, 1, 15])).collect();
     ask(bench, "long lists", &case);
 }
 
 /// The named cases, and their neighbours.
 pub fn named(bench: &mut Bench<'_>) {
     let mut rng = Rng::new(0);
-    for named in cases::all() {
-        let cases::Call::Write { table, root, mode, events, texts, room } = named.call else {
-            continue;
-        };
-        let base = Case::write(&table, root, mode, big_endian(&events), texts, room);
+    for base in super::named().into_iter().filter(|case| case.call == Call::Write) {
+        let room = base.rooms[0];
         ask(bench, "named lists", &base);
         for mode in 0..4 {
             ask(bench, "named lists, other modes", &Case { mode, ..base.clone() });
         }
-        for rooms in [[room, 0], [room, AREA - 1], [room, AREA + 1], [8191, AREA], [8192, AREA], [9000, AREA]] {
+        for rooms in [
+            [room, 0],
+            [room, bim::AREA - 1],
+            [room, bim::AREA + 1],
+            [bim::MOST_PAYLOAD - 1, bim::AREA],
+            [bim::MOST_PAYLOAD, bim::AREA],
+            [9000, bim::AREA],
+        ] {
             ask(bench, "named lists, other rooms", &Case { rooms: rooms.to_vec(), ..base.clone() });
         }
         let mut longer = base.clone();

@@ -1,10 +1,10 @@
 //! A realistic guide: programmes with titles, synopses, ratings and times, behind optional lengths.
 
-use super::inputs::{Input, List};
-use super::rows::{choice, complex, element, occurs, sequence, simple, Rows};
-use crate::codes::UNBOUNDED;
+use super::inputs::Input;
+use crate::bim;
+use crate::list::List;
 use crate::rng::Rng;
-use crate::value;
+use crate::rows::{choice, complex, element, occurs, sequence, simple, Rows};
 
 const GUIDE: u32 = 100;
 const SERVICE: u32 = 101;
@@ -34,18 +34,18 @@ fn rows() -> Rows {
         types: vec![
             complex(0, 2, 0),
             complex(2, 2, 4),
-            simple(value::TEXT, 0, 0),
-            simple(value::RANGED, 0, 18),
-            simple(value::UNSIGNED, 0, 0),
-            simple(value::RANGED, 1, 1440),
-            simple(value::ENUMERATION, 64, 0),
-            simple(value::BOOLEAN, 0, 0),
+            simple(bim::TEXT, 0, 0),
+            simple(bim::RANGED, 0, 18),
+            simple(bim::UNSIGNED, 0, 0),
+            simple(bim::RANGED, 1, 1440),
+            simple(bim::ENUMERATION, 64, 0),
+            simple(bim::BOOLEAN, 0, 0),
         ],
         attributes: vec![[VERSION, 1, 4], [LANGUAGE, 0, 2], [ID, 1, 4], [LIVE, 0, 7]],
         particles: vec![
             sequence(1, 2),
             element(SERVICE, 2),
-            occurs(3, 0, UNBOUNDED),
+            occurs(3, 0, bim::UNBOUNDED),
             element(PROGRAMME, 1),
             sequence(5, 6),
             element(TITLE, 2),
@@ -75,39 +75,39 @@ fn prose(rng: &mut Rng, bytes: usize) -> String {
 /// A guide of so many programmes.
 pub fn guide(programmes: u32) -> Input {
     let mut rng = Rng::new(50);
-    let mut list = List::new(1);
-    list.start(GUIDE, false);
+    let mut list = List::new(bim::MODE_OPTIONAL, |name| [PROGRAMME, SYNOPSIS, RATING].contains(&name));
+    list.start(GUIDE);
     list.attribute(VERSION, Some(17));
     list.attribute(LANGUAGE, None);
-    list.text_element(SERVICE, false, "Ferry One");
+    list.text_element(SERVICE, "Ferry One");
     list.times(programmes);
     let mut minute = 29_000_000;
     for id in 0..programmes {
         let minutes = 5 * rng.within(1, 24) as u32;
-        list.start(PROGRAMME, true);
+        list.start(PROGRAMME);
         list.attribute(ID, Some(4_000 + id));
         list.attribute(LIVE, rng.one_in(2).then(|| rng.below(2) as u32));
         let bytes = rng.within(8, 30);
-        list.text_element(TITLE, false, &prose(&mut rng, bytes));
+        list.text_element(TITLE, &prose(&mut rng, bytes));
         let told = !rng.one_in(6);
         list.times(u32::from(told));
         if told {
             let bytes = rng.within(40, 120);
-            list.text_element(SYNOPSIS, true, &prose(&mut rng, bytes));
+            list.text_element(SYNOPSIS, &prose(&mut rng, bytes));
         }
-        list.simple_element(START, false, minute);
-        list.simple_element(MINUTES, false, minutes);
+        list.simple(START, minute);
+        list.simple(MINUTES, minutes);
         let rated = !rng.one_in(3);
         list.times(u32::from(rated));
         if rated {
-            list.simple_element(RATING, true, rng.below(19) as u32);
+            list.simple(RATING, rng.below(19) as u32);
         }
         let by_keyword = rng.one_in(5);
         list.pick(u32::from(by_keyword));
         if by_keyword {
-            list.text_element(KEYWORD, false, any_word(&mut rng));
+            list.text_element(KEYWORD, any_word(&mut rng));
         } else {
-            list.simple_element(GENRE, false, rng.below(64) as u32);
+            list.simple(GENRE, rng.below(64) as u32);
         }
         list.end();
         minute += minutes;

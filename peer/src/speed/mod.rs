@@ -2,6 +2,5 @@
 
 mod guide;
 mod inputs;
-mod rows;
 
 pub use inputs::{growing, standard, Growth, Input};

@@ -1,7 +1,6 @@
 //! Wide loads from a payload, texts moved by words, and codes put out by words.
 
-use crate::answer::number::{NOT_SHORTEST, PAST_END, TOO_LARGE};
-
+use crate::bim;
 const ALL_TOP_BITS: u64 = 0x8080_8080_8080_8080;
 
 /// The bits from `at` on, the first 57 of them sure; zeros past the last byte.
@@ -46,16 +45,16 @@ pub fn width(most: u32) -> u32 {
 pub fn five(window: u64, room: usize) -> Result<(u32, usize), u32> {
     let ones = window.leading_ones() as usize;
     if ones >= 8 {
-        return Err(if room < 8 { PAST_END } else { TOO_LARGE });
+        return Err(if room < 8 { bim::PAST_END } else { bim::TOO_LARGE });
     }
     let groups = ones + 1;
     let bits = 5 * groups;
     if room < bits {
-        return Err(PAST_END);
+        return Err(bim::PAST_END);
     }
     let value = ((window << groups) >> (64 - 4 * groups)) as u32;
     if ones > 0 && value >> (4 * ones) == 0 {
-        return Err(NOT_SHORTEST);
+        return Err(bim::NOT_SHORTEST);
     }
     Ok((value, bits))
 }

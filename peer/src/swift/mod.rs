@@ -9,25 +9,24 @@ mod writing;
 pub use reading::read;
 pub use writing::write;
 
-use crate::answer::number;
-use crate::host::AREA_BYTES;
+use crate::bim;
 
 /// Judges a table.
 pub fn check_table(table: &[u8], area: &mut [u8]) -> u32 {
     let Some(area) = whole_area(area) else {
-        return number::AREA;
+        return bim::AREA_SIZE;
     };
     match table::Table::new(table) {
         Ok(_) => {
             fill_area(area, [0; 6], &[]);
-            number::ACCEPTED
+            bim::ACCEPTED
         }
-        Err(word) => refuse(area, (number::TABLE, word), &[]),
+        Err(word) => refuse(area, (bim::TABLE, word), &[]),
     }
 }
 
 /// Fills the area of a refusal, and gives its number.
-fn refuse(area: &mut [u8; AREA_BYTES], (number, place): (u32, usize), names: &[u16]) -> u32 {
+fn refuse(area: &mut [u8; bim::AREA], (number, place): (u32, usize), names: &[u16]) -> u32 {
     // Places stop at 2^32 - 1.
     let place = u32::try_from(place).unwrap_or(u32::MAX);
     fill_area(area, [place, 0, 0, 0, 0, names.len() as u32], names);
@@ -35,8 +34,8 @@ fn refuse(area: &mut [u8; AREA_BYTES], (number, place): (u32, usize), names: &[u
 }
 
 /// The area, if it has its size; any other is cleared.
-fn whole_area(area: &mut [u8]) -> Option<&mut [u8; AREA_BYTES]> {
-    if area.len() != AREA_BYTES {
+fn whole_area(area: &mut [u8]) -> Option<&mut [u8; bim::AREA]> {
+    if area.len() != bim::AREA {
         area.fill(0);
         return None;
     }
@@ -44,7 +43,7 @@ fn whole_area(area: &mut [u8]) -> Option<&mut [u8; AREA_BYTES]> {
 }
 
 /// Six words, then the names, then zeros.
-fn fill_area(area: &mut [u8; AREA_BYTES], words: [u32; 6], names: &[u16]) {
+fn fill_area(area: &mut [u8; bim::AREA], words: [u32; 6], names: &[u16]) {
     let (head, rest) = area.split_at_mut(24);
     for (bytes, word) in head.as_chunks_mut::<4>().0.iter_mut().zip(words) {
         *bytes = word.to_be_bytes();

@@ -3,12 +3,9 @@
 use super::bits::{copy_text, five, front, width, window};
 use super::table::{word, Table};
 use super::{fill_area, refuse, whole_area};
-use crate::answer::{kind, number, MOST_BYTES, MOST_EVENTS, MOST_NAME, MOST_OPEN};
-use crate::codes::{MOST_COUNT, MOST_FIXED_SPAN, UNBOUNDED};
+use crate::bim;
 use crate::reader::mode_of;
-use crate::table::content;
 use crate::utf8;
-use crate::value;
 
 /// Reads a payload; `events`, `texts` and `area` are written.
 #[allow(clippy::too_many_arguments)] // the boundary's names and order are fixed
@@ -24,7 +21,7 @@ pub fn read(
     let Some(area) = whole_area(area) else {
         events.fill(0);
         texts.fill(0);
-        return number::AREA;
+        return bim::AREA_SIZE;
     };
     let (table, mode) = match begin(table, root_name, root_type, payload) {
         Ok(begun) => begun,
@@ -34,8 +31,8 @@ pub fn read(
             return refuse(area, refused, &[]);
         }
     };
-    let slots = events.as_chunks_mut::<16>().0;
-    let room = slots.len().min(MOST_EVENTS);
+    let slots = events.as_chunks_mut::<{ bim::EVENT }>().0;
+    let room = slots.len().min(bim::MOST_EVENTS);
     let mut reader = Reader {
         table,
         payload,
@@ -45,23 +42,23 @@ pub fn read(
         stored: 0,
         texts,
         used: 0,
-        number: number::ACCEPTED,
+        number: bim::ACCEPTED,
         place: 0,
-        names: [0; MOST_OPEN],
+        names: [0; bim::MOST_NAMES],
         open: 0,
     };
     let end = 8 * payload.len();
-    let read = reader.element(root_name, root_type, end, MOST_OPEN).and_then(|()| reader.padding(end));
+    let read = reader.element(root_name, root_type, end, bim::MOST_OPEN).and_then(|()| reader.padding(end));
     let Reader { at, stored, used, number, place, names, open, .. } = reader;
     if read.is_none() {
         events.fill(0);
         texts.fill(0);
         return refuse(area, (number, place), &names[..open]);
     }
-    events[16 * stored..].fill(0);
+    events[bim::EVENT * stored..].fill(0);
     texts[used..].fill(0);
     fill_area(area, [0, mode, stored as u32, used as u32, at as u32, 0], &[]);
-    number::ACCEPTED
+    bim::ACCEPTED
 }
 
 /// What comes before the first item: 1, 2, 3, 4 with their places.
@@ -71,14 +68,14 @@ fn begin<'a>(
     root_type: u32,
     payload: &[u8],
 ) -> Result<(Table<'a>, u32), (u32, usize)> {
-    let table = Table::new(table).map_err(|word| (number::TABLE, word))?;
-    if root_type as usize >= table.types.len() || root_name > MOST_NAME {
-        return Err((number::ROOT, 0));
+    let table = Table::new(table).map_err(|word| (bim::TABLE, word))?;
+    if root_type as usize >= table.types.len() || root_name > bim::MOST_NAME {
+        return Err((bim::ROOT, 0));
     }
-    if payload.is_empty() || payload.len() > MOST_BYTES {
-        return Err((number::SIZE, 0));
+    if payload.is_empty() || payload.len() > bim::MOST_PAYLOAD {
+        return Err((bim::PAYLOAD_SIZE, 0));
     }
-    let mode = mode_of(payload[0]).ok_or((number::MODE_BYTE, 0))?;
+    let mode = mode_of(payload[0]).ok_or((bim::MODE_BYTE, 0))?;
     Ok((table, mode))
 }
 
@@ -89,7 +86,7 @@ struct Reader<'a> {
     /// The next bit.
     at: usize,
     /// As many as there is room for.
-    events: &'a mut [[u8; 16]],
+    events: &'a mut [[u8; bim::EVENT]],
     stored: usize,
     texts: &'a mut [u8],
     used: usize,
@@ -97,7 +94,7 @@ struct Reader<'a> {
     number: u32,
     place: usize,
     /// Of the open elements, as many as `open` says.
-    names: [u16; MOST_OPEN],
+    names: [u16; bim::MOST_NAMES],
     open: usize,
 }
 
@@ -124,7 +121,7 @@ impl Reader<'_> {
     #[inline(always)]
     fn store(&mut self, kind: u32, p: u32, q: u32, next: usize) -> Step {
         let Some(slot) = self.events.get_mut(self.stored) else {
-            return self.refuse(number::EVENT_ROOM, self.at);
+            return self.refuse(bim::EVENT_ROOM, self.at);
         };
         let words = [kind, p, q, (next - self.at) as u32].map(u32::to_be_bytes);
         slot.copy_from_slice(words.as_flattened());
@@ -138,16 +135,16 @@ impl Reader<'_> {
     fn element(&mut self, name: u32, of_type: u32, end: usize, left: usize) -> Step {
         let first = self.at;
         if left == 0 {
-            return self.refuse(number::TOO_DEEP, first);
+            return self.refuse(bim::DEPTH, first);
         }
-        let mut coded = self.mode == 2;
+        let mut coded = self.mode == bim::MODE_ALWAYS;
         let mut body = first;
         let mut wall = end;
-        if self.mode > 0 {
+        if self.mode > bim::MODE_NONE {
             let mut bits = window(self.payload, first);
-            if self.mode == 1 {
+            if self.mode == bim::MODE_OPTIONAL {
                 if first == end {
-                    return self.refuse(number::PAST_END, first);
+                    return self.refuse(bim::PAST_END, first);
                 }
                 coded = bits >> 63 == 1;
                 bits <<= 1;
@@ -157,7 +154,7 @@ impl Reader<'_> {
                 let (length, size) = self.or_refuse(five(bits, end - body), first)?;
                 body += size;
                 if length as usize > end - body {
-                    return self.refuse(number::LENGTH_PAST_END, first);
+                    return self.refuse(bim::LENGTH, first);
                 }
                 wall = body + length as usize;
             }
@@ -165,11 +162,11 @@ impl Reader<'_> {
         let row = &self.table.types[of_type as usize];
         if word(row, 0) == 0 {
             if !coded {
-                return self.refuse(number::NOT_HELD, first);
+                return self.refuse(bim::NOT_HELD, first);
             }
-            return self.store(kind::BLANK, name, of_type, wall);
+            return self.store(bim::KIND_BLANK, name, of_type, wall);
         }
-        self.store(kind::START, name, u32::from(coded), body)?;
+        self.store(bim::KIND_START, name, u32::from(coded), body)?;
         self.names[self.open] = name as u16;
         self.open += 1;
         let attributes = word(row, 3);
@@ -177,14 +174,14 @@ impl Reader<'_> {
             self.attributes(word(row, 2), attributes, wall)?;
         }
         match word(row, 1) {
-            content::EMPTY => {}
-            content::SIMPLE => self.value(word(row, 4), word(row, 5), word(row, 6), wall)?,
+            bim::EMPTY => {}
+            bim::SIMPLE => self.value(word(row, 4), word(row, 5), word(row, 6), wall)?,
             _ => self.particle(word(row, 4), wall, left - 1)?,
         }
         if coded && self.at != wall {
-            return self.refuse(number::LENGTH_NOT_USED, body);
+            return self.refuse(bim::CONTENT_SHORT, body);
         }
-        self.store(kind::END, 0, 0, self.at)?;
+        self.store(bim::KIND_END, 0, 0, self.at)?;
         self.open -= 1;
         Some(())
     }
@@ -197,12 +194,12 @@ impl Reader<'_> {
             let mut next = at;
             if word(row, 1) == 0 {
                 if at == end {
-                    return self.refuse(number::PAST_END, at);
+                    return self.refuse(bim::PAST_END, at);
                 }
                 present = front(window(self.payload, at), 1);
                 next += 1;
             }
-            self.store(kind::ATTRIBUTE, word(row, 0), present, next)?;
+            self.store(bim::KIND_ATTRIBUTE, word(row, 0), present, next)?;
             if present == 1 {
                 let of_type = &table.types[word(row, 2) as usize];
                 self.value(word(of_type, 4), word(of_type, 5), word(of_type, 6), end)?;
@@ -217,24 +214,25 @@ impl Reader<'_> {
         let room = end - at;
         let bits = window(self.payload, at);
         let read = match of_kind {
-            value::BOOLEAN => choice(1, bits, room),
-            value::RANGED => {
+            bim::BOOLEAN => choice(1, bits, room),
+            bim::RANGED => {
                 let span = c.wrapping_sub(b);
-                let above = if span <= MOST_FIXED_SPAN { choice(span, bits, room) } else { up_to(span, bits, room) };
+                let above =
+                    if span <= bim::MOST_FIXED_SPAN { choice(span, bits, room) } else { up_to(span, bits, room) };
                 above.map(|(above, size)| (b.wrapping_add(above), size))
             }
-            value::UNSIGNED => five(bits, room),
-            value::SIGNED => signed(bits, room),
-            value::ENUMERATION => choice(b - 1, bits, room),
-            value::FLOAT if room < 32 => Err(number::PAST_END),
-            value::FLOAT => Ok((front(bits, 32), 32)),
+            bim::UNSIGNED => five(bits, room),
+            bim::SIGNED => signed(bits, room),
+            bim::ENUMERATION => choice(b - 1, bits, room),
+            bim::FLOAT if room < 32 => Err(bim::PAST_END),
+            bim::FLOAT => Ok((front(bits, 32), 32)),
             _ => {
-                let (count, size) = self.or_refuse(up_to(value::MOST_TEXT, bits, room), at)?;
+                let (count, size) = self.or_refuse(up_to(bim::MOST_TEXT, bits, room), at)?;
                 return self.text(count, at + size, end);
             }
         };
         let (word, size) = self.or_refuse(read, at)?;
-        self.store(kind::VALUE, word, 0, at + size)
+        self.store(bim::KIND_VALUE, word, 0, at + size)
     }
 
     /// The bytes of a text from `first` on: 5, 16, 8, 7. They are copied before they are judged: a refusal clears them.
@@ -242,50 +240,50 @@ impl Reader<'_> {
         let bytes = count as usize;
         let next = first + 8 * bytes;
         if next > end {
-            return self.refuse(number::PAST_END, self.at);
+            return self.refuse(bim::PAST_END, self.at);
         }
         let good = match self.texts.get_mut(self.used..self.used + bytes) {
             Some(target) => copy_text(self.payload, first, target),
             None if utf8::check_at(self.payload, first, bytes) == 0 => {
-                return self.refuse(number::TEXT_ROOM, self.at);
+                return self.refuse(bim::TEXT_ROOM, self.at);
             }
             None => false,
         };
         if !good {
-            return self.refuse(number::NOT_UTF8, self.at);
+            return self.refuse(bim::NOT_UTF8, self.at);
         }
         self.used += bytes;
-        self.store(kind::VALUE, count, 0, next)
+        self.store(bim::KIND_VALUE, count, 0, next)
     }
 
     fn particle(&mut self, row: u32, end: usize, left: usize) -> Step {
         let row = &self.table.particles[row as usize];
         let [of_kind, p, q, r] = [0, 1, 2, 3].map(|index| word(row, index));
-        if of_kind == 0 {
+        if of_kind == bim::ELEMENT {
             return self.element(p, q, end, left);
         }
         let at = self.at;
         if left == 0 {
-            return self.refuse(number::TOO_DEEP, at);
+            return self.refuse(bim::DEPTH, at);
         }
         let left = left - 1;
         match of_kind {
-            1 => {
+            bim::SEQUENCE => {
                 for child in p..p + q {
                     self.particle(child, end, left)?;
                 }
                 Some(())
             }
-            2 => {
+            bim::CHOICE => {
                 let read = choice(q - 1, window(self.payload, at), end - at);
                 let (branch, size) = self.or_refuse(read, at)?;
-                self.store(kind::PICK, branch, 0, at + size)?;
+                self.store(bim::KIND_PICK, branch, 0, at + size)?;
                 self.particle(p + branch, end, left)
             }
             _ => {
                 let read = times(q, r, window(self.payload, at), end - at);
                 let (count, size) = self.or_refuse(read, at)?;
-                self.store(kind::TIMES, count, 0, at + size)?;
+                self.store(bim::KIND_TIMES, count, 0, at + size)?;
                 for _ in 0..count {
                     self.particle(p, end, left)?;
                 }
@@ -297,7 +295,7 @@ impl Reader<'_> {
     /// After the root fewer than 8 bits are left, all 0.
     fn padding(&mut self, end: usize) -> Step {
         if end - self.at >= 8 || window(self.payload, self.at) != 0 {
-            return self.refuse(number::PADDING, self.at);
+            return self.refuse(bim::LEFT_OVER, self.at);
         }
         Some(())
     }
@@ -307,16 +305,16 @@ impl Reader<'_> {
 #[inline(always)]
 fn signed(bits: u64, room: usize) -> Result<(u32, usize), u32> {
     if room == 0 {
-        return Err(number::PAST_END);
+        return Err(bim::PAST_END);
     }
     let negative = (bits >> 63) as u32;
     let (magnitude, size) = five(bits << 1, room - 1)?;
     if magnitude > i32::MAX as u32 + negative {
-        return Err(number::TOO_LARGE);
+        return Err(bim::TOO_LARGE);
     }
     if negative == 1 {
         if magnitude == 0 {
-            return Err(number::MINUS_ZERO);
+            return Err(bim::MINUS_ZERO);
         }
         return Ok((magnitude.wrapping_neg(), 1 + size));
     }
@@ -328,11 +326,11 @@ fn signed(bits: u64, room: usize) -> Result<(u32, usize), u32> {
 fn choice(most: u32, bits: u64, room: usize) -> Result<(u32, usize), u32> {
     let size = width(most);
     if size as usize > room {
-        return Err(number::PAST_END);
+        return Err(bim::PAST_END);
     }
     let value = front(bits, size);
     if value > most {
-        return Err(number::NAMES_NOTHING);
+        return Err(bim::NO_SUCH_CODE);
     }
     Ok((value, size as usize))
 }
@@ -342,7 +340,7 @@ fn choice(most: u32, bits: u64, room: usize) -> Result<(u32, usize), u32> {
 fn up_to(most: u32, bits: u64, room: usize) -> Result<(u32, usize), u32> {
     let (value, size) = five(bits, room)?;
     if value > most {
-        return Err(number::TOO_LARGE);
+        return Err(bim::TOO_LARGE);
     }
     Ok((value, size))
 }
@@ -353,17 +351,20 @@ fn times(least: u32, most: u32, bits: u64, room: usize) -> Result<(u32, usize), 
     let shunt = usize::from(least == 0 && most > 1);
     if shunt == 1 {
         if room == 0 {
-            return Err(number::PAST_END);
+            return Err(bim::PAST_END);
         }
         if bits >> 63 == 0 {
             return Ok((0, 1));
         }
     }
     let (bits, room) = (bits << shunt, room - shunt);
-    let (above, size) =
-        if most == UNBOUNDED { up_to(MOST_COUNT - least, bits, room)? } else { choice(most - least, bits, room)? };
+    let (above, size) = if most == bim::UNBOUNDED {
+        up_to(bim::MOST_COUNT - least, bits, room)?
+    } else {
+        choice(most - least, bits, room)?
+    };
     if shunt == 1 && above == 0 {
-        return Err(number::NAMES_NOTHING);
+        return Err(bim::NO_SUCH_CODE);
     }
     Ok((least + above, shunt + size))
 }

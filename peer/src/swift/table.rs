@@ -1,13 +1,10 @@
 //! A table read where it lies: rows of big-endian words, and the check of all of them.
 
-use crate::answer::MOST_NAME;
-use crate::codes::UNBOUNDED;
-use crate::table::{content, ATTRIBUTE_ROW, HEADER, MOST_WORDS, PARTICLE_ROW, TYPE_ROW};
-use crate::value;
+use crate::bim;
 
-type TypeRow = [u8; 4 * TYPE_ROW];
-type AttributeRow = [u8; 4 * ATTRIBUTE_ROW];
-type ParticleRow = [u8; 4 * PARTICLE_ROW];
+type TypeRow = [u8; 4 * bim::TYPE_ROW];
+type AttributeRow = [u8; 4 * bim::ATTRIBUTE_ROW];
+type ParticleRow = [u8; 4 * bim::PARTICLE_ROW];
 
 /// A word of a row.
 #[inline(always)]
@@ -35,16 +32,20 @@ impl<'a> Table<'a> {
 
     /// The rows, where header and length are right.
     fn split(bytes: &'a [u8]) -> Option<Self> {
-        let (header, rows) = bytes.split_first_chunk::<{ 4 * HEADER }>()?;
+        let (header, rows) = bytes.split_first_chunk::<{ 4 * bim::HEADER }>()?;
         let [types, attributes, particles] = [1, 2, 3].map(|index| word(header, index) as usize);
-        let header_right =
-            word(header, 0) == 1 && (1..=256).contains(&types) && attributes <= 1024 && particles <= 1024;
-        if !header_right || rows.len() != 4 * (TYPE_ROW * types + ATTRIBUTE_ROW * attributes + PARTICLE_ROW * particles)
+        let header_right = word(header, 0) == bim::TABLE_MARK
+            && (1..=bim::MOST_TYPES).contains(&types)
+            && attributes <= bim::MOST_ATTRIBUTES
+            && particles <= bim::MOST_PARTICLES;
+        if !header_right
+            || rows.len()
+                != 4 * (bim::TYPE_ROW * types + bim::ATTRIBUTE_ROW * attributes + bim::PARTICLE_ROW * particles)
         {
             return None;
         }
-        let (types, rows) = rows.split_at(4 * TYPE_ROW * types);
-        let (attributes, particles) = rows.split_at(4 * ATTRIBUTE_ROW * attributes);
+        let (types, rows) = rows.split_at(4 * bim::TYPE_ROW * types);
+        let (attributes, particles) = rows.split_at(4 * bim::ATTRIBUTE_ROW * attributes);
         Some(Table {
             types: types.as_chunks().0,
             attributes: attributes.as_chunks().0,
@@ -65,12 +66,12 @@ impl<'a> Table<'a> {
         let front = (held <= 1) & (first <= attributes) & (count <= attributes.wrapping_sub(first));
         front
             && match inside {
-                content::EMPTY => a | b | c == 0,
-                content::PARTICLES => ((a as usize) < self.particles.len()) & (b | c == 0),
-                content::SIMPLE => match a {
-                    value::RANGED => b as i32 <= c as i32,
-                    value::ENUMERATION => (b.wrapping_sub(1) < 65_536) & (c == 0),
-                    _ => (a <= value::FLOAT) & (b | c == 0),
+                bim::EMPTY => a | b | c == 0,
+                bim::PARTICLES => ((a as usize) < self.particles.len()) & (b | c == 0),
+                bim::SIMPLE => match a {
+                    bim::RANGED => b as i32 <= c as i32,
+                    bim::ENUMERATION => (b.wrapping_sub(1) < bim::MOST_ENUMERATION) & (c == 0),
+                    _ => (a <= bim::FLOAT) & (b | c == 0),
                 },
                 _ => false,
             }
@@ -80,9 +81,9 @@ impl<'a> Table<'a> {
     fn attribute_right(&self, row: &AttributeRow) -> bool {
         match self.types.get(word(row, 2) as usize) {
             Some(of_type) => {
-                (word(row, 0) <= MOST_NAME)
+                (word(row, 0) <= bim::MOST_NAME)
                     & (word(row, 1) <= 1)
-                    & (word(of_type, 1) == content::SIMPLE)
+                    & (word(of_type, 1) == bim::SIMPLE)
                     & (word(of_type, 3) == 0)
             }
             None => false,
@@ -95,9 +96,11 @@ impl<'a> Table<'a> {
         let particles = self.particles.len() as u32;
         let child = (p > index) & (p < particles);
         match kind {
-            0 => (p <= MOST_NAME) & ((q as usize) < self.types.len()) & (r == 0),
-            1 | 2 => child & (q >= kind) & (q <= 64) & (q <= particles.wrapping_sub(p)) & (r == 0),
-            3 => child & (q <= 65_535) & (r.wrapping_sub(1) < UNBOUNDED) & (q <= r),
+            bim::ELEMENT => (p <= bim::MOST_NAME) & ((q as usize) < self.types.len()) & (r == 0),
+            bim::SEQUENCE | bim::CHOICE => {
+                child & (q >= kind) & (q <= bim::MOST_CHILDREN) & (q <= particles.wrapping_sub(p)) & (r == 0)
+            }
+            bim::OCCURS => child & (q <= bim::MOST_COUNT) & (r.wrapping_sub(1) < bim::UNBOUNDED) & (q <= r),
             _ => false,
         }
     }
@@ -108,8 +111,8 @@ impl<'a> Table<'a> {
 #[inline(never)]
 fn first_fault(bytes: &[u8]) -> usize {
     let whole = bytes.len() / 4;
-    let seen = if bytes.len().is_multiple_of(4) && whole <= MOST_WORDS { whole } else { whole.min(HEADER) };
-    let mut words = [0; MOST_WORDS];
+    let seen = if bytes.len().is_multiple_of(4) && whole <= bim::MOST_WORDS { whole } else { whole.min(bim::HEADER) };
+    let mut words = [0; bim::MOST_WORDS];
     for (word, bytes) in words[..seen].iter_mut().zip(bytes.as_chunks::<4>().0) {
         *word = u32::from_be_bytes(*bytes);
     }

@@ -3,10 +3,7 @@
 use super::bits::{code5, width, Pen};
 use super::table::{word, Table};
 use super::{fill_area, refuse, whole_area};
-use crate::answer::{kind, number, MOST_BYTES, MOST_EVENTS, MOST_NAME, MOST_OPEN};
-use crate::codes::{MOST_COUNT, MOST_FIXED_SPAN, UNBOUNDED};
-use crate::table::content;
-use crate::value;
+use crate::bim;
 
 /// Writes a list; `payload` and `area` are written.
 #[allow(clippy::too_many_arguments)] // the boundary's names and order are fixed
@@ -22,26 +19,26 @@ pub fn write(
 ) -> u32 {
     let Some(area) = whole_area(area) else {
         payload.fill(0);
-        return number::AREA;
+        return bim::AREA_SIZE;
     };
-    let (list, rest) = events.as_chunks::<16>();
+    let (list, rest) = events.as_chunks::<{ bim::EVENT }>();
     let written = begin(table, root_name, root_type, mode).and_then(|table| {
-        if !rest.is_empty() || list.len() > MOST_EVENTS {
-            return Err((number::NO_READING, list.len()));
+        if !rest.is_empty() || list.len() > bim::MOST_EVENTS {
+            return Err((bim::NO_READING, list.len()));
         }
         let call = Call { table, mode, list, texts, root_name, root_type };
         // The place for the codes is no larger than the list asks: it is cleared first.
         match list.len() {
             0..=32 => call.run::<32>(payload),
             33..=256 => call.run::<256>(payload),
-            _ => call.run::<MOST_EVENTS>(payload),
+            _ => call.run::<{ bim::MOST_EVENTS }>(payload),
         }
     });
     match written {
         Ok(bits) => {
             payload[bits.div_ceil(8)..].fill(0);
             fill_area(area, [0, mode, list.len() as u32, texts.len() as u32, bits as u32, 0], &[]);
-            number::ACCEPTED
+            bim::ACCEPTED
         }
         Err(refused) => {
             payload.fill(0);
@@ -52,12 +49,12 @@ pub fn write(
 
 /// What comes before the list: 1, 2, 22.
 fn begin(table: &[u8], root_name: u32, root_type: u32, mode: u32) -> Result<Table<'_>, (u32, usize)> {
-    let table = Table::new(table).map_err(|word| (number::TABLE, word))?;
-    if root_type as usize >= table.types.len() || root_name > MOST_NAME {
-        return Err((number::ROOT, 0));
+    let table = Table::new(table).map_err(|word| (bim::TABLE, word))?;
+    if root_type as usize >= table.types.len() || root_name > bim::MOST_NAME {
+        return Err((bim::ROOT, 0));
     }
-    if mode > 2 {
-        return Err((number::WRITE_MODE, 0));
+    if mode > bim::MODE_ALWAYS {
+        return Err((bim::WRITE_MODE, 0));
     }
     Ok(table)
 }
@@ -85,7 +82,7 @@ impl Piece {
 struct Call<'a> {
     table: Table<'a>,
     mode: u32,
-    list: &'a [[u8; 16]],
+    list: &'a [[u8; bim::EVENT]],
     texts: &'a [u8],
     root_name: u32,
     root_type: u32,
@@ -99,22 +96,27 @@ impl Call<'_> {
         let &Call { table, mode, list, texts, root_name, root_type } = self;
         let pieces = &mut pieces[..list.len()];
         let mut walk = Walk { table, mode, list, texts, used: 0, next: 0, bits: 8, number: 0, pieces, filled: 0 };
-        if walk.element(root_name, root_type, MOST_OPEN).is_none() {
+        if walk.element(root_name, root_type, bim::MOST_OPEN).is_none() {
             return Err((walk.number, walk.next));
         }
         let Walk { used, next, bits, pieces, filled, .. } = walk;
         if let Some(event) = list.get(next) {
-            let number = if word(event, 0) == kind::BLANK { number::BLANK } else { number::NO_READING };
+            let number = if word(event, 0) == bim::KIND_BLANK { bim::BLANK } else { bim::NO_READING };
             return Err((number, next));
         }
         if used < texts.len() {
-            return Err((number::TEXT_BYTES, list.len()));
+            return Err((bim::TEXT_BYTES, list.len()));
         }
         let bytes = bits.div_ceil(8);
-        if bytes > MOST_BYTES || bytes > payload.len() {
-            return Err((number::PAYLOAD_ROOM, 0));
+        if bytes > bim::MOST_PAYLOAD || bytes > payload.len() {
+            return Err((bim::PAYLOAD_ROOM, 0));
         }
-        put_out(&pieces[..filled], texts, [0x0f, 0x4f, 0x8f][mode as usize], &mut payload[..bytes]);
+        put_out(
+            &pieces[..filled],
+            texts,
+            [bim::MODE_BYTE_NONE, bim::MODE_BYTE_OPTIONAL, bim::MODE_BYTE_ALWAYS][mode as usize],
+            &mut payload[..bytes],
+        );
         Ok(bits)
     }
 }
@@ -137,7 +139,7 @@ fn put_out(pieces: &[Piece], mut texts: &[u8], mode_byte: u8, payload: &mut [u8]
 struct Walk<'a> {
     table: Table<'a>,
     mode: u32,
-    list: &'a [[u8; 16]],
+    list: &'a [[u8; bim::EVENT]],
     texts: &'a [u8],
     /// Text bytes used.
     used: usize,
@@ -170,11 +172,11 @@ impl Walk<'_> {
     #[inline(always)]
     fn take(&mut self, of_kind: u32) -> Step<(u32, u32)> {
         let Some(event) = self.list.get(self.next) else {
-            return self.refuse(number::NO_READING);
+            return self.refuse(bim::NO_READING);
         };
         if word(event, 0) != of_kind {
-            let blank = word(event, 0) == kind::BLANK;
-            return self.refuse(if blank { number::BLANK } else { number::NO_READING });
+            let blank = word(event, 0) == bim::KIND_BLANK;
+            return self.refuse(if blank { bim::BLANK } else { bim::NO_READING });
         }
         Some((word(event, 1), word(event, 2)))
     }
@@ -192,7 +194,7 @@ impl Walk<'_> {
     #[inline(always)]
     fn plain(&mut self, of_kind: u32, wanted: (u32, u32)) -> Step {
         if self.take(of_kind)? != wanted {
-            return self.refuse(number::NO_READING);
+            return self.refuse(bim::NO_READING);
         }
         self.next += 1;
         Some(())
@@ -202,10 +204,10 @@ impl Walk<'_> {
     #[inline(always)]
     fn enter(&mut self, left: usize) -> Step<usize> {
         if self.next == self.list.len() {
-            return self.refuse(number::NO_READING);
+            return self.refuse(bim::NO_READING);
         }
         if left == 0 {
-            return self.refuse(number::TOO_DEEP);
+            return self.refuse(bim::DEPTH);
         }
         Some(left - 1)
     }
@@ -213,40 +215,40 @@ impl Walk<'_> {
     #[inline(always)]
     fn element(&mut self, name: u32, of_type: u32, left: usize) -> Step {
         let left = self.enter(left)?;
-        let (p, sized) = self.take(kind::START)?;
+        let (p, sized) = self.take(bim::KIND_START)?;
         let flag_right = match self.mode {
-            0 => sized == 0,
-            1 => sized <= 1,
+            bim::MODE_NONE => sized == 0,
+            bim::MODE_OPTIONAL => sized <= 1,
             _ => sized == 1,
         };
         if p != name || !flag_right {
-            return self.refuse(number::NO_READING);
+            return self.refuse(bim::NO_READING);
         }
         let row = &self.table.types[of_type as usize];
         if word(row, 0) == 0 {
-            return self.refuse(number::NOT_HELD);
+            return self.refuse(bim::NOT_HELD);
         }
         self.next += 1;
         // A head's place; its code is known at the end.
         let head = self.filled;
-        self.filled += usize::from(self.mode > 0);
+        self.filled += usize::from(self.mode > bim::MODE_NONE);
         let before = self.bits;
         let attributes = word(row, 3);
         if attributes > 0 {
             self.attributes(word(row, 2), attributes)?;
         }
         match word(row, 1) {
-            content::EMPTY => {}
-            content::SIMPLE => self.value(word(row, 4), word(row, 5), word(row, 6))?,
+            bim::EMPTY => {}
+            bim::SIMPLE => self.value(word(row, 4), word(row, 5), word(row, 6))?,
             _ => self.particle(word(row, 4), left)?,
         }
-        self.plain(kind::END, (0, 0))?;
-        if self.mode > 0 {
+        self.plain(bim::KIND_END, (0, 0))?;
+        if self.mode > bim::MODE_NONE {
             let (mut bits, mut size) = (0, 0);
             if sized == 1 {
                 (bits, size) = code5((self.bits - before) as u32);
             }
-            if self.mode == 1 {
+            if self.mode == bim::MODE_OPTIONAL {
                 bits |= u64::from(sized) << size;
                 size += 1;
             }
@@ -259,10 +261,10 @@ impl Walk<'_> {
     fn attributes(&mut self, first: u32, count: u32) -> Step {
         let table = self.table;
         for row in &table.attributes[first as usize..(first + count) as usize] {
-            let (p, present) = self.take(kind::ATTRIBUTE)?;
+            let (p, present) = self.take(bim::KIND_ATTRIBUTE)?;
             let required = word(row, 1);
             if p != word(row, 0) || present > 1 || present < required {
-                return self.refuse(number::NO_READING);
+                return self.refuse(bim::NO_READING);
             }
             if required == 1 {
                 self.next += 1;
@@ -282,53 +284,53 @@ impl Walk<'_> {
     fn word(&mut self, of_kind: u32) -> Step<u32> {
         let (p, q) = self.take(of_kind)?;
         if q != 0 {
-            return self.refuse(number::NO_READING);
+            return self.refuse(bim::NO_READING);
         }
         Some(p)
     }
 
     #[inline(always)]
     fn value(&mut self, of_kind: u32, b: u32, c: u32) -> Step {
-        let p = self.word(kind::VALUE)?;
+        let p = self.word(bim::KIND_VALUE)?;
         let code = match of_kind {
-            value::BOOLEAN => choice(1, p),
-            value::RANGED => {
+            bim::BOOLEAN => choice(1, p),
+            bim::RANGED => {
                 let (span, above) = (c.wrapping_sub(b), p.wrapping_sub(b));
                 if above > span {
                     None
-                } else if span <= MOST_FIXED_SPAN {
+                } else if span <= bim::MOST_FIXED_SPAN {
                     Some((u64::from(above), width(span)))
                 } else {
                     Some(code5(above))
                 }
             }
-            value::UNSIGNED => Some(code5(p)),
-            value::SIGNED => {
+            bim::UNSIGNED => Some(code5(p)),
+            bim::SIGNED => {
                 let (bits, size) = code5((p as i32).unsigned_abs());
                 Some((u64::from(p >> 31) << size | bits, size + 1))
             }
-            value::ENUMERATION => choice(b - 1, p),
-            value::FLOAT => Some((u64::from(p), 32)),
+            bim::ENUMERATION => choice(b - 1, p),
+            bim::FLOAT => Some((u64::from(p), 32)),
             _ => return self.text(p),
         };
         match code {
             Some(code) => self.put(code, 0),
-            None => return self.refuse(number::OUTSIDE_ROW),
+            None => return self.refuse(bim::OUTSIDE_ROW),
         }
         Some(())
     }
 
     /// A text of `count` bytes: 20, 23, 16.
     fn text(&mut self, count: u32) -> Step {
-        if count > value::MOST_TEXT {
-            return self.refuse(number::OUTSIDE_ROW);
+        if count > bim::MOST_TEXT {
+            return self.refuse(bim::OUTSIDE_ROW);
         }
         let next = self.used + count as usize;
         let Some(text) = self.texts.get(self.used..next) else {
-            return self.refuse(number::TEXT_BYTES);
+            return self.refuse(bim::TEXT_BYTES);
         };
         if std::str::from_utf8(text).is_err() {
-            return self.refuse(number::NOT_UTF8);
+            return self.refuse(bim::NOT_UTF8);
         }
         self.used = next;
         self.put(code5(count), count);
@@ -338,29 +340,29 @@ impl Walk<'_> {
     fn particle(&mut self, row: u32, left: usize) -> Step {
         let row = &self.table.particles[row as usize];
         let [of_kind, p, q, r] = [0, 1, 2, 3].map(|index| word(row, index));
-        if of_kind == 0 {
+        if of_kind == bim::ELEMENT {
             return self.element(p, q, left);
         }
         let left = self.enter(left)?;
         match of_kind {
-            1 => {
+            bim::SEQUENCE => {
                 for child in p..p + q {
                     self.particle(child, left)?;
                 }
                 Some(())
             }
-            2 => {
-                let branch = self.word(kind::PICK)?;
+            bim::CHOICE => {
+                let branch = self.word(bim::KIND_PICK)?;
                 let Some(code) = choice(q - 1, branch) else {
-                    return self.refuse(number::OUTSIDE_ROW);
+                    return self.refuse(bim::OUTSIDE_ROW);
                 };
                 self.put(code, 0);
                 self.particle(p + branch, left)
             }
             _ => {
-                let count = self.word(kind::TIMES)?;
+                let count = self.word(bim::KIND_TIMES)?;
                 let Some(code) = times(q, r, count) else {
-                    return self.refuse(number::OUTSIDE_ROW);
+                    return self.refuse(bim::OUTSIDE_ROW);
                 };
                 self.put(code, 0);
                 for _ in 0..count {
@@ -381,11 +383,11 @@ fn choice(most: u32, value: u32) -> Option<Code> {
 /// The count of an occurs row.
 #[inline(always)]
 fn times(least: u32, most: u32, count: u32) -> Option<Code> {
-    if count < least || count > most.min(MOST_COUNT) {
+    if count < least || count > most.min(bim::MOST_COUNT) {
         return None;
     }
     let above = count - least;
-    let (bits, size) = if most == UNBOUNDED { code5(above) } else { (u64::from(above), width(most - least)) };
+    let (bits, size) = if most == bim::UNBOUNDED { code5(above) } else { (u64::from(above), width(most - least)) };
     if least > 0 || most == 1 {
         return Some((bits, size));
     }

@@ -1,9 +1,53 @@
 //! What the tests share: calls over buffers filled with dirt, and tables written row by row.
 
-#![allow(dead_code, unused_imports)] // no test file uses all of it
+#![allow(dead_code, unused_imports, unused_macros)] // no test file uses all of it
+
+/// Where a stand-in departs from the peer: nowhere, or in one of these ways.
+macro_rules! faults {
+    ($($(#[$doc:meta])* $name:ident,)*) => {
+        #[derive(Clone, Copy, Debug, PartialEq, Eq)]
+        enum Fault { None, $($(#[$doc])* $name,)* }
+        const FAULTS: &[Fault] = &[$(Fault::$name,)*];
+    };
+}
 
 use peer::answer::Answer;
-pub use peer::cases::{table_of, worked_table, WORKED as WORKED_PAYLOAD, WORKED_EVENTS};
+use peer::rows::Rows;
+
+/// The worked table of document 01.
+pub fn worked_table() -> Vec<u32> {
+    table_of(
+        &[[1, 2, 0, 1, 0, 0, 0], [1, 1, 0, 0, 0, 0, 0], [1, 1, 0, 0, 1, 0xffff_fffd, 4], [1, 1, 0, 0, 5, 0, 0]],
+        &[[20, 0, 2]],
+        &[[1, 1, 2, 0], [0, 11, 3, 0], [3, 3, 0, 3], [0, 12, 1, 0]],
+    )
+}
+
+/// The worked payload, mended as the readings say.
+pub const WORKED_PAYLOAD: [u8; 9] = [0x8f, 0x8c, 0xaa, 0x15, 0x12, 0x43, 0x4e, 0x0c, 0x20];
+
+/// The worked list.
+pub const WORKED_EVENTS: [[u32; 4]; 14] = [
+    [1, 10, 1, 10],
+    [2, 20, 1, 1],
+    [3, 4_294_967_295, 0, 3],
+    [1, 11, 1, 10],
+    [3, 2, 0, 21],
+    [6, 0, 0, 0],
+    [5, 2, 0, 3],
+    [1, 12, 1, 5],
+    [3, 1, 0, 1],
+    [6, 0, 0, 0],
+    [1, 12, 1, 5],
+    [3, 0, 0, 1],
+    [6, 0, 0, 0],
+    [6, 0, 0, 0],
+];
+
+/// A table of these rows.
+pub fn table_of(types: &[[u32; 7]], attributes: &[[u32; 3]], particles: &[[u32; 4]]) -> Vec<u32> {
+    Rows { types: types.to_vec(), attributes: attributes.to_vec(), particles: particles.to_vec() }.words()
+}
 
 /// The bits of a text of 0s and 1s, padded with zeros to whole bytes.
 pub fn bits(text: &str) -> Vec<u8> {

@@ -3,21 +3,15 @@
 
 mod proved;
 
+use peer::program::{count_and_seed, status, usage};
 use std::process::ExitCode;
 use std::time::Instant;
 
 fn main() -> ExitCode {
     let mut words = std::env::args().skip(1).peekable();
     let sample = words.next_if(|word| word == "--sample").is_some();
-    let mut arguments = words.map(|word| word.parse());
-    let (cases, seed) = match (arguments.next(), arguments.next()) {
-        (None, _) => (300_000_u64, 1_u64),
-        (Some(Ok(cases)), None) => (cases, 1),
-        (Some(Ok(cases)), Some(Ok(seed))) => (cases, seed),
-        _ => {
-            eprintln!("calls [--sample] [cases] [seed]");
-            return ExitCode::FAILURE;
-        }
+    let Some((cases, seed)) = count_and_seed(words, 300_000) else {
+        return usage("calls [--sample] [cases] [seed]");
     };
     let begun = Instant::now();
     let library = proved::Library::default();
@@ -27,9 +21,5 @@ fn main() -> ExitCode {
     let codes = if sample { 20 * cases } else { cases };
     let good = peer::calls::run_bits(&library, codes, seed).report() && good;
     println!("time {:.1} s", begun.elapsed().as_secs_f64());
-    if good {
-        ExitCode::SUCCESS
-    } else {
-        ExitCode::FAILURE
-    }
+    status(good)
 }

@@ -3,7 +3,7 @@
 //! SAFETY, of every call below: the archive's functions are proved safe for all arguments of their types, with no
 //! `requires`; a slice passes as its pointer and its length, and no two of them overlap.
 
-use peer::calls::{BitCalls, Calls};
+use peer::calls::{BitCalls, Calls, Reading, Writing};
 use peer::lent::Coding;
 use std::cell::Cell;
 
@@ -23,9 +23,6 @@ extern "C" {
         area: *mut u8,
         area_len: usize,
     ) -> u32;
-}
-
-extern "C" {
     fn bim_bits_fixed(
         bytes: *const u8,
         bytes_len: usize,
@@ -37,10 +34,6 @@ extern "C" {
     fn bim_bits_vlu5(bytes: *const u8, bytes_len: usize, place: u32, area: *mut u8, area_len: usize) -> u32;
     fn bim_bits_vlu8(bytes: *const u8, bytes_len: usize, place: u32, area: *mut u8, area_len: usize) -> u32;
     fn bim_bits_left(bytes: *const u8, bytes_len: usize, place: u32) -> u32;
-}
-
-#[cfg(feature = "host_write")]
-extern "C" {
     fn bim_write(
         table: *const u8,
         table_len: usize,
@@ -86,21 +79,14 @@ impl Calls for Library {
         unsafe { bim_check_table(self.given(table), table.len(), self.lent(area), area.len()) }
     }
 
-    fn read(
-        &self,
-        table: &[u8],
-        (name, of_type): (u32, u32),
-        payload: &[u8],
-        events: &mut [u8],
-        texts: &mut [u8],
-        area: &mut [u8],
-    ) -> u32 {
+    fn read(&self, lent: Reading<'_>) -> u32 {
+        let Reading { table, root, payload, events, texts, area } = lent;
         unsafe {
             bim_read(
                 self.given(table),
                 table.len(),
-                name,
-                of_type,
+                root.0,
+                root.1,
                 self.given(payload),
                 payload.len(),
                 self.lent(events),
@@ -113,23 +99,14 @@ impl Calls for Library {
         }
     }
 
-    #[cfg(feature = "host_write")]
-    fn write(
-        &self,
-        table: &[u8],
-        (name, of_type): (u32, u32),
-        mode: u32,
-        events: &[u8],
-        texts: &[u8],
-        payload: &mut [u8],
-        area: &mut [u8],
-    ) -> u32 {
+    fn write(&self, lent: Writing<'_>) -> u32 {
+        let Writing { table, root, mode, events, texts, payload, area } = lent;
         unsafe {
             bim_write(
                 self.given(table),
                 table.len(),
-                name,
-                of_type,
+                root.0,
+                root.1,
                 mode,
                 self.given(events),
                 events.len(),
@@ -141,15 +118,6 @@ impl Calls for Library {
                 area.len(),
             )
         }
-    }
-
-    #[cfg(not(feature = "host_write"))]
-    fn write(&self, _: &[u8], _: (u32, u32), _: u32, _: &[u8], _: &[u8], _: &mut [u8], _: &mut [u8]) -> u32 {
-        unreachable!("the writer is not linked")
-    }
-
-    fn writes(&self) -> bool {
-        cfg!(feature = "host_write")
     }
 }
 

@@ -5,17 +5,17 @@ mod proved;
 mod reads;
 mod signs;
 mod tables;
-mod tally;
 mod texts;
 mod writes;
 
+use peer::program::{count_and_seed, status, usage};
 use peer::rng::Rng;
+use peer::tally::{Numbers, Tally};
 use std::process::ExitCode;
 use std::time::Instant;
-use tally::Tally;
 
 /// Every number that a leaf can answer.
-const NUMBERS: [(&str, &[u32]); 30] = [
+const NUMBERS: [Numbers; 30] = [
     ("any5", &[0, 5, 13, 99]),
     ("any8", &[0, 5, 13, 99]),
     ("attribute", &[0, 1]),
@@ -49,15 +49,8 @@ const NUMBERS: [(&str, &[u32]); 30] = [
 ];
 
 fn main() -> ExitCode {
-    let mut arguments = std::env::args().skip(1).map(|word| word.parse());
-    let (rounds, seed) = match (arguments.next(), arguments.next()) {
-        (None, _) => (20_000_u64, 1_u64),
-        (Some(Ok(rounds)), None) => (rounds, 1),
-        (Some(Ok(rounds)), Some(Ok(seed))) => (rounds, seed),
-        _ => {
-            eprintln!("leaves [rounds] [seed]");
-            return ExitCode::FAILURE;
-        }
+    let Some((rounds, seed)) = count_and_seed(std::env::args().skip(1), 20_000) else {
+        return usage("leaves [rounds] [seed]");
     };
     let begun = Instant::now();
     let mut tally = Tally::default();
@@ -72,11 +65,14 @@ fn main() -> ExitCode {
         signs::round(&mut rng, &mut tally);
         tables::round(&mut rng, &mut tally);
     }
-    let good = tally.report(&NUMBERS);
-    println!("time {:.1} s", begun.elapsed().as_secs_f64());
-    if good {
-        ExitCode::SUCCESS
-    } else {
-        ExitCode::FAILURE
+    let mut cases = 0;
+    for (leaf, count, numbers) in tally.rows() {
+        println!("{leaf:<12} {count:>9} cases   {numbers}");
+        cases += count;
     }
+    println!("{cases} cases of {} leaves, {} differences", tally.rows().count(), tally.differing());
+    let good = tally.shows_none();
+    let good = tally.has_met(&NUMBERS) && good;
+    println!("time {:.1} s", begun.elapsed().as_secs_f64());
+    status(good)
 }

@@ -1,14 +1,14 @@
 //! Codes read: seeded bits, right and damaged, at every alignment and below every wall around their end.
 
 use crate::proved::{self, Answer, OUTSIDE};
-use crate::tally::Tally;
 use crate::texts;
-use peer::answer::number::{NAMES_NOTHING, PAST_END, TOO_LARGE};
+use peer::bim;
 use peer::bits::fixed;
 use peer::codes::{self, Reading, Taken};
 use peer::gen::edge_word;
 use peer::model::{bits5, bits_of, bytes_of, groups};
 use peer::rng::Rng;
+use peer::tally::Tally;
 use peer::value;
 
 /// What the peer says of a code: value, bits and the number more that some codes tell.
@@ -70,7 +70,7 @@ impl Pattern {
                 Err(OUTSIDE)
             } else if self.at > wall {
                 // The peer is never asked past a wall; by the paper no bit of the item lies below it.
-                Err(PAST_END)
+                Err(bim::PAST_END)
             } else {
                 peer(&self.payload, wall, self.at)
             };
@@ -145,7 +145,7 @@ fn fixed_width(rng: &mut Rng, tally: &mut Tally) {
     if width > 32 {
         // No word holds so many: 13, wherever the wall is.
         for wall in pattern.walls() {
-            let number = if wall > 8 * pattern.payload.len() { OUTSIDE } else { TOO_LARGE };
+            let number = if wall > 8 * pattern.payload.len() { OUTSIDE } else { bim::TOO_LARGE };
             let answer = proved::fixed(&pattern.payload, wall, pattern.at, width);
             tally.hold("fixed", number, answer, Answer::refused(number), || format!("width {width} end {wall}"));
         }
@@ -173,7 +173,7 @@ fn numbers(rng: &mut Rng, tally: &mut Tally) {
         &[most],
         |s, end, at| proved::number(s, end, at, most),
         |s, end, at| match codes::strict5(s, end, at)? {
-            read if read.value > most => Err(TOO_LARGE),
+            read if read.value > most => Err(bim::TOO_LARGE),
             read => Ok(taken(read)),
         },
     );
@@ -231,7 +231,7 @@ fn within(rng: &mut Rng, span: u32) -> u32 {
 fn range_code(rng: &mut Rng, b: i32, c: i32) -> Vec<bool> {
     let span = (i64::from(c) - i64::from(b)).max(0) as u32;
     let above = within(rng, span);
-    if span > 65_535 {
+    if span > bim::MOST_FIXED_SPAN {
         return five(rng, above);
     }
     let width = codes::width(u64::from(span) + 1) as usize;
@@ -241,7 +241,7 @@ fn range_code(rng: &mut Rng, b: i32, c: i32) -> Vec<bool> {
 
 /// What a row says that no right table has: its code has no word at all, and takes no bits to say so.
 fn nothing() -> Said {
-    Err(NAMES_NOTHING)
+    Err(bim::NO_SUCH_CODE)
 }
 
 fn ranges(rng: &mut Rng, tally: &mut Tally) {
@@ -258,34 +258,17 @@ fn ranges(rng: &mut Rng, tally: &mut Tally) {
 
 /// The least and most count of an occurs row, now and then of none that a right table has.
 pub fn occurs_row(rng: &mut Rng) -> (u32, u32) {
+    #[rustfmt::skip]
     const ROWS: [(u32, u32); 20] = [
-        (0, 1),
-        (1, 1),
-        (0, 2),
-        (0, 3),
-        (1, 2),
-        (1, 3),
-        (2, 2),
-        (2, 6),
-        (0, 7),
-        (0, 8),
-        (7, 8),
-        (0, 65_534),
-        (0, 65_535),
-        (1, 65_535),
-        (65_535, 65_535),
-        (0, 65_536),
-        (1, 65_536),
-        (3, 65_536),
-        (65_534, 65_536),
-        (65_535, 65_536),
+        (0, 1), (1, 1), (0, 2), (0, 3), (1, 2), (1, 3), (2, 2), (2, 6), (0, 7), (0, 8), (7, 8), (0, 65_534), (0, 65_535),
+        (1, 65_535), (65_535, 65_535), (0, 65_536), (1, 65_536), (3, 65_536), (65_534, 65_536), (65_535, 65_536),
     ];
     match rng.below(30) {
         0 => (edge_word(rng), edge_word(rng)),
         1..=15 => rng.pick(&ROWS),
         _ => {
-            let most = if rng.one_in(3) { rng.within(1, 65_536) } else { rng.within(1, 40) };
-            (rng.below(most.min(65_535) + 1) as u32, most as u32)
+            let most = if rng.one_in(3) { rng.within(1, bim::UNBOUNDED as usize) } else { rng.within(1, 40) };
+            (rng.below(most.min(bim::MOST_COUNT as usize) + 1) as u32, most as u32)
         }
     }
 }
@@ -293,13 +276,13 @@ pub fn occurs_row(rng: &mut Rng) -> (u32, u32) {
 /// Whether a right table can have the row (document 01, particle rows). One more is left out: least 0 and most 0 is no
 /// row, and both sides read it as one choice without bits.
 pub fn is_row(least: u32, most: u32) -> bool {
-    least <= 65_535 && least <= most && most <= codes::UNBOUNDED
+    least <= bim::MOST_COUNT && least <= most && most <= bim::UNBOUNDED
 }
 
 fn counts(rng: &mut Rng, tally: &mut Tally) {
     let (least, most) = occurs_row(rng);
     // Both sides would count on from a least that no row can have: 65,536 to unbounded.
-    if least > 65_535 && least <= most && most == codes::UNBOUNDED {
+    if least > bim::MOST_COUNT && least <= most && most == bim::UNBOUNDED {
         return;
     }
     let span = most.wrapping_sub(least);
@@ -308,7 +291,7 @@ fn counts(rng: &mut Rng, tally: &mut Tally) {
     if least == 0 && most > 1 {
         code.push(!rng.one_in(4));
     }
-    if most == codes::UNBOUNDED {
+    if most == bim::UNBOUNDED {
         code.extend(five(rng, above));
     } else {
         let width = codes::width(u64::from(span) + 1) as usize;
@@ -336,29 +319,25 @@ pub fn simple_row(rng: &mut Rng) -> (u32, u32, u32) {
         0 => (rng.pick(&[7, 8, 65_536, u32::MAX]), edge_word(rng), edge_word(rng)),
         1..=8 => {
             let (b, c) = range_ends(rng);
-            (value::RANGED, b as u32, c as u32)
+            (bim::RANGED, b as u32, c as u32)
         }
-        9..=14 => (value::ENUMERATION, pick(rng, &[1, 2, 3, 5, 64, 65, 65_535, 65_536]), 0),
-        _ => (
-            rng.pick(&[value::BOOLEAN, value::UNSIGNED, value::SIGNED, value::SIGNED, value::TEXT, value::FLOAT]),
-            0,
-            0,
-        ),
+        9..=14 => (bim::ENUMERATION, pick(rng, &[1, 2, 3, 5, 64, 65, 65_535, 65_536]), 0),
+        _ => (rng.pick(&[bim::BOOLEAN, bim::UNSIGNED, bim::SIGNED, bim::SIGNED, bim::TEXT, bim::FLOAT]), 0, 0),
     }
 }
 
 fn value_code(rng: &mut Rng, kind: u32, b: u32, c: u32) -> Vec<bool> {
     match kind {
-        value::BOOLEAN => noise(rng, 1),
-        value::RANGED => range_code(rng, b as i32, c as i32),
-        value::SIGNED => {
+        bim::BOOLEAN => noise(rng, 1),
+        bim::RANGED => range_code(rng, b as i32, c as i32),
+        bim::SIGNED => {
             let magnitude = pick(rng, &[0, 1, (1 << 31) - 1, 1 << 31, (1 << 31) + 1, u32::MAX]);
             let sign = noise(rng, 1);
             [sign, five(rng, magnitude)].concat()
         }
-        value::ENUMERATION => index(rng, b),
-        value::TEXT => text_code(rng),
-        value::FLOAT => noise(rng, 32),
+        bim::ENUMERATION => index(rng, b),
+        bim::TEXT => text_code(rng),
+        bim::FLOAT => noise(rng, 32),
         _ => {
             let value = edge_word(rng);
             five(rng, value)
@@ -369,9 +348,7 @@ fn value_code(rng: &mut Rng, kind: u32, b: u32, c: u32) -> Vec<bool> {
 /// A text with its count; now and then another count.
 fn text_code(rng: &mut Rng) -> Vec<bool> {
     let text = match rng.below(400) {
-        0 => texts::long(rng, 4094),
-        1 => texts::long(rng, 4095),
-        2 => texts::long(rng, 4096),
+        about @ 0..3 => texts::long(rng, bim::MOST_TEXT as usize - 1 + about),
         _ => texts::any(rng),
     };
     let count = match rng.below(16) {
@@ -396,7 +373,7 @@ fn values(rng: &mut Rng, tally: &mut Tally) {
         &[kind, b, c],
         |s, end, at| proved::simple(s, end, at, kind, b, c),
         |s, end, at| {
-            if kind > value::FLOAT || kind == value::RANGED && b as i32 > c as i32 {
+            if kind > bim::FLOAT || kind == bim::RANGED && b as i32 > c as i32 {
                 return nothing();
             }
             value::read(kind, b, c, s, end, at).map(|read| (read.word, read.bits, read.text as u32))

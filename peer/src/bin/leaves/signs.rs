@@ -1,10 +1,10 @@
 //! Widths and signed words, against Rust's own arithmetic where the peer has no function of its own.
 
 use crate::proved;
-use crate::tally::Tally;
 use peer::codes;
 use peer::gen::edge_word;
 use peer::rng::Rng;
+use peer::tally::Tally;
 
 /// The widths of all small numbers of choices, and of those around every power of 2.
 pub fn widths(tally: &mut Tally) {

@@ -1,26 +1,28 @@
 //! Tables, right and damaged: the check, and of right ones every row.
 
 use crate::proved;
-use crate::tally::Tally;
-use peer::cases::{self, Call};
+use peer::bim;
+use peer::call::Call;
+use peer::cases;
 use peer::gen::{damage_table, deep_table, edge_word, let_go, table};
 use peer::rng::Rng;
-use peer::table::{check, content, Particle, Table, HEADER, MOST_WORDS};
+use peer::table::{check, Particle, Table};
+use peer::tally::Tally;
 
 /// The named tables, every length about the smallest and the largest, and every one-word change of a small table.
 pub fn named(tally: &mut Tally) {
     for case in cases::all() {
-        if let Call::Table { table } = case.call {
-            ask(tally, &table);
+        if let Call::Table(table) = &case.call {
+            ask(tally, table);
         }
     }
     let largest = cases::largest_table();
-    assert_eq!(largest.len(), MOST_WORDS);
-    ask(tally, &largest);
-    ask(tally, &largest[..MOST_WORDS - 1]);
-    ask(tally, &[&largest[..], &[0]].concat());
-    ask(tally, &[largest, vec![7; 1000]].concat());
-    let worked = cases::worked_table();
+    assert_eq!(largest.len(), bim::MOST_WORDS);
+    ask(tally, largest);
+    ask(tally, &largest[..bim::MOST_WORDS - 1]);
+    ask(tally, &[largest, &[0]].concat());
+    ask(tally, &[largest, &[7; 1000]].concat());
+    let worked = &cases::worked().table;
     for words in 0..worked.len() {
         ask(tally, &worked[..words]);
     }
@@ -46,7 +48,7 @@ pub fn round(rng: &mut Rng, tally: &mut Tally) {
     }
     if rng.one_in(4) {
         let mut words: Vec<_> = (0..rng.below(60)).map(|_| edge_word(rng)).collect();
-        let header = words.len().min(rng.below(HEADER + 1));
+        let header = words.len().min(rng.below(bim::HEADER + 1));
         words[..header].copy_from_slice(&[1, 1, 1, 1][..header]);
         ask(tally, &words);
     }
@@ -73,8 +75,8 @@ fn rows(tally: &mut Tally, words: &[u32], table: &Table<'_>) {
         let held = u32::from(of_type.held);
         tally.hold("held", held, proved::held(words, row), held, || shown("type", row));
         let expected = match of_type.content {
-            content::EMPTY => (0, [0; 4]),
-            content::SIMPLE => (1, [of_type.a, of_type.b, of_type.c, 0]),
+            bim::EMPTY => (0, [0; 4]),
+            bim::SIMPLE => (1, [of_type.a, of_type.b, of_type.c, 0]),
             _ => (2, [of_type.a, 0, 0, 0]),
         };
         tally.hold("content", expected.0, proved::content(words, row), expected, || shown("type", row));

@@ -2,13 +2,13 @@
 
 use crate::proved::{self, Answer, OUTSIDE};
 use crate::reads::{is_row, occurs_row, range_ends, simple_row};
-use crate::tally::Tally;
 use crate::texts;
-use peer::answer::number::OUTSIDE_ROW;
+use peer::bim;
 use peer::bits::Code;
 use peer::codes;
 use peer::gen::edge_word;
 use peer::rng::Rng;
+use peer::tally::Tally;
 use peer::value;
 
 /// No code takes more, so with this room a value that its row lacks is told.
@@ -45,10 +45,10 @@ fn ranges(rng: &mut Rng, tally: &mut Tally) {
 fn counts(rng: &mut Rng, tally: &mut Tally) {
     let (least, most) = occurs_row(rng);
     // See reads: 65,536 to unbounded is no row.
-    if least > 65_535 && least <= most && most == codes::UNBOUNDED {
+    if least > bim::MOST_COUNT && least <= most && most == bim::UNBOUNDED {
         return;
     }
-    let count = near(rng, least, most.min(65_535));
+    let count = near(rng, least, most.min(bim::MOST_COUNT));
     let code = if is_row(least, most) { codes::write_occurs(least, most, count) } else { None };
     size(tally, "size_times", &[least, most, count], code, proved::size_times(least, most, count));
     ask(rng, tally, "put_times", &[least, most, count], code, count, |buf, at| {
@@ -59,13 +59,13 @@ fn counts(rng: &mut Rng, tally: &mut Tally) {
 fn values(rng: &mut Rng, tally: &mut Tally) {
     let (kind, b, c) = simple_row(rng);
     let word = match kind {
-        value::BOOLEAN => rng.below(4) as u32,
-        value::RANGED => near(rng, b, c),
-        value::ENUMERATION => near(rng, 0, b.wrapping_sub(1)),
-        value::TEXT => near(rng, 0, value::MOST_TEXT),
+        bim::BOOLEAN => rng.below(4) as u32,
+        bim::RANGED => near(rng, b, c),
+        bim::ENUMERATION => near(rng, 0, b.wrapping_sub(1)),
+        bim::TEXT => near(rng, 0, bim::MOST_TEXT),
         _ => edge_word(rng),
     };
-    let code = if kind > value::FLOAT { None } else { value::write(kind, b, c, word).ok() };
+    let code = if kind > bim::FLOAT { None } else { value::write(kind, b, c, word).ok() };
     size(tally, "size_simple", &[kind, b, c, word], code, proved::size_simple(kind, b, c, word));
     ask(rng, tally, "put_simple", &[kind, b, c, word], code, word, |buf, at| {
         proved::put_simple(buf, at, kind, b, c, word)
@@ -90,7 +90,7 @@ fn near(rng: &mut Rng, least: u32, most: u32) -> u32 {
 fn size(tally: &mut Tally, leaf: &'static str, parameters: &[u32], code: Option<Code>, answer: Answer) {
     let expected = match code {
         Some(code) => Answer::accepted(code.width, 0, 0),
-        None => Answer::refused(OUTSIDE_ROW),
+        None => Answer::refused(bim::OUTSIDE_ROW),
     };
     tally.hold(leaf, expected.number, answer, expected, || format!("{parameters:?}"));
 }
@@ -154,14 +154,14 @@ fn ask(
     let said = match code {
         _ if at + least > 8 * room => match answer.number {
             // A value that its row lacks takes fewer bits than the most, and may be told all the same.
-            OUTSIDE_ROW if code.is_none() => Answer::refused(OUTSIDE_ROW),
+            bim::OUTSIDE_ROW if code.is_none() => Answer::refused(bim::OUTSIDE_ROW),
             _ => Answer::refused(OUTSIDE),
         },
         Some(code) => {
             expected.put(at, code.bits, code.width as usize);
             Answer::accepted(value, at + code.width as usize, 0)
         }
-        None => Answer::refused(OUTSIDE_ROW),
+        None => Answer::refused(bim::OUTSIDE_ROW),
     };
     tally.hold(leaf, said.number, (answer, area.bytes), (said, expected.bytes), || {
         format!("{parameters:?} at {at} room {room}")

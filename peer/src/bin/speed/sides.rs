@@ -2,8 +2,8 @@
 //! own name, which callgrind can tell apart.
 
 use crate::proved::Library;
-use peer::calls::{Call, Calls, Case};
-use peer::{host, swift};
+use peer::calls::{Calls, Case};
+use peer::{bim, calls_of, host, swift};
 
 /// Who is asked.
 #[derive(Clone, Copy, PartialEq, Eq)]
@@ -35,7 +35,11 @@ pub struct Buffers {
 impl Buffers {
     pub fn of(case: &Case) -> Self {
         let outputs = case.rooms.iter().map(|&room| vec![0xdd; room]).collect();
-        Buffers { inputs: case.inputs.clone(), outputs, words: vec![0; 8964 + 8192] }
+        Buffers {
+            inputs: case.inputs.clone(),
+            outputs,
+            words: vec![0; bim::MOST_WORDS + bim::EVENT_WORDS * bim::MOST_EVENTS],
+        }
     }
 
     /// Asks a side.
@@ -56,15 +60,7 @@ impl Buffers {
 
     #[inline(always)]
     fn call(&mut self, case: &Case, calls: &impl Calls) -> u32 {
-        match (case.call, &self.inputs[..], &mut self.outputs[..]) {
-            (Call::Read, [table, payload], [events, texts, area]) => {
-                calls.read(table, case.root, payload, events, texts, area)
-            }
-            (Call::Write, [table, events, texts], [payload, area]) => {
-                calls.write(table, case.root, case.mode, events, texts, payload, area)
-            }
-            _ => panic!("{case:?} is neither read nor written"),
-        }
+        case.ask(calls, &self.inputs, &mut self.outputs)
     }
 }
 
@@ -84,7 +80,7 @@ pub fn check(case: &Case) {
 #[inline(never)]
 fn plain_pass(table: &[u8], list: Option<&[u8]>, words: &mut [u32], outputs: &mut [Vec<u8>]) -> u32 {
     outputs.iter_mut().for_each(|output| output.fill(0));
-    let (table_words, list_words) = words.split_at_mut(8964);
+    let (table_words, list_words) = words.split_at_mut(bim::MOST_WORDS);
     let table_words = &mut table_words[..table.len() / 4];
     convert(table, table_words);
     if let Some(list) = list {
@@ -100,133 +96,43 @@ fn convert(bytes: &[u8], words: &mut [u32]) {
     }
 }
 
-#[no_mangle]
-#[inline(never)]
-fn swift_read(
-    table: &[u8],
-    root: (u32, u32),
-    payload: &[u8],
-    events: &mut [u8],
-    texts: &mut [u8],
-    area: &mut [u8],
-) -> u32 {
-    swift::read(table, root.0, root.1, payload, events, texts, area)
+/// The calls of a module under names that callgrind can tell apart.
+macro_rules! counted {
+    ($name:ident of $module:ident: $read:ident, $write:ident) => {
+        #[no_mangle]
+        #[inline(never)]
+        #[allow(clippy::too_many_arguments)] // the boundary's names and order are fixed
+        fn $read(
+            table: &[u8],
+            root_name: u32,
+            root_type: u32,
+            payload: &[u8],
+            events: &mut [u8],
+            texts: &mut [u8],
+            area: &mut [u8],
+        ) -> u32 {
+            $module::read(table, root_name, root_type, payload, events, texts, area)
+        }
+
+        #[no_mangle]
+        #[inline(never)]
+        #[allow(clippy::too_many_arguments)] // the boundary's names and order are fixed
+        fn $write(
+            table: &[u8],
+            root_name: u32,
+            root_type: u32,
+            mode: u32,
+            events: &[u8],
+            texts: &[u8],
+            payload: &mut [u8],
+            area: &mut [u8],
+        ) -> u32 {
+            $module::write(table, root_name, root_type, mode, events, texts, payload, area)
+        }
+
+        calls_of!($name = $module::check_table, $read, $write);
+    };
 }
 
-#[no_mangle]
-#[inline(never)]
-fn swift_write(
-    table: &[u8],
-    root: (u32, u32),
-    mode: u32,
-    events: &[u8],
-    texts: &[u8],
-    payload: &mut [u8],
-    area: &mut [u8],
-) -> u32 {
-    swift::write(table, root.0, root.1, mode, events, texts, payload, area)
-}
-
-#[no_mangle]
-#[inline(never)]
-fn judge_read(
-    table: &[u8],
-    root: (u32, u32),
-    payload: &[u8],
-    events: &mut [u8],
-    texts: &mut [u8],
-    area: &mut [u8],
-) -> u32 {
-    host::read(table, root.0, root.1, payload, events, texts, area)
-}
-
-#[no_mangle]
-#[inline(never)]
-fn judge_write(
-    table: &[u8],
-    root: (u32, u32),
-    mode: u32,
-    events: &[u8],
-    texts: &[u8],
-    payload: &mut [u8],
-    area: &mut [u8],
-) -> u32 {
-    host::write(table, root.0, root.1, mode, events, texts, payload, area)
-}
-
-struct Swift;
-
-impl Calls for Swift {
-    fn check_table(&self, table: &[u8], area: &mut [u8]) -> u32 {
-        swift::check_table(table, area)
-    }
-
-    #[inline(always)]
-    fn read(
-        &self,
-        table: &[u8],
-        root: (u32, u32),
-        payload: &[u8],
-        events: &mut [u8],
-        texts: &mut [u8],
-        area: &mut [u8],
-    ) -> u32 {
-        swift_read(table, root, payload, events, texts, area)
-    }
-
-    #[inline(always)]
-    fn write(
-        &self,
-        table: &[u8],
-        root: (u32, u32),
-        mode: u32,
-        events: &[u8],
-        texts: &[u8],
-        payload: &mut [u8],
-        area: &mut [u8],
-    ) -> u32 {
-        swift_write(table, root, mode, events, texts, payload, area)
-    }
-
-    fn writes(&self) -> bool {
-        true
-    }
-}
-
-/// The peer itself.
-struct Judge;
-
-impl Calls for Judge {
-    fn check_table(&self, table: &[u8], area: &mut [u8]) -> u32 {
-        host::check_table(table, area)
-    }
-
-    fn read(
-        &self,
-        table: &[u8],
-        root: (u32, u32),
-        payload: &[u8],
-        events: &mut [u8],
-        texts: &mut [u8],
-        area: &mut [u8],
-    ) -> u32 {
-        judge_read(table, root, payload, events, texts, area)
-    }
-
-    fn write(
-        &self,
-        table: &[u8],
-        root: (u32, u32),
-        mode: u32,
-        events: &[u8],
-        texts: &[u8],
-        payload: &mut [u8],
-        area: &mut [u8],
-    ) -> u32 {
-        judge_write(table, root, mode, events, texts, payload, area)
-    }
-
-    fn writes(&self) -> bool {
-        true
-    }
-}
+counted!(Swift of swift: swift_read, swift_write);
+counted!(Judge of host: judge_read, judge_write);

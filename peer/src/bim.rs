@@ -1,0 +1,179 @@
+//! Every number that has a name. The first part has the names of include/bim.h and include/bim_table.h, without their BIM_
+//! (tests/header.rs holds it against them); the second names the limits of document 01 that the headers have in words alone.
+
+// The numbers given back.
+
+/// Not a refusal.
+pub const ACCEPTED: u32 = 0;
+/// The table is malformed.
+pub const TABLE: u32 = 1;
+/// The root type is not below T, or the root name is over 65,535.
+pub const ROOT: u32 = 2;
+/// The payload is empty or over 8,192 bytes.
+pub const PAYLOAD_SIZE: u32 = 3;
+/// The mode byte is none of the three.
+pub const MODE_BYTE: u32 = 4;
+/// An item passes the innermost declared end, or the payload's.
+pub const PAST_END: u32 = 5;
+/// More than 64 elements and particle rows are open.
+pub const DEPTH: u32 = 6;
+/// There is no room for the event.
+pub const EVENT_ROOM: u32 = 7;
+/// There is no room for the text.
+pub const TEXT_ROOM: u32 = 8;
+/// The type is not held, and no length lets the reader step over it.
+pub const NOT_HELD: u32 = 9;
+/// TheLength passes the enclosing end.
+pub const LENGTH: u32 = 10;
+/// The content ends before its declared end.
+pub const CONTENT_SHORT: u32 = 11;
+/// A number is not in shortest form.
+pub const NOT_SHORTEST: u32 = 12;
+/// A number is too large.
+pub const TOO_LARGE: u32 = 13;
+/// A code names nothing.
+pub const NO_SUCH_CODE: u32 = 14;
+/// Minus zero.
+pub const MINUS_ZERO: u32 = 15;
+/// A text is not UTF-8.
+pub const NOT_UTF8: u32 = 16;
+/// 8 or more bits are left, or a 1 among them.
+pub const LEFT_OVER: u32 = 17;
+/// The list is no reading of the content model.
+pub const NO_READING: u32 = 18;
+/// A Blank stands in a list to be written.
+pub const BLANK: u32 = 19;
+/// A value, branch or count is outside its row.
+pub const OUTSIDE_ROW: u32 = 20;
+/// The payload is over 8,192 bytes or the lent room.
+pub const PAYLOAD_ROOM: u32 = 21;
+/// The write mode is over 2.
+pub const WRITE_MODE: u32 = 22;
+/// Text bytes are short, or left over.
+pub const TEXT_BYTES: u32 = 23;
+/// The area has not its bytes.
+pub const AREA_SIZE: u32 = 24;
+
+// The kinds of an event, its first word.
+
+/// Name, 1 if a length is coded.
+pub const KIND_START: u32 = 1;
+/// Name, 1 present or 0 absent.
+pub const KIND_ATTRIBUTE: u32 = 2;
+/// Value word, 0.
+pub const KIND_VALUE: u32 = 3;
+/// Branch from 0, 0.
+pub const KIND_PICK: u32 = 4;
+/// Count, 0.
+pub const KIND_TIMES: u32 = 5;
+/// 0, 0, taking no bits.
+pub const KIND_END: u32 = 6;
+/// Name, type; all bits of the element.
+pub const KIND_BLANK: u32 = 7;
+
+// A type's content.
+
+/// Nothing.
+pub const EMPTY: u32 = 0;
+/// One simple value.
+pub const SIMPLE: u32 = 1;
+/// A particle row.
+pub const PARTICLES: u32 = 2;
+
+// The simple kinds.
+
+/// 1 bit.
+pub const BOOLEAN: u32 = 0;
+/// From b to c.
+pub const RANGED: u32 = 1;
+/// vluimsbf5.
+pub const UNSIGNED: u32 = 2;
+/// A sign bit, then vluimsbf5 of the magnitude.
+pub const SIGNED: u32 = 3;
+/// An index below b.
+pub const ENUMERATION: u32 = 4;
+/// vluimsbf5 of the byte count (001, 8.5.4.1), then UTF-8.
+pub const TEXT: u32 = 5;
+/// 32 bits, kept as they are.
+pub const FLOAT: u32 = 6;
+
+// The particle rows.
+
+/// Name, type.
+pub const ELEMENT: u32 = 0;
+/// First child row, number of child rows.
+pub const SEQUENCE: u32 = 1;
+/// First child row, number of child rows.
+pub const CHOICE: u32 = 2;
+/// Child row, least, most.
+pub const OCCURS: u32 = 3;
+/// `most` of an occurs row without a bound.
+pub const UNBOUNDED: u32 = 65_536;
+
+// Sizes.
+
+/// The bytes of an answer area.
+pub const AREA: usize = 152;
+/// The bytes of the bit reader's area.
+pub const BITS_AREA: usize = 12;
+/// The bytes of an event.
+pub const EVENT: usize = 16;
+/// The most events of a list, and so the most that any lent room counts for.
+pub const MOST_EVENTS: usize = 2048;
+/// The most bytes of a payload.
+pub const MOST_PAYLOAD: usize = 8192;
+/// The most bytes of a table.
+pub const MOST_TABLE: usize = 35_856;
+/// The most names of a path.
+pub const MOST_NAMES: usize = 64;
+
+// What the headers have no name for.
+
+/// The modes of length coding: none.
+pub const MODE_NONE: u32 = 0;
+/// Where an element's flag says so.
+pub const MODE_OPTIONAL: u32 = 1;
+/// Every element has one.
+pub const MODE_ALWAYS: u32 = 2;
+/// The first byte of a payload of mode 0.
+pub const MODE_BYTE_NONE: u8 = 0x0f;
+/// Of mode 1.
+pub const MODE_BYTE_OPTIONAL: u8 = 0x4f;
+/// Of mode 2.
+pub const MODE_BYTE_ALWAYS: u8 = 0x8f;
+/// The mode bytes, by mode.
+pub const MODE_BYTES: [u8; 3] = [MODE_BYTE_NONE, MODE_BYTE_OPTIONAL, MODE_BYTE_ALWAYS];
+/// The words of an event.
+pub const EVENT_WORDS: usize = EVENT / 4;
+/// The first word of every table.
+pub const TABLE_MARK: u32 = 1;
+/// The words of a table before its first row.
+pub const HEADER: usize = 4;
+/// The words of a type row.
+pub const TYPE_ROW: usize = 7;
+/// The words of an attribute row.
+pub const ATTRIBUTE_ROW: usize = 3;
+/// The words of a particle row.
+pub const PARTICLE_ROW: usize = 4;
+/// The most type rows.
+pub const MOST_TYPES: usize = 256;
+/// The most attribute rows.
+pub const MOST_ATTRIBUTES: usize = 1024;
+/// The most particle rows.
+pub const MOST_PARTICLES: usize = 1024;
+/// The most words of a table.
+pub const MOST_WORDS: usize = MOST_TABLE / 4;
+/// The most child rows of a sequence or choice.
+pub const MOST_CHILDREN: u32 = 64;
+/// The largest name of an element or attribute.
+pub const MOST_NAME: u32 = 65_535;
+/// The largest count of an occurs row, and so its largest least.
+pub const MOST_COUNT: u32 = 65_535;
+/// The most values of an enumeration.
+pub const MOST_ENUMERATION: u32 = 65_536;
+/// The largest difference of a range that is still coded in a fixed width (001, 8.5.4.2.1).
+pub const MOST_FIXED_SPAN: u32 = 65_535;
+/// The most bytes of a text.
+pub const MOST_TEXT: u32 = 4095;
+/// The most elements and particle rows open at once.
+pub const MOST_OPEN: usize = 64;

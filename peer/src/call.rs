@@ -1,0 +1,60 @@
+//! A call in words: what the named cases ask, and what the demands are held of.
+
+use crate::bim;
+
+/// The numbers that a reading can be answered with; 24 at the C boundary alone.
+#[rustfmt::skip]
+pub const READER: [u32; 19] = [
+    bim::ACCEPTED, bim::TABLE, bim::ROOT, bim::PAYLOAD_SIZE, bim::MODE_BYTE, bim::PAST_END, bim::DEPTH, bim::EVENT_ROOM,
+    bim::TEXT_ROOM, bim::NOT_HELD, bim::LENGTH, bim::CONTENT_SHORT, bim::NOT_SHORTEST, bim::TOO_LARGE, bim::NO_SUCH_CODE,
+    bim::MINUS_ZERO, bim::NOT_UTF8, bim::LEFT_OVER, bim::AREA_SIZE,
+];
+/// The numbers that a writing can be answered with.
+#[rustfmt::skip]
+pub const WRITER: [u32; 13] = [
+    bim::ACCEPTED, bim::TABLE, bim::ROOT, bim::DEPTH, bim::NOT_HELD, bim::NOT_UTF8, bim::NO_READING, bim::BLANK,
+    bim::OUTSIDE_ROW, bim::PAYLOAD_ROOM, bim::WRITE_MODE, bim::TEXT_BYTES, bim::AREA_SIZE,
+];
+
+/// Which call, with its input.
+#[derive(Clone, Debug)]
+pub enum Call {
+    /// The check of a table.
+    Table(Vec<u32>),
+    /// The reader.
+    Read(Read),
+    /// The writer.
+    Write(Write),
+}
+
+/// A reader's input.
+#[derive(Clone, Debug)]
+pub struct Read {
+    /// The table.
+    pub table: Vec<u32>,
+    /// Root name and type.
+    pub root: (u32, u32),
+    /// The payload.
+    pub payload: Vec<u8>,
+    /// Lent event words.
+    pub event_words: usize,
+    /// Lent text bytes.
+    pub text_room: usize,
+}
+
+/// A writer's input.
+#[derive(Clone, Debug)]
+pub struct Write {
+    /// The table.
+    pub table: Vec<u32>,
+    /// Root name and type.
+    pub root: (u32, u32),
+    /// The mode asked.
+    pub mode: u32,
+    /// The list's words.
+    pub events: Vec<u32>,
+    /// The texts.
+    pub texts: Vec<u8>,
+    /// Lent payload bytes.
+    pub room: usize,
+}
