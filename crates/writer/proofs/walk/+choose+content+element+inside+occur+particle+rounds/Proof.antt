@@ -227,7 +227,14 @@ element-held-requires : (t : ℕ) → element-lts.Need-held-requires (element-en
 element-held-requires t c κs = search (needs, element-ways)
 
 element-returns-2 : (t : ℕ) → element-lts.Need-returns-2 (element-env t) (element-at t) element.Post
-element-returns-2 t c = search (element-unheld, c .before .before .before .before .before .before .before .before .before .before .pre .1 .0, c .before .before .before .before .before .word .ensures, c .before .before .before .before .flag-in .ensures, c .before .before .before .unlike .ensures, c .before .before .if1 .left, c .before .held .ensures, c .if2 .taken)
+element-returns-2 t c =
+    let at-held = c .before in
+    let at-if1 = at-held .before in
+    let at-unlike = at-if1 .before in
+    let at-flag-in = at-unlike .before in
+    let at-word = at-flag-in .before in
+    let entry = at-word .before .before .before .before .before in
+    search (element-unheld, entry .pre .1 .0, at-word .word .ensures, at-flag-in .flag-in .ensures, at-unlike .unlike .ensures, at-if1 .if1 .left, at-held .held .ensures, c .if2 .taken)
 
 element-add-t18 : (t : ℕ) → element-lts.Need-add-t18 (element-env t) (element-at t) element.Post
 element-add-t18 t c = search (needs, element-ways)
@@ -245,16 +252,40 @@ element-same-length : (t : ℕ) → element-lts.Need-same-length (element-env t)
 element-same-length t c = search needs
 
 element-returns-3 : (t : ℕ) → element-lts.Need-returns-3 (element-env t) (element-at t) element.Post
-element-returns-3 t c = search (element-stop, c .before .before .before .before .before .before .before .before .before .before .before .before .before .before .before .before .pre .1 .0, c .before .before .before .before .before .before .before .before .before .before .before .word .ensures, c .before .before .before .before .before .before .before .before .before .before .flag-in .ensures, c .before .before .before .before .before .before .before .before .before .unlike .ensures, c .before .before .before .before .before .before .before .before .if1 .left, c .before .before .before .before .before .before .before .held .ensures, c .before .before .before .before .before .before .if2 .left, c .before .before .before .before .inside .ensures, c .enum-told .given .1)
+element-returns-3 t c =
+    let at-inside = c .before .before .before .before in
+    let at-if2 = at-inside .before .before in
+    let at-held = at-if2 .before in
+    let at-if1 = at-held .before in
+    let at-unlike = at-if1 .before in
+    let at-flag-in = at-unlike .before in
+    let at-word = at-flag-in .before in
+    let entry = at-word .before .before .before .before .before in
+    search (element-stop, entry .pre .1 .0, at-word .word .ensures, at-flag-in .flag-in .ensures, at-unlike .unlike .ensures, at-if1 .if1 .left, at-held .held .ensures, at-if2 .if2 .left, at-inside .inside .ensures, c .enum-told .given .1)
 
 element-close-requires : (t : ℕ) → element-lts.Need-close-requires (element-env t) (element-at t) element.Post
-element-close-requires t c κs = (search (element-kept, c .before .before .before .before .before .before .inside .ensures, c .before .before .r .given .1, c .before .before .before .before .before .before .before .before .before .before .before .before .before .before .before .before .before .before .pre .1 .0), search (element-sealing, c .before .before .before .before .before .before .inside .ensures, c .before .before .r .given .1))
+element-close-requires t c κs =
+    let at-r = c .before .before in
+    let at-inside = at-r .before .before .before .before in
+    let entry = at-inside .before .before .before .before .before .before .before .before .before .before .before .before in
+    (search (element-kept, at-inside .inside .ensures, at-r .r .given .1, entry .pre .1 .0), search (element-sealing, at-inside .inside .ensures, at-r .r .given .1))
 
 element-same-length-2 : (t : ℕ) → element-lts.Need-same-length-2 (element-env t) (element-at t) element.Post
 element-same-length-2 t c = search needs
 
 element-returns-4 : (t : ℕ) → element-lts.Need-returns-4 (element-env t) (element-at t) element.Post
-element-returns-4 t c = search (element-go, c .before .before .before .before .before .before .before .before .before .before .before .before .before .before .before .before .before .before .before .before .before .pre .1 .0, c .before .before .before .before .before .before .before .before .before .before .before .before .before .before .before .before .word .ensures, c .before .before .before .before .before .before .before .before .before .before .before .before .before .before .before .flag-in .ensures, c .before .before .before .before .before .before .before .before .before .before .before .before .before .before .unlike .ensures, c .before .before .before .before .before .before .before .before .before .before .before .before .before .if1 .left, c .before .before .before .before .before .before .before .before .before .before .before .before .held .ensures, c .before .before .before .before .before .before .before .before .before .before .before .if2 .left, c .before .before .before .before .before .before .before .before .before .inside .ensures, c .before .before .before .before .before .r .given .1, c .before .before .close .ensures)
+element-returns-4 t c =
+    let at-close = c .before .before in
+    let at-r = at-close .before .before .before in
+    let at-inside = at-r .before .before .before .before in
+    let at-if2 = at-inside .before .before in
+    let at-held = at-if2 .before in
+    let at-if1 = at-held .before in
+    let at-unlike = at-if1 .before in
+    let at-flag-in = at-unlike .before in
+    let at-word = at-flag-in .before in
+    let entry = at-word .before .before .before .before .before in
+    search (element-go, entry .pre .1 .0, at-word .word .ensures, at-flag-in .flag-in .ensures, at-unlike .unlike .ensures, at-if1 .if1 .left, at-held .held .ensures, at-if2 .if2 .left, at-inside .inside .ensures, at-r .r .given .1, at-close .close .ensures)
 
 inside-span-requires : (t : ℕ) → inside-lts.Need-span-requires (inside-env t) (inside-at t) inside.Post
 inside-span-requires t c κs = search (needs, inside-ways)
@@ -332,25 +363,41 @@ particle-enum-known-name : (t : ℕ) → particle-lts.Need-enum-known-name (part
 particle-enum-known-name t c = search needs
 
 particle-element-requires : (t : ℕ) → particle-lts.Need-element-requires (particle-env t) (particle-at t) particle.Post
-particle-element-requires t c κs = (omega arith, (c .before .before .before .before .before .before .before .before .before .before .pre .1 .0, c .before .before .before .before .before .before .before .before .before .before .pre .1 .1, search (row-type, c .before .before .before .before .particle .ensures, c .before .before .before .before .before .before .before .before .before .before .pre .1 .1, c .before .before .before .before .before .before .before .before .before .before .pre .1 .2, c .before .before .name .given .1), omega arith))
+particle-element-requires t c κs =
+    let at-name = c .before .before in
+    let at-particle = at-name .before .before in
+    let entry = at-particle .before .before .before .before .before .before in
+    (omega arith, (entry .pre .1 .0, entry .pre .1 .1, search (row-type, at-particle .particle .ensures, entry .pre .1 .1, entry .pre .1 .2, at-name .name .given .1), omega arith))
 
 particle-enum-known-first : (t : ℕ) → particle-lts.Need-enum-known-first (particle-env t) (particle-at t) particle.Post
 particle-enum-known-first t c = search needs
 
 particle-rounds-requires : (t : ℕ) → particle-lts.Need-rounds-requires (particle-env t) (particle-at t) particle.Post
-particle-rounds-requires t c κs = (omega arith, (c .before .before .before .before .before .before .before .before .before .before .pre .1 .0, c .before .before .before .before .before .before .before .before .before .before .pre .1 .1, search (row-sequence, c .before .before .before .before .particle .ensures, c .before .before .before .before .before .before .before .before .before .before .pre .1 .1, c .before .before .before .before .before .before .before .before .before .before .pre .1 .2, c .before .before .first .given .1), omega arith))
+particle-rounds-requires t c κs =
+    let at-first = c .before .before in
+    let at-particle = at-first .before .before in
+    let entry = at-particle .before .before .before .before .before .before in
+    (omega arith, (entry .pre .1 .0, entry .pre .1 .1, search (row-sequence, at-particle .particle .ensures, entry .pre .1 .1, entry .pre .1 .2, at-first .first .given .1), omega arith))
 
 particle-enum-known-first-2 : (t : ℕ) → particle-lts.Need-enum-known-first-2 (particle-env t) (particle-at t) particle.Post
 particle-enum-known-first-2 t c = search needs
 
 particle-choose-requires : (t : ℕ) → particle-lts.Need-choose-requires (particle-env t) (particle-at t) particle.Post
-particle-choose-requires t c κs = (omega arith, (c .before .before .before .before .before .before .before .before .before .before .pre .1 .0, c .before .before .before .before .before .before .before .before .before .before .pre .1 .1, search (row-choice, c .before .before .before .before .particle .ensures, c .before .before .before .before .before .before .before .before .before .before .pre .1 .1, c .before .before .before .before .before .before .before .before .before .before .pre .1 .2, c .before .before .first2 .given .1), omega arith))
+particle-choose-requires t c κs =
+    let at-first2 = c .before .before in
+    let at-particle = at-first2 .before .before in
+    let entry = at-particle .before .before .before .before .before .before in
+    (omega arith, (entry .pre .1 .0, entry .pre .1 .1, search (row-choice, at-particle .particle .ensures, entry .pre .1 .1, entry .pre .1 .2, at-first2 .first2 .given .1), omega arith))
 
 particle-enum-known-child : (t : ℕ) → particle-lts.Need-enum-known-child (particle-env t) (particle-at t) particle.Post
 particle-enum-known-child t c = search needs
 
 particle-occur-requires : (t : ℕ) → particle-lts.Need-occur-requires (particle-env t) (particle-at t) particle.Post
-particle-occur-requires t c κs = (omega arith, (c .before .before .before .before .before .before .before .before .before .before .pre .1 .0, c .before .before .before .before .before .before .before .before .before .before .pre .1 .1, search (row-child, c .before .before .before .before .particle .ensures, c .before .before .before .before .before .before .before .before .before .before .pre .1 .1, c .before .before .before .before .before .before .before .before .before .before .pre .1 .2, c .before .before .child .given .1), omega arith))
+particle-occur-requires t c κs =
+    let at-child = c .before .before in
+    let at-particle = at-child .before .before in
+    let entry = at-particle .before .before .before .before .before .before in
+    (omega arith, (entry .pre .1 .0, entry .pre .1 .1, search (row-child, at-particle .particle .ensures, entry .pre .1 .1, entry .pre .1 .2, at-child .child .given .1), omega arith))
 
 particle-same-length : (t : ℕ) → particle-lts.Need-same-length (particle-env t) (particle-at t) particle.Post
 particle-same-length t c = search needs
