@@ -1,18 +1,14 @@
 -- The laws of notes: one piece, notes in two parts, notes that were kept.
 use Prim.Native.Nat.{ℕ, zero, suc, _+_, _-_, _*_, _<_, _≤_}
-use mathlib.Core.Path.{_≡_, refl, sym, ap, ap₂, _∙_}
-use mathlib.Core.Bool.{cond}
-use mathlib.Core.List.{List, [], _∷_, _++_, append-assoc, append-nil}
-use mathlib.Core.Logic.{_⊎_, inl, inr, ⊎-elim}
+use mathlib.Core.Path.{_≡_, refl, sym, ap₂, _∙_}
+use mathlib.Core.List.{List, [], _++_, append-assoc, append-nil}
+use mathlib.Core.Logic.{_⊎_, ⊎-elim}
 use native.Mathlib.Nat.{add-zero}
-use native.Mathlib.Numerals.{add-one}
 use native.Mathlib.Omega.{arith}
 use borrow.Author.Tests.{lt-ltb, le-ltb, eq-eqb, ne-eqb}
-use lib.Dec.{ltb, eqb}
-use lib.ListN.{length, getD, set, take, drop, length-append, length-set}
+use lib.ListN.{length, getD, set, take, drop, length-set}
 use lib.Seq.{getD-set-same, getD-set-other}
 use Rattle.wire.specs.Bits.{digits}
-use Rattle.wire.specs.BitLaws.{length-digits}
 use Rattle.wire.specs.Number.{code5}
 use Rattle.value.specs.Simple.{bytes}
 use Rattle.notes.specs.declared.Note.{Note}
@@ -39,10 +35,6 @@ module _ (X N : List ℕ) where
   pub spells-none : (i : ℕ) → spells X N i 0 ≡ []
   unfolding spells
   spells-none i = refl
-
-  pub spells-more : (i n : ℕ) → spells X N i (suc n) ≡ noteAt X N i ++ spells X N (i + 1) n
-  unfolding spells
-  spells-more i n = refl
 
   pub spells-both : (i m n : ℕ) → spells X N i (m + n) ≡ spells X N i m ++ spells X N (i + m) n
   unfolding spells

@@ -150,7 +150,3 @@ outcome-none c π E T =
     let s : c .count ≡ c .count + 0 = omega arith in
     let t : c .used ≡ c .used + 0 = omega arith in
     λ i. went (c .at .0) (s i) (t i) π E T
-
-pub outcome-refused : (n : ℕ) (p : Bits) (c : Cursor) (π E T : List ℕ) (σ E′ T′ : List ℕ) → stepView (Refuse n p) σ E′ T′ ≡ outcome (refused n (p .0) σ) c π E T
-unfolding stepView outcome
-outcome-refused n p c π E T σ E′ T′ = refl

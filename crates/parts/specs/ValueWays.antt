@@ -45,13 +45,13 @@ module _ (s : List ℕ) (wall k x y : ℕ) (c : Cursor) (E T : List ℕ) (r : Va
   unfolding valueIs code stepView outcome
   value-refuse n h = record { says = λ mode held π. rw (read-is mode held π (of-value.Refuse n) h) }
 
-  module _ (word : ℕ) (n : Bytes) (bits next : Bits) (h : r ≡ of-value.Read word n bits next) where
+  module _ (word : ℕ) (n : Bytes) (next : Bits) (h : r ≡ of-value.Read word n next) where
     abbrev ts : List ℕ
     ts = bytesAt (bitAt s) (next .0 - 8 * n .0) (n .0)
 
     pub value-read : (t : Step) (E′ T′ : List ℕ) → Keeps word ts (next .0) c E T t E′ T′ → Reads (value k x y done) (bitAt s) wall c E T t E′ T′
     unfolding valueIs code
-    value-read t E′ T′ l = record { says = λ mode held π. l .says π ∙ sym (rw (read-is mode held π (of-value.Read word n bits next) h)) }
+    value-read t E′ T′ l = record { says = λ mode held π. l .says π ∙ sym (rw (read-is mode held π (of-value.Read word n next) h)) }
 
     found : FoundSimple (bitAt s) (simpleOf k x y) wall (c .at .0) word ts (next .0)
     unfolding valueIs

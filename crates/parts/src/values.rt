@@ -89,11 +89,6 @@ pub fn value(
     let at = c.at;
     match of_kind(payload, wall, at, kind, x, y) {
         Value::Refuse(n) => Step::Refuse(n, at),
-        Value::Read {
-            word,
-            text,
-            bits: _,
-            next,
-        } => keep(payload, events, texts, c, word, text, next),
+        Value::Read { word, text, next } => keep(payload, events, texts, c, word, text, next),
     }
 }

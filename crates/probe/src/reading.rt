@@ -132,16 +132,7 @@ pub extern "C" fn probe_simple(
     }
     match value::reading::simple(s, Bits(end), Bits(at), simple(kind, b, c)) {
         Value::Refuse(e) => refused(e, out),
-        Value::Read {
-            word,
-            text,
-            bits,
-            next,
-        } => {
-            accepted(word, next.0, text.0, out);
-            out[3] = bits.0;
-            0
-        }
+        Value::Read { word, text, next } => accepted(word, next.0, text.0, out),
     }
 }
 

@@ -1,9 +1,13 @@
-// Codes and texts into a lent buffer, at a place.
+// Codes and texts into a lent buffer, at a place. A code's value goes the writer's own way: sized, noted, put down by the pen.
 use super::OUTSIDE;
 use super::accepted;
 use super::reach;
 use super::refused;
 use super::told;
+use notes::Cursor;
+use notes::Step;
+use notes::leaves::coded;
+use notes::pen::put_notes;
 use value::Code;
 use value::Form;
 use value::Inner;
@@ -11,17 +15,11 @@ use value::Size;
 use value::forms::range;
 use value::forms::simple;
 use value::forms::times;
-use value::writing::put_code;
 use value::writing::size;
 use wire::Bits;
-use wire::choices::width;
-use wire::writing::size5;
 ghost use mathlib.Core.Path.{_≡_};
 ghost use lib.ListN.{length};
-ghost use Prim.Native.Nat.{_≤_};
 ghost use Rattle.wire.specs.Number.{code8};
-ghost use Rattle.value.specs.Code.{bitsOf};
-ghost use Rattle.value.specs.Answer.{innerIs, codeIs};
 
 #[no_mangle]
 pub extern "C" fn probe_put(buf: &mut [u8], at: u32, w: u32, v: u32, out: &mut [u32; 4]) -> u32 {
@@ -100,46 +98,29 @@ pub extern "C" fn probe_size_simple(kind: u32, b: u32, c: u32, v: u32, out: &mut
     sized(number_of(kind, b, c), v, out)
 }
 
-// The bits that a code has for a value, whether it is one of its values or not: put_code asks for them before it tells.
-fn inner_room(i: Inner, v: u32) -> u32
-    ensures { λ r. ⌜ (length (bitsOf (innerIs i) v) ≤ r) × (r ≤ 40) ⌝ }
-{
-    match i {
-        Inner::Choice(n) => width(n),
-        Inner::Five(most) => size5(v).0,
-    }
-}
-
-fn room(c: Code, v: u32) -> u32
-    ensures { λ r. ⌜ length (bitsOf (codeIs c) v) ≤ r ⌝ }
-{
-    match c {
-        Code::Plain(i) => inner_room(i, v),
-        Code::Word => 32,
-        Code::Signed => {
-            let m = signed::magnitude(v);
-            let n = size5(m.magnitude);
-            n.0 + 1
-        }
-        Code::Some(i) => {
-            if v == 0 {
-                return 1;
-            }
-            inner_room(i, v) + 1
-        }
-        Code::Shifted(lo, i) => inner_room(i, signed::lowered(lo, v)),
-    }
-}
-
+// A value as the writer puts it: judged, sized and noted as the one event of a list, and put down by the pen.
 fn put_in_room(buf: &mut [u8], at: u32, c: Code, v: u32, out: &mut [u32; 4]) -> u32 {
-    let most = reach(buf.len());
-    if most < at {
-        return refused(OUTSIDE, out);
+    let list = [3, v, 0, 0];
+    let start = Cursor {
+        event: 0,
+        used: 0,
+        bits: 0,
+    };
+    let mut notes = [0u32; 4];
+    match coded(&list, b"", &mut notes, start, 3, v, 0, c, v) {
+        Step::Refuse(e, _) => refused(e, out),
+        Step::Go(end) => {
+            let most = reach(buf.len());
+            if most < at {
+                return refused(OUTSIDE, out);
+            }
+            if most - at < end.bits {
+                return refused(OUTSIDE, out);
+            }
+            let p = put_notes(buf, Bits(at), b"", &notes, end.event);
+            accepted(v, p.0, 0, out)
+        }
     }
-    if most - at < room(c, v) {
-        return refused(OUTSIDE, out);
-    }
-    told(put_code(buf, Bits(at), c, v), out)
 }
 
 #[no_mangle]

@@ -1,4 +1,3 @@
-pub mod Zeros
 pub mod Rest
 pub mod Front
 pub mod Told

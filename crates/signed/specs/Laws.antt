@@ -1,14 +1,14 @@
 -- The laws of gaps, of words moved up and down, and of sign and magnitude, all on natural numbers: what callers cite.
-use Prim.Native.Nat.{ℕ, zero, suc, _+_, _-_, _%_, _^_, _<_, _≤_}
+use Prim.Native.Nat.{ℕ, _-_, _%_, _^_, _<_, _≤_}
 use mathlib.Core.Path.{_≡_, refl, sym, ap, _∙_}
 use mathlib.Core.Bool.{Bool, true, false}
 use mathlib.Core.Logic.{_⊎_, inl, inr}
 use native.Mathlib.Omega.{arith}
-use lib.Dec.{ltb, eqb}
+use lib.Dec.{ltb}
 use borrow.Author.Tests.{lt-ltb, le-ltb, ltb-true, ltb-false}
 use Rattle.signed.specs.declared.answers.Gap as code
 use Rattle.signed.specs.declared.answers.Gap.the-variants.{Under, By}
-use Rattle.signed.specs.Words.{rank, Gap, under, by, gapOf, up, down, signOf, magnitudeOf, wordOf}
+use Rattle.signed.specs.Words.{rank, Gap, under, by, gapOf, down, signOf, magnitudeOf, wordOf}
 use Rattle.signed.specs.Views.{gapIs, bit, Parts}
 
 -- two numbers stand in one of two orders
@@ -18,14 +18,6 @@ ordered {P} a b f g = at (ltb a b) refl
     at : (t : Bool) → ltb a b ≡ t → P
     at true e = f (ltb-true a b e)
     at false e = g (ltb-false a b e)
-
--- moving up and down undo each other
-module _ (b k : ℕ) (hb : b < 2 ^ 32) (hk : k < 2 ^ 32) where
-  pub down-up : down b (up b k) ≡ k
-  down-up = omega arith
-
-  pub up-down : up b (down b k) ≡ k
-  up-down = omega arith
 
 -- a gap and the ranks of its ends
 module _ (b c : ℕ) where
@@ -52,26 +44,8 @@ module _ (b v : ℕ) (hb : b < 2 ^ 32) (hv : v < 2 ^ 32) (k : ℕ) (e : gapOf b 
   pub gap-small : k < 2 ^ 32
   gap-small = omega (arith, over-gap b v k e)
 
-  pub gap-up : up b k ≡ v
-  gap-up = omega (arith, over-gap b v k e)
-
   pub gap-down : down b v ≡ k
   gap-down = omega (arith, over-gap b v k e)
-
--- the words from b to c, which lies m over b
-module _ (b c : ℕ) (hb : b < 2 ^ 32) (hc : c < 2 ^ 32) (m : ℕ) (e : gapOf b c ≡ by m) where
-  pub gap-of-up : (k : ℕ) → k ≤ m → gapOf b (up b k) ≡ by k
-  gap-of-up k h =
-      let o = over-gap b c m e in
-      let r : rank (up b k) ≡ rank b + k = omega arith in
-      gap-over b (up b k) (omega arith) ∙ ap by (omega arith)
-
-  module _ (v : ℕ) where
-    pub gap-between : (k : ℕ) → gapOf b v ≡ by k → k ≤ m → (rank b ≤ rank v) × (rank v ≤ rank c)
-    gap-between k g h = omega (arith, over-gap b c m e, over-gap b v k g)
-
-    pub between-gap : rank b ≤ rank v → rank v ≤ rank c → (gapOf b v ≡ by (rank v - rank b)) × (rank v - rank b ≤ m)
-    between-gap l h = (gap-over b v l, omega (arith, over-gap b c m e))
 
 -- what a match on the code's answer tells
 module _ (b c : ℕ) (r : code.Gap) (e : gapIs r ≡ gapOf b c) where
@@ -87,12 +61,6 @@ module _ {w : ℕ} {n : Bool} {m : ℕ} (p : Parts w n m) where
 
   pub met-plus : n ≡ false → signOf w ≡ 0
   met-plus t = sym (p .sign-is) ∙ ap bit t
-
--- a sign bit, tested
-pub bit-of : (s : ℕ) → s < 2 → bit (eqb s 1) ≡ s
-bit-of zero h = refl
-bit-of (suc zero) h = refl
-bit-of (suc (suc s)) h = absurd (omega arith)
 
 -- sign and magnitude of a word in either half
 module _ (w : ℕ) where

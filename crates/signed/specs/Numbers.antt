@@ -1,15 +1,14 @@
 -- The definitions on words are those of the signed numbers that the words stand for: the theorems that make the definitions believable.
 use Prim.Native.Nat.{ℕ, zero, suc, _+_, _-_, _%_, _^_, _<_, _≤_}
-use mathlib.Core.Path.{_≡_, refl, sym, ap, ap₂, subst, _∙_}
+use mathlib.Core.Path.{_≡_, refl, sym, ap, ap₂, _∙_}
 use native.Mathlib.Omega.{arith}
 use lib.IntN.{ℤ, pos, negsuc, negℤ, subℕ, _+ℤ_, _-ℤ_, +ℤ-assoc, +ℤ-comm, negℤ-+ℤ, +ℤ-negℤ-cancel}
-use lib.Signed.{_<ℤ_}
 use borrow.Author.Tests.{lt-ltb, le-ltb}
 use mir.Syntax.{w32}
 use mir.Val.{toZ}
 use mir.Facts.{toZ-pos}
 use Rattle.signed.specs.Words.{rank, Gap, under, by, gapOf, up, down, signOf, magnitudeOf, wordOf, wrapped}
-use Rattle.signed.specs.Laws.{ordered, gap-over, gap-under, over-gap, under-gap, gap-small, gap-down, sign-low, sign-high, magnitude-low, magnitude-high, word-plus, word-minus}
+use Rattle.signed.specs.Laws.{ordered, gap-over, gap-under, gap-small, gap-down, sign-low, sign-high, magnitude-low, magnitude-high, word-plus, word-minus}
 
 -- the difference of two natural numbers
 module _ (a b : ℕ) where
@@ -61,19 +60,6 @@ gap-difference b c hb hc =
     ordered (rank c) (rank b)
     (λ h. gap-under b c h ∙ sym (ap gapAs (number-difference b c hb hc ∙ sub-under (rank c) (rank b) h)))
     (λ h. gap-over b c h ∙ sym (ap gapAs (number-difference b c hb hc ∙ sub-over (rank c) (rank b) h)))
-
--- where a gap is given it is the difference; where none is, the difference is negative
-module _ (b c : ℕ) (hb : b < 2 ^ 32) (hc : c < 2 ^ 32) where
-  pub by-difference : (k : ℕ) → gapOf b c ≡ by k → pos k ≡ toZ w32 c -ℤ toZ w32 b
-  by-difference k e =
-      let o = over-gap b c k e in
-      ap pos (o .1) ∙ sym (number-difference b c hb hc ∙ sub-over (rank c) (rank b) (o .0))
-
-  pub under-difference : gapOf b c ≡ under → (toZ w32 c -ℤ toZ w32 b) <ℤ pos 0
-  under-difference e =
-      subst (λ z. z <ℤ pos 0)
-      (sym (number-difference b c hb hc ∙ sub-under (rank c) (rank b) (under-gap b c e)))
-      (record { lt = tt })
 
 -- the number of a sign bit and a magnitude
 unfoldable pub number : ℕ → ℕ → ℤ

@@ -156,6 +156,3 @@ module _ (l : List ℕ) where
   determined (wrong i) right x y = absurd (not-whole i y x)
   determined (wrong i) (wrong j) x y =
       ap wrong (ordered i j (λ h. absurd (not-before i j x y h)) (λ h. ordered j i (λ g. absurd (not-before j i y x g)) (λ g. omega arith)))
-
-  pub says-verdict : (v : Verdict) → Says v → verdict l ≡ v
-  says-verdict v x = determined (verdict l) v verdict-says x

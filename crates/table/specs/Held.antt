@@ -7,8 +7,7 @@ use mathlib.Core.Bool.{Bool}
 use native.Mathlib.Omega.{arith}
 use borrow.Author.Tests.{le-leb}
 use lib.Dec.{leb}
-use lib.ListN.{length, set}
-use lib.Seq.{getD-set-other}
+use lib.ListN.{length}
 use Rattle.table.specs.Words.{typeAt, attributeAt, particleAt, wordAt, typesIn, attributesIn, particlesIn}
 use Rattle.table.specs.Valid.{given, headerWords, frontWords, rows, typeRow, attributeRow, particleRow, rowWords, verdict, verdictFrom}
 use Rattle.table.specs.Rows.{contentOf, rowAt, rowOf, attributeOf, attributesFrom, firstOf, countOf, attributesOf, tableOf}
@@ -23,10 +22,6 @@ pub record Alike (l l′ : List ℕ) : Type 0 where
 -- every held word is 0 or 1
 pub record Marks (l : List ℕ) : Type 0 where
   pub mark : (t : ℕ) → t < typesIn l → wordAt l (typeAt t) ≤ 1
-
--- a list whose one mark is changed
-pub mark-alike : (l : List ℕ) (t x : ℕ) → t < typesIn l → Alike l (set l (typeAt t) x)
-mark-alike l t x h = record { same = λ i n. sym (getD-set-other l (typeAt t) i x 0 (λ e. n (t, h, e))) }
 
 rows-same : (f g : ℕ → List Bool) (i n : ℕ) → ((k : ℕ) → k < i + n → f k ≡ g k) → rows f i n ≡ rows g i n
 unfolding rows

@@ -216,6 +216,3 @@ module _ (l : List ℕ) (valid : verdict l ≡ right) where
 
   pub content-met : (t : ℕ) → t < T → (r : code·content.Content) → contentIs r ≡ tableOf l .content t → ContentOk P (contentIs r)
   content-met t h r e = rw e (content-ok t h)
-
-  pub attribute-met : (a : ℕ) → a < A → (r : code·attribute.Attribute) → attributeIs r ≡ attributeOf l a → AttributeOk (attributeIs r)
-  attribute-met a h r e = rw e (attribute-ok a h)

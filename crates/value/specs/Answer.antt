@@ -1,6 +1,5 @@
 -- The enums that the code takes and answers, as the meanings have them.
-use Prim.Native.Nat.{ℕ, _+_, _-_, _*_, _^_, _≤_}
-use mathlib.Core.Path.{_≡_}
+use Prim.Native.Nat.{ℕ, _-_, _*_, _^_, _≤_}
 use mathlib.Core.List.{List}
 use Rattle.wire.specs.Res.{Res, got, fault}
 use Rattle.value.specs.Code.{Code, choice, five, signed, some, shifted}
@@ -33,13 +32,8 @@ formIs fv.Text = text
 
 -- a value's word, its text bytes, which end where it does, and the place past it
 unfoldable pub valueIs : (ℕ → ℕ) → valueT.Value → Res (ℕ × List ℕ × ℕ)
-valueIs b (vv.Read word n bits next) = got (word, bytesAt b (next .0 - 8 * n .0) (n .0), next .0)
+valueIs b (vv.Read word n next) = got (word, bytesAt b (next .0 - 8 * n .0) (n .0), next .0)
 valueIs b (vv.Refuse e) = fault e
-
--- the bits that it took from the place at
-abbrev pub Took : ℕ → valueT.Value → Type 0
-Took at (vv.Read word n bits next) = next .0 ≡ at + bits .0
-Took at (vv.Refuse e) = Unit {0}
 
 unfoldable pub sizeIs : sizeT.Size → Res ℕ
 sizeIs (sv.Takes n) = got (n .0)

@@ -1,22 +1,19 @@
 -- Every code is lawful: what is written is read back with its exact bits, what is read is the code of its value, no bit past the wall
 -- is looked at; and the writer's test is exact.
-use Prim.Native.Nat.{ℕ, zero, suc, _+_, _-_, _%_, _<_, _≤_, _^_, min}
-use mathlib.Core.Path.{_≡_, refl, sym, ap, _∙_}
-use mathlib.Core.Bool.{Bool, true, false, cond}
+use Prim.Native.Nat.{ℕ, zero, suc, _-_, _<_, _≤_, _^_, min}
+use mathlib.Core.Path.{_≡_, refl, ap}
+use mathlib.Core.Bool.{true, false}
 use mathlib.Core.Logic.{⊎-elim}
-use mathlib.Core.List.{List, [], _∷_, _++_}
 use native.Mathlib.Omega.{arith}
 use native.Mathlib.Decide.{decLt}
 use borrow.Author.Tests.{le-leb, leb-true, lt-ltb, le-ltb, ltb-true}
-use lib.Dec.{leb, ltb}
-use lib.ListN.{length, length-append}
-use Rattle.wire.specs.Res.{Res, got, fault, _>>=_, _>>_, guard, atMost, Ensures, gives, stops, bind, under, then, under-then}
-use Rattle.wire.specs.Bits.{fixedAt, digits}
+use lib.ListN.{length-append}
+use Rattle.wire.specs.Res.{Res, got, Ensures, gives, bind, under, then, under-then}
 use Rattle.wire.specs.BitLaws.{At, at-both, at-left, at-right}
 use Rattle.wire.specs.Width.{width, width-holds}
 use Rattle.wire.specs.Number.{read5, code5}
-use Rattle.wire.specs.Lawful.{Reading, Binary, Stands, Lawful, fixed-lawful, five-lawful, fixed-below, bind-same}
-use Rattle.signed.specs.Words.{up, down, signOf, magnitudeOf, wordOf}
+use Rattle.wire.specs.Lawful.{Binary, Stands, Lawful, fixed-lawful, five-lawful, fixed-below, bind-same}
+use Rattle.signed.specs.Words.{up, signOf, magnitudeOf}
 use Rattle.signed.specs.Laws.{word-of-parts, parts-within, sign-of-plus, magnitude-of-plus, sign-of-minus, magnitude-of-minus, word-minus, word-plus}
 use Rattle.value.specs.Code.{Code, choice, five, signed, some, shifted, less, Fits, choiceBits, bitsOf, choiceAt, numberAt, signedOf, someOf, codeAt, fits}
 

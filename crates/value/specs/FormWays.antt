@@ -1,17 +1,17 @@
 -- Each way through the functions that choose a code.
-use Prim.Native.Nat.{ℕ, zero, suc, _+_, _-_, _^_, _<_, _≤_, min}
-use mathlib.Core.Path.{_≡_, refl, sym, ap, _∙_}
+use Prim.Native.Nat.{ℕ, zero, suc, _+_, _-_, _<_, _≤_, min}
+use mathlib.Core.Path.{_≡_, refl, sym, _∙_}
 use mathlib.Core.Bool.{false}
 use lib.Dec.{ltb}
 use native.Mathlib.Omega.{arith}
 use borrow.Author.Tests.{le-leb, lt-leb, lt-ltb, le-ltb, eq-eqb, ne-eqb}
-use Rattle.signed.specs.Words.{Gap, under, by, gapOf}
+use Rattle.signed.specs.Words.{Gap, gapOf}
 use Rattle.signed.specs.Views.{gapIs}
 use Rattle.signed.specs.Laws.{met-by, met-under}
 use Rattle.signed.specs.declared.answers.Gap as gapT
 use Rattle.signed.specs.declared.answers.Gap.the-variants.{Under, By}
-use Rattle.value.specs.Code.{Code, choice, five, signed, some, shifted}
-use Rattle.value.specs.Simple.{Simple, plain, text, nothing, spanCode, rangeCode, unboundedCode, boundedCode, timesCode, simpleOf}
+use Rattle.value.specs.Code.{Code}
+use Rattle.value.specs.Simple.{spanCode, rangeCode, unboundedCode, boundedCode, timesCode, simpleOf}
 use Rattle.value.specs.Answer.{innerIs, codeIs, formIs}
 use Rattle.value.specs.declared.Inner.the-variants as iv
 use Rattle.value.specs.declared.Code as codeT

@@ -1,15 +1,13 @@
 -- Each way through the reading of a value by its kind.
-use Prim.Native.Nat.{ℕ, zero, suc, _+_, _-_, _*_, _^_, _<_, _≤_}
+use Prim.Native.Nat.{ℕ, zero, suc, _+_, _-_, _*_, _<_, _≤_}
 use mathlib.Core.Path.{_≡_, refl, sym, ap, _∙_}
 use mathlib.Core.List.{List}
-use native.Mathlib.Omega.{arith}
 use Rattle.wire.specs.declared.Bits.{Bits}
 use Rattle.wire.specs.declared.Bytes.{Bytes}
 use Rattle.wire.specs.declared.Read.{Read}
 use Rattle.wire.specs.declared.Read.the-variants as read
 use Rattle.wire.specs.Res.{then, then-fault}
 use Rattle.wire.specs.Bits.{bitAt}
-use Rattle.wire.specs.BitLaws.{bit-lt}
 use Rattle.wire.specs.Answer.{readIs, fixed32}
 use Rattle.wire.specs.ReadWays.{read-value, read-refuse}
 use Rattle.signed.specs.Words.{gapOf}
@@ -17,7 +15,6 @@ use Rattle.signed.specs.Views.{gapIs}
 use Rattle.signed.specs.declared.answers.Gap as gapT
 use Rattle.signed.specs.declared.answers.Gap.the-variants.{Under, By}
 use Rattle.value.specs.Code.{Code, signed, shifted, choiceAt, numberAt, codeAt}
-use Rattle.value.specs.CodeLaws.{code-lawful}
 use Rattle.value.specs.Simple.{Simple, plain, text, nothing, rangeCode, simpleOf, simpleAt}
 use Rattle.value.specs.SimpleLaws.{bytes-none}
 use Rattle.value.specs.Answer.{innerIs, codeIs, formIs, valueIs}
@@ -122,11 +119,8 @@ module _ (s : List ℕ) (end at kind x y : ℕ) where
     of-refused n g = rw (plain-kind kind x y n₅) (sym (then-fault _ (read-refuse e g)))
 
     module _ (v : ℕ) (p : Bits) (g : r ≡ read.Value v p) where
-      pub of-read : (m : Bytes) (t : Bits) → m .0 ≡ 0 → valueIs (bitAt s) (vv.Read v m t p) ≡ simpleAt (simpleOf kind x y) (bitAt s) end at
+      pub of-read : (m : Bytes) → m .0 ≡ 0 → valueIs (bitAt s) (vv.Read v m p) ≡ simpleAt (simpleOf kind x y) (bitAt s) end at
       unfolding valueIs simpleAt
-      of-read m t z = rw (plain-kind kind x y n₅, z, bytes-none (bitAt s) (p .0 - 8 * 0)) (sym (then _ (read-value e g) refl))
+      of-read m z = rw (plain-kind kind x y n₅, z, bytes-none (bitAt s) (p .0 - 8 * 0)) (sym (then _ (read-value e g) refl))
 
-      pub of-forward : at ≤ p .0
-      of-forward = let h = code-lawful (kindCode kind x y) .found (bitAt s) (bit-lt s) end at .says (v, p .0) (read-value e g) in omega (arith, h .stands .next)
-
-pub ruleset of-kind-ways = (of-text, of-refused, of-read, of-forward)
+pub ruleset of-kind-ways = (of-text, of-refused, of-read)

@@ -8,7 +8,6 @@ pub mod FormWays
 pub mod Octets
 pub mod ReadWays
 pub mod KindWays
-pub mod Written
 pub mod WriteWays
 pub mod LayWays
 pub mod ValueLaws

@@ -18,7 +18,6 @@ use Rattle.wire.specs.ReadWays.{read-value, read-refuse, wide}
 use Rattle.wire.specs.Lawful.{Stands}
 use Rattle.signed.specs.Words.{up, wordOf}
 use Rattle.utf8.specs.Text.{textFault}
-use Rattle.utf8.specs.Steps.{next}
 use Rattle.value.specs.Code.{Code, five, signed, some, shifted, Fits, bitsOf, choiceAt, numberAt, signedOf, someOf, codeAt}
 use Rattle.value.specs.CodeLaws.{code-lawful}
 use Rattle.value.specs.Simple.{bytesAt, textOf, simpleAt}
@@ -221,9 +220,9 @@ module _ (b : ℕ → ℕ) (end n p : ℕ) where
       unfolding textOf valueIs
       way-text-wrong l = rw e (sym (under-then 5 (omega arith) (passes-fault _ (λ z. omega (arith, e)))))
 
-      pub way-text-read : (m : Bytes) (t q : Bits) → w ≤ 0 → m .0 ≡ n → q .0 ≡ p + 8 * n → valueIs b (vv.Read n m t q) ≡ textOf b end n p
+      pub way-text-read : (m : Bytes) (q : Bits) → w ≤ 0 → m .0 ≡ n → q .0 ≡ p + 8 * n → valueIs b (vv.Read n m q) ≡ textOf b end n p
       unfolding textOf valueIs
-      way-text-read m t q l f g =
+      way-text-read m q l f g =
           let back : p + 8 * n - 8 * n ≡ p = omega arith in
           rw (f, g, back) (sym (under-then 5 (omega arith) (passes-then (omega (arith, e)) refl)))
 
@@ -237,13 +236,9 @@ module _ (s : List ℕ) (end at : ℕ) (f : formT.Form) where
     way-simple-refuse n g = rw w (sym (then-fault _ (read-refuse e g)))
 
     module _ (v : ℕ) (p : Bits) (g : r ≡ read.Value v p) where
-      pub way-simple-read : (m : Bytes) (t : Bits) → m .0 ≡ 0 → valueIs (bitAt s) (vv.Read v m t p) ≡ simpleAt (formIs f) (bitAt s) end at
+      pub way-simple-read : (m : Bytes) → m .0 ≡ 0 → valueIs (bitAt s) (vv.Read v m p) ≡ simpleAt (formIs f) (bitAt s) end at
       unfolding valueIs simpleAt formIs
-      way-simple-read m t z = rw (w, z, bytes-none (bitAt s) (p .0 - 8 * 0)) (sym (then _ (read-value e g) refl))
-
-      -- a code ends at or past the place it begins at
-      pub code-forward : at ≤ p .0
-      code-forward = let h = code-lawful (codeIs c) .found (bitAt s) (bit-lt s) end at .says (v, p .0) (read-value e g) in omega (arith, h .stands .next)
+      way-simple-read m z = rw (w, z, bytes-none (bitAt s) (p .0 - 8 * 0)) (sym (then _ (read-value e g) refl))
 
   module _ (w : f ≡ fv.Text) (r : Read) (e : readIs r ≡ numberAt (bitAt s) 4095 end at) where
     pub way-simple-count : (n : ℕ) → r ≡ read.Refuse n → valueIs (bitAt s) (vv.Refuse n) ≡ simpleAt (formIs f) (bitAt s) end at
@@ -254,21 +249,14 @@ module _ (s : List ℕ) (end at : ℕ) (f : formT.Form) where
     unfolding simpleAt formIs codeAt
     way-simple-text n p x g h = h ∙ sym (rw w (then _ (read-value e g) refl))
 
--- a text's count ends past the place it begins at, and is at most 4,095
+-- a text's count is at most 4,095
 module _ (s : List ℕ) (end at : ℕ) (r : Read) (e : readIs r ≡ numberAt (bitAt s) 4095 end at) (n : ℕ) (p : Bits) (g : r ≡ read.Value n p) where
   count-found : Stands (bitAt s) (Fits (five 4095) n) (bitsOf (five 4095) n) end at (p .0)
   unfolding codeAt
   count-found = code-lawful (five 4095) .found (bitAt s) (bit-lt s) end at .says (n, p .0) (read-value e g)
 
-  pub count-forward : at ≤ p .0
-  count-forward = omega (arith, count-found .stands .next)
-
   pub count-small : n ≤ 4095
   unfolding Fits
   count-small = omega (arith, count-found .fits)
 
-pub ruleset simple-ways = (way-simple-refuse, way-simple-read, code-forward, way-simple-count, way-simple-text, count-forward, count-small)
-
--- a place is the one before it and what lies between
-pub moved : {a p : ℕ} → a ≤ p → p ≡ a + (p - a)
-moved h = omega arith
+pub ruleset simple-ways = (way-simple-refuse, way-simple-read, way-simple-count, way-simple-text, count-small)

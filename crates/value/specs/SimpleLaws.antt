@@ -1,18 +1,17 @@
 -- The laws of simple values, numbers and texts alike: what is read may stand there, what may stand is read with its exact bits, no bit past the wall is looked at.
-use Prim.Native.Nat.{ℕ, zero, suc, _+_, _-_, _*_, _^_, _<_, _≤_}
+use Prim.Native.Nat.{ℕ, zero, suc, _+_, _-_, _*_, _<_, _≤_}
 use mathlib.Core.Path.{_≡_, refl, sym, ap, subst, _∙_}
 use mathlib.Core.List.{List, [], _∷_, _++_}
-use native.Mathlib.Nat.{add-zero, add-assoc}
+use native.Mathlib.Nat.{add-zero}
 use native.Mathlib.Numerals.{add-one}
 use native.Mathlib.Omega.{arith}
 use native.Mathlib.Decide.{decLe}
 use lib.ListN.{length, length-append}
-use Rattle.wire.specs.Res.{Res, got, fault, _>>=_, _>>_, guard, atMost, Ensures, gives, stops, bind, under, then, under-then, under-fault}
+use Rattle.wire.specs.Res.{Res, got, fault, _>>_, Ensures, gives, stops, bind, under, then, under-then, under-fault}
 use Rattle.wire.specs.Bits.{num, digits, Has}
-use Rattle.wire.specs.BitLaws.{num-lt, num-same, num-digits, length-digits, has-left, has-right, At, at-none, at-both, at-left, at-right, at-digits, at-same}
+use Rattle.wire.specs.BitLaws.{num-lt, num-same, num-digits, length-digits, has-left, has-right, At, at-both, at-left, at-right, at-digits, at-same}
 use Rattle.wire.specs.Lawful.{Binary, bind-same}
-use Rattle.utf8.specs.Text.{textFault}
-use Rattle.value.specs.Code.{Code, Fits, bitsOf, codeAt}
+use Rattle.value.specs.Code.{bitsOf}
 use Rattle.value.specs.CodeLaws.{code-lawful}
 use Rattle.value.specs.Simple.{Simple, plain, text, count, bytes, bytesAt, Octets, unless, textOf, simpleAt, SimpleIs, a-code, a-text}
 

@@ -20,7 +20,7 @@ ghost use Rattle.wire.specs.Bits.{bitAt};
 ghost use Rattle.wire.specs.Answer.{readIs};
 ghost use Rattle.value.specs.Code.{codeAt};
 ghost use Rattle.value.specs.Simple.{rangeCode, simpleOf, simpleAt};
-ghost use Rattle.value.specs.Answer.{valueIs, Took};
+ghost use Rattle.value.specs.Answer.{valueIs};
 ghost use Rattle.value.specs.KindWays.{kindCode};
 
 // A value from b to c, both signed.
@@ -58,21 +58,18 @@ fn by_kind(s: &[u8], end: Bits, at: Bits, kind: u32, b: u32, c: u32) -> Read
 // A simple value of a kind with its parameters.
 pub fn of_kind(s: &[u8], end: Bits, at: Bits, kind: u32, b: u32, c: u32) -> Value
     requires { ⌜ end .0 ≤ 8 * length (now s) ⌝ }
-    ensures { λ r. ⌜ (valueIs (bitAt (now (s .entry))) r ≡ simpleAt (simpleOf kind b c) (bitAt (now (s .entry))) (end .0) (at .0)) × Took (at .0) r ⌝ }
+    ensures { λ r. ⌜ valueIs (bitAt (now (s .entry))) r ≡ simpleAt (simpleOf kind b c) (bitAt (now (s .entry))) (end .0) (at .0) ⌝ }
 {
     if kind == 5 {
         return simple(s, end, at, Form::Text);
     }
-    let a = at.0;
     match by_kind(s, end, at, kind, b, c) {
         Read::Refuse(e) => Value::Refuse(e),
         Read::Value(v, p) => {
-            let bits = Bits(p.0 - a);
             let none = Bytes(0);
             Value::Read {
                 word: v,
                 text: none,
-                bits,
                 next: p,
             }
         }

@@ -1,9 +1,9 @@
-// Values: which code a row of the table asks for, and such a code read and written.
+// Values: which code a row of the table asks for, such a code read and sized, a text read and written.
 pub mod forms; // forms.rt: the code that a range, an occurs row or a simple kind asks for
 pub mod kinds; // kinds.rt: a simple value read by its kind at once
 mod octets; // octets.rt: bytes into a lent buffer, from a byte or from a bit of one on
 pub mod reading; // reading.rt: a code or a simple value from a place, below a wall
-pub mod writing; // writing.rt: its size, and its bits into a lent buffer
+pub mod writing; // writing.rt: how many bits a code takes, and a text's bytes into a lent buffer
 
 use wire::Bits;
 use wire::Bytes;
@@ -29,14 +29,9 @@ pub enum Form {
     Text,
 }
 
-// A simple value that was read: its word, its text's bytes, the bits it took and the place past it; or the number of a refusal.
+// A simple value that was read: its word, its text's bytes and the place past it; or the number of a refusal.
 pub enum Value {
-    Read {
-        word: u32,
-        text: Bytes,
-        bits: Bits,
-        next: Bits,
-    },
+    Read { word: u32, text: Bytes, next: Bits },
     Refuse(u32),
 }
 

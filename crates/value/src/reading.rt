@@ -21,7 +21,7 @@ ghost use Rattle.wire.specs.Answer.{readIs};
 ghost use Rattle.utf8.specs.Text.{textFault};
 ghost use Rattle.value.specs.Code.{choiceAt, numberAt, signedOf, someOf, codeAt, signed, some, shifted};
 ghost use Rattle.value.specs.Simple.{bytesAt, textOf, simpleAt};
-ghost use Rattle.value.specs.Answer.{innerIs, codeIs, formIs, valueIs, Took};
+ghost use Rattle.value.specs.Answer.{innerIs, codeIs, formIs, valueIs};
 
 // One of n choices.
 pub fn choice(s: &[u8], end: Bits, at: Bits, n: u32) -> Read
@@ -171,11 +171,10 @@ pub fn text_fault(s: &[u8], at: Bits, n: Bytes) -> u32
 }
 
 // A text's bytes after its count: 5, then what is wrong with them.
-fn text_after(s: &[u8], end: Bits, at: Bits, n: u32, p: Bits) -> Value
-    requires { ⌜ (end .0 ≤ 8 * length (now s)) × (at .0 ≤ p .0) × (n ≤ 4095) ⌝ }
-    ensures { λ r. ⌜ (valueIs (bitAt (now (s .entry))) r ≡ textOf (bitAt (now (s .entry))) (end .0) n (p .0)) × Took (at .0) r ⌝ }
+fn text_after(s: &[u8], end: Bits, n: u32, p: Bits) -> Value
+    requires { ⌜ (end .0 ≤ 8 * length (now s)) × (n ≤ 4095) ⌝ }
+    ensures { λ r. ⌜ valueIs (bitAt (now (s .entry))) r ≡ textOf (bitAt (now (s .entry))) (end .0) n (p .0) ⌝ }
 {
-    let a = at.0;
     let e = end.0;
     let from = p.0;
     if e < from {
@@ -191,11 +190,9 @@ fn text_after(s: &[u8], end: Bits, at: Bits, n: u32, p: Bits) -> Value
     }
     let q = from + 8 * n;
     let next = Bits(q);
-    let bits = Bits(q - a);
     Value::Read {
         word: n,
         text: m,
-        bits,
         next,
     }
 }
@@ -203,26 +200,23 @@ fn text_after(s: &[u8], end: Bits, at: Bits, n: u32, p: Bits) -> Value
 // A simple value by its form.
 pub fn simple(s: &[u8], end: Bits, at: Bits, f: Form) -> Value
     requires { ⌜ end .0 ≤ 8 * length (now s) ⌝ }
-    ensures { λ r. ⌜ (valueIs (bitAt (now (s .entry))) r ≡ simpleAt (formIs f) (bitAt (now (s .entry))) (end .0) (at .0)) × Took (at .0) r ⌝ }
+    ensures { λ r. ⌜ valueIs (bitAt (now (s .entry))) r ≡ simpleAt (formIs f) (bitAt (now (s .entry))) (end .0) (at .0) ⌝ }
 {
-    let a = at.0;
     match f {
         Form::Number(c) => match code(s, end, at, c) {
             Read::Refuse(e) => Value::Refuse(e),
             Read::Value(v, p) => {
-                let bits = Bits(p.0 - a);
                 let none = Bytes(0);
                 Value::Read {
                     word: v,
                     text: none,
-                    bits,
                     next: p,
                 }
             }
         },
         Form::Text => match number(s, end, at, 4095) {
             Read::Refuse(e) => Value::Refuse(e),
-            Read::Value(n, p) => text_after(s, end, at, n, p),
+            Read::Value(n, p) => text_after(s, end, n, p),
         },
     }
 }

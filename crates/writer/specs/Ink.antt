@@ -148,9 +148,6 @@ module _ (k x : ℕ) (w : List ℕ) (h : Bits w) (fits : 1 + (length w + 7) / 8 
     | no g ↦ inner i ∙ past-pack i (omega arith) ∙ sym (source-past w i (omega (arith, pack-length w)))
   ]
 
-  start-length : length start ≡ k
-  start-length = length-set (replicate k 0) 0 x ∙ length-replicate k 0
-
   start-first : getD start 0 0 ≡ x
   start-first = getD-set-same (replicate k 0) 0 x 0 (omega (arith, length-replicate {A = ℕ} k 0))
 

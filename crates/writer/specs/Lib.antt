@@ -2,7 +2,6 @@ pub mod Meaning
 pub mod Leads
 pub mod SimpleWays
 pub mod WalkWays
-pub mod Zeros
 pub mod Ink
 pub mod Answers
 pub mod Front

@@ -24,7 +24,11 @@ enum-told c = search needs
 
 checked-requires : tie.Need-checked-requires
 checked-requires c κs =
-    (search (verdict-right, c .before .before .before .before .check .ensures, c .before .before .enum-told .given .1), zeros-cleared (c .before .before .before .before .before .before .before .before .before .before .before .before .before .before .before .before .args .events .now) _ (c .before .before .before .before .before .before .before .before .before .both .ensures .0), zeros-cleared (c .before .before .before .before .before .before .before .before .before .before .before .before .before .before .before .before .args .texts .now) _ (c .before .before .before .before .before .before .before .before .before .both .ensures .1))
+    let at-enum-told = c .before .before in
+    let at-check = at-enum-told .before .before in
+    let at-both = at-check .before .before .before .before .before in
+    let entry = at-both .before .before .before .before .before .before .before in
+    (search (verdict-right, at-check .check .ensures, at-enum-told .enum-told .given .1), zeros-cleared (entry .args .events .now) _ (at-both .both .ensures .0), zeros-cleared (entry .args .texts .now) _ (at-both .both .ensures .1))
 
 same-length : tie.Need-same-length
 same-length c = search needs

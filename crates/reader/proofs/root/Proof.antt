@@ -68,7 +68,13 @@ same-length-2 c = search needs
 
 returns : tie.Need-returns
 returns c =
-    search (root-given, c .before .before .before .before .before .before .before .before .before .before .before .before .before .before .before .before .before .before .before .before .before .pre .0, c .before .before .before .before .before .before .before .before .before .before .before .before .before .before .before .before .before .before .before .before .before .pre .1, c .before .before .before .before .before .before .before .before .before .before .before .before .before .before .before .before .before .before .before .before .before .pre .2, c .before .before .before .before .before .before .before .before .before .before .before .before .before .before .before .before .before .before .before .before .before .pre .3, c .before .before .before .before .before .before .before .before .before .before .before .before .before .before .before .before .nowhere .ensures, c .before .before .before .before .before .before .before .before .before .before .before .before .particle .ensures, c .before .before .before .before .before .w3 .given .1, c .before .before .padding .ensures, c .before .if1 .taken, c .accepted .ensures)
+    let at-if1 = c .before in
+    let at-padding = at-if1 .before in
+    let at-w3 = at-padding .before .before .before in
+    let at-particle = at-w3 .before .before .before .before .before .before .before in
+    let at-nowhere = at-particle .before .before .before .before in
+    let entry = at-nowhere .before .before .before .before .before in
+    search (root-given, entry .pre .0, entry .pre .1, entry .pre .2, entry .pre .3, at-nowhere .nowhere .ensures, at-particle .particle .ensures, at-w3 .w3 .given .1, at-padding .padding .ensures, at-if1 .if1 .taken, c .accepted .ensures)
 
 cast-place-3 : tie.Need-cast-place-3
 cast-place-3 c = search needs
@@ -87,18 +93,31 @@ same-length-4 c = search needs
 
 returns-2 : tie.Need-returns-2
 returns-2 c =
-    search (root-refused, c .before .before .before .before .before .before .before .before .before .before .before .before .before .before .before .before .before .before .before .before .before .before .before .before .before .before .pre .0, c .before .before .before .before .before .before .before .before .before .before .before .before .before .before .before .before .before .before .before .before .before .before .before .before .before .before .pre .1, c .before .before .before .before .before .before .before .before .before .before .before .before .before .before .before .before .before .before .before .before .before .before .before .before .before .before .pre .2, c .before .before .before .before .before .before .before .before .before .before .before .before .before .before .before .before .before .before .before .before .before .before .before .before .before .before .pre .3, c .before .before .before .before .before .before .before .before .before .before .before .before .before .before .before .before .before .before .before .before .before .nowhere .ensures, c .before .before .before .before .before .before .before .before .before .before .before .before .before .before .before .before .before .particle .ensures, c .before .before .before .before .before .before .before .before .before .before .before .before .before .before .before .before .before .particle .kept .1 .1 .0, c .before .before .before .before .before .before .before .before .before .before .before .before .before .before .before .before .before .particle .kept .1 .1 .1 .0, c .before .before .before .before .before .before .before .before .before .before .w .given .1, c .before .before .before .before .before .both .ensures .0, c .before .before .before .before .before .both .ensures .1, c .refused .ensures)
+    let at-both = c .before .before .before .before .before in
+    let at-w = at-both .before .before .before .before .before in
+    let at-particle = at-w .before .before .before .before .before .before .before in
+    let at-nowhere = at-particle .before .before .before .before in
+    let entry = at-nowhere .before .before .before .before .before in
+    search (root-refused, entry .pre .0, entry .pre .1, entry .pre .2, entry .pre .3, at-nowhere .nowhere .ensures, at-particle .particle .ensures, at-particle .particle .kept .1 .1 .0, at-particle .particle .kept .1 .1 .1 .0, at-w .w .given .1, at-both .both .ensures .0, at-both .both .ensures .1, c .refused .ensures)
 
 same-length-5 : tie.Need-same-length-5
 same-length-5 c =
-    c .before .before .before .before .before .before .before .both2 .kept .0 ∙ c .before .before .before .before .before .before .before .before .before .before .before .before .before .before .before .before .before .before .before .particle .kept .1 .1 .0
+    let at-both2 = c .before .before .before .before .before .before .before in
+    let at-particle = at-both2 .before .before .before .before .before .before .before .before .before .before .before .before in
+    at-both2 .both2 .kept .0 ∙ at-particle .particle .kept .1 .1 .0
 
 same-length-6 : tie.Need-same-length-6
 same-length-6 c = search needs
 
 returns-3 : tie.Need-returns-3
 returns-3 c =
-    search (root-told, c .before .before .before .before .before .before .before .before .before .before .before .before .before .before .before .before .before .before .before .before .before .before .before .before .before .before .before .before .pre .0, c .before .before .before .before .before .before .before .before .before .before .before .before .before .before .before .before .before .before .before .before .before .before .before .before .before .before .before .before .pre .1, c .before .before .before .before .before .before .before .before .before .before .before .before .before .before .before .before .before .before .before .before .before .before .before .before .before .before .before .before .pre .2, c .before .before .before .before .before .before .before .before .before .before .before .before .before .before .before .before .before .before .before .before .before .before .before .before .before .before .before .before .pre .3, c .before .before .before .before .before .before .before .before .before .before .before .before .before .before .before .before .before .before .before .before .before .before .before .nowhere .ensures, c .before .before .before .before .before .before .before .before .before .before .before .before .before .before .before .before .before .before .before .particle .ensures, c .before .before .before .before .before .before .before .before .before .before .before .before .before .before .before .before .before .before .before .particle .kept .1 .1 .0, c .before .before .before .before .before .before .before .before .before .before .before .before .before .before .before .before .before .before .before .particle .kept .1 .1 .1 .0, c .before .before .before .before .before .before .before .before .before .before .before .before .w2 .given .1, c .before .before .before .before .before .before .before .both2 .ensures .0, c .before .before .before .before .before .before .before .both2 .ensures .1, c .before .heard .ensures, c .refused2 .ensures)
+    let at-heard = c .before in
+    let at-both2 = at-heard .before .before .before .before .before .before in
+    let at-w2 = at-both2 .before .before .before .before .before in
+    let at-particle = at-w2 .before .before .before .before .before .before .before in
+    let at-nowhere = at-particle .before .before .before .before in
+    let entry = at-nowhere .before .before .before .before .before in
+    search (root-told, entry .pre .0, entry .pre .1, entry .pre .2, entry .pre .3, at-nowhere .nowhere .ensures, at-particle .particle .ensures, at-particle .particle .kept .1 .1 .0, at-particle .particle .kept .1 .1 .1 .0, at-w2 .w2 .given .1, at-both2 .both2 .ensures .0, at-both2 .both2 .ensures .1, at-heard .heard .ensures, c .refused2 .ensures)
 
 same-length-7 : tie.Need-same-length-7
 same-length-7 c = search needs
@@ -108,7 +127,14 @@ same-length-8 c = search needs
 
 returns-4 : tie.Need-returns-4
 returns-4 c =
-    search (root-left, c .before .before .before .before .before .before .before .before .before .before .before .before .before .before .before .before .before .before .before .before .before .before .before .before .before .before .before .before .before .pre .0, c .before .before .before .before .before .before .before .before .before .before .before .before .before .before .before .before .before .before .before .before .before .before .before .before .before .before .before .before .before .pre .1, c .before .before .before .before .before .before .before .before .before .before .before .before .before .before .before .before .before .before .before .before .before .before .before .before .before .before .before .before .before .pre .2, c .before .before .before .before .before .before .before .before .before .before .before .before .before .before .before .before .before .before .before .before .before .before .before .before .before .before .before .before .before .pre .3, c .before .before .before .before .before .before .before .before .before .before .before .before .before .before .before .before .before .before .before .before .before .before .before .before .nowhere .ensures, c .before .before .before .before .before .before .before .before .before .before .before .before .before .before .before .before .before .before .before .before .particle .ensures, c .before .before .before .before .before .before .before .before .before .before .before .before .before .before .before .before .before .before .before .before .particle .kept .1 .1 .0, c .before .before .before .before .before .before .before .before .before .before .before .before .before .before .before .before .before .before .before .before .particle .kept .1 .1 .1 .0, c .before .before .before .before .before .before .before .before .before .before .before .before .before .w3 .given .1, c .before .before .before .before .before .before .before .before .before .before .padding .ensures, c .before .before .before .before .before .before .before .before .before .if1 .left, c .before .before .before .before .before .both3 .ensures .0, c .before .before .before .before .before .both3 .ensures .1, c .refused3 .ensures)
+    let at-both3 = c .before .before .before .before .before in
+    let at-if1 = at-both3 .before .before .before .before in
+    let at-padding = at-if1 .before in
+    let at-w3 = at-padding .before .before .before in
+    let at-particle = at-w3 .before .before .before .before .before .before .before in
+    let at-nowhere = at-particle .before .before .before .before in
+    let entry = at-nowhere .before .before .before .before .before in
+    search (root-left, entry .pre .0, entry .pre .1, entry .pre .2, entry .pre .3, at-nowhere .nowhere .ensures, at-particle .particle .ensures, at-particle .particle .kept .1 .1 .0, at-particle .particle .kept .1 .1 .1 .0, at-w3 .w3 .given .1, at-padding .padding .ensures, at-if1 .if1 .left, at-both3 .both3 .ensures .0, at-both3 .both3 .ensures .1, c .refused3 .ensures)
 
 pub root-spec : {M : Type 1} → statement M
 root-spec =

@@ -27,7 +27,11 @@ same-length : tie.Need-same-length
 same-length c = search needs
 
 returns : tie.Need-returns
-returns c = search (write-stopped, c .before .before .before .before .before .before .before .before .before .before .before .before .before .pre .0, c .before .before .before .before .before .before .element .ensures, c .before .before .r .given .1, c .refused .ensures, c .before .before .before .before .before .before .before .before .before .before .before .before .before .pre .1 .is)
+returns c =
+    let at-r = c .before .before in
+    let at-element = at-r .before .before .before .before in
+    let entry = at-element .before .before .before .before .before .before .before in
+    search (write-stopped, entry .pre .0, at-element .element .ensures, at-r .r .given .1, c .refused .ensures, entry .pre .1 .is)
 
 same-length-2 : tie.Need-same-length-2
 same-length-2 c = search needs
@@ -36,7 +40,12 @@ same-length-3 : tie.Need-same-length-3
 same-length-3 c = search needs
 
 returns-2 : tie.Need-returns-2
-returns-2 c = search (write-done, c .before .before .before .before .before .before .before .before .before .before .before .before .before .before .before .before .before .pre .0, c .before .before .before .before .before .before .before .before .before .before .element .ensures, c .before .before .before .before .before .before .r2 .given .1, c .before .before .finish .ensures)
+returns-2 c =
+    let at-finish = c .before .before in
+    let at-r2 = at-finish .before .before .before .before in
+    let at-element = at-r2 .before .before .before .before in
+    let entry = at-element .before .before .before .before .before .before .before in
+    search (write-done, entry .pre .0, at-element .element .ensures, at-r2 .r2 .given .1, at-finish .finish .ensures)
 
 pub noted-spec : {M : Type 1} → statement M
 noted-spec =

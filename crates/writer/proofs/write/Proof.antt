@@ -31,13 +31,19 @@ slice-aggregate-noted c = search needs
 
 noted-requires : tie.Need-noted-requires
 noted-requires c κs =
-    (write-fine _ _ _ _ _ _ (c .before .before .before .before .before .asked .ensures) (c .before .before .before .enum-told .given .1), search (zeros-are, c .before .before .before .before .before .before .before .before .clear .ensures), omega arith)
+    let at-enum-told = c .before .before .before in
+    let at-asked = at-enum-told .before .before in
+    let at-clear = at-asked .before .before .before in
+    (write-fine _ _ _ _ _ _ (at-asked .asked .ensures) (at-enum-told .enum-told .given .1), search (zeros-are, at-clear .clear .ensures), omega arith)
 
 same-length-2 : tie.Need-same-length-2
 same-length-2 c = search needs
 
 returns-2 : tie.Need-returns-2
-returns-2 c = search (write-into, c .before .before .before .before .before .before .before .before .before .before .before .before .clear .kept .0, c .before .before .before .noted .ensures)
+returns-2 c =
+    let at-noted = c .before .before .before in
+    let at-clear = at-noted .before .before .before .before .before .before .before .before .before in
+    search (write-into, at-clear .clear .kept .0, at-noted .noted .ensures)
 
 slice-aggregate-noted-2 : tie.Need-slice-aggregate-noted-2
 slice-aggregate-noted-2 c = search needs
@@ -51,7 +57,10 @@ same-length-3 : tie.Need-same-length-3
 same-length-3 c = search needs
 
 returns-3 : tie.Need-returns-3
-returns-3 c = search (write-into, c .before .before .before .before .before .before .before .before .before .before .before .before .clear .kept .0, c .before .before .before .noted2 .ensures)
+returns-3 c =
+    let at-noted2 = c .before .before .before in
+    let at-clear = at-noted2 .before .before .before .before .before .before .before .before .before in
+    search (write-into, at-clear .clear .kept .0, at-noted2 .noted2 .ensures)
 
 pub write-spec : {M : Type 1} → statement M
 write-spec =

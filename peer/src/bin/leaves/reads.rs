@@ -74,13 +74,10 @@ impl Pattern {
             } else {
                 peer(&self.payload, wall, self.at)
             };
-            let mut expected = match said {
+            let expected = match said {
                 Ok((value, bits, more)) => Answer::accepted(value, self.at + bits, more),
                 Err(number) => Answer::refused(number),
             };
-            if let (Ok((_, bits, _)), "simple") = (said, leaf) {
-                expected.out[3] = bits as u32;
-            }
             tally.hold(leaf, expected.number, answer, expected, || {
                 format!("{parameters:?} end {wall} at {} bytes {:02x?}", self.at, self.payload)
             });

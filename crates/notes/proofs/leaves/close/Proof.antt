@@ -26,16 +26,33 @@ keep-requires-2 : tie.Need-keep-requires-2
 keep-requires-2 c κs = search (needs, close-ways)
 
 add-bits : tie.Need-add-bits
-add-bits c = search (close-fits, c .before .before .before .before .before .before .before .before .before .before .before .before .before .before .before .before .before .before .before .before .pre .0, c .before .before .before .before .before .before .before .before .before .before .before .before .before .before .before .before .before .before .before .before .pre .1, c .before .before .before .before .before .before .before .before .before .before .before .before .before .before .before .before .unlike .ensures, c .before .before .before .before .before .before .before .before .before .before .before .before .before .before .before .if1 .left, c .before .before .before .before .before .before .before .head .ensures)
+add-bits c =
+    let at-head = c .before .before .before .before .before .before .before in
+    let at-if1 = at-head .before .before .before .before .before .before .before .before in
+    let at-unlike = at-if1 .before in
+    let entry = at-unlike .before .before .before .before in
+    search (close-fits, entry .pre .0, entry .pre .1, at-unlike .unlike .ensures, at-if1 .if1 .left, at-head .head .ensures)
 
 add-t24 : tie.Need-add-t24
-add-t24 c = search (close-next, c .before .before .before .before .before .before .before .before .before .before .before .before .before .before .before .before .before .before .before .before .pre .0, c .before .before .before .before .before .before .before .before .before .before .before .before .before .before .before .before .before .before .before .before .pre .1, c .before .before .before .before .before .before .before .before .before .before .before .before .before .before .before .before .unlike .ensures, c .before .before .before .before .before .before .before .before .before .before .before .before .before .before .before .if1 .left)
+add-t24 c =
+    let at-if1 = c .before .before .before .before .before .before .before .before .before .before .before .before .before .before .before in
+    let at-unlike = at-if1 .before in
+    let entry = at-unlike .before .before .before .before in
+    search (close-next, entry .pre .0, entry .pre .1, at-unlike .unlike .ensures, at-if1 .if1 .left)
 
 same-length : tie.Need-same-length
 same-length c = search needs
 
 returns-2 : tie.Need-returns-2
-returns-2 c = search (close-go, c .before .before .before .before .before .before .before .before .before .before .before .before .before .before .before .before .before .before .before .before .pre .0, c .before .before .before .before .before .before .before .before .before .before .before .before .before .before .before .before .before .before .before .before .pre .1, c .before .before .before .before .before .before .before .before .before .before .before .before .before .before .before .before .unlike .ensures, c .before .before .before .before .before .before .before .before .before .before .before .before .before .before .before .if1 .left, c .before .before .before .before .before .before .before .before .before .before .before .before .before .before .just .ensures, c .before .before .before .before .before .before .before .before .before .before .before .before .keep .ensures, c .before .before .before .before .before .before .before .head .ensures, c .before .before .before .before .keep2 .ensures)
+returns-2 c =
+    let at-keep2 = c .before .before .before .before in
+    let at-head = at-keep2 .before .before .before in
+    let at-keep = at-head .before .before .before .before .before in
+    let at-just = at-keep .before .before in
+    let at-if1 = at-just .before in
+    let at-unlike = at-if1 .before in
+    let entry = at-unlike .before .before .before .before in
+    search (close-go, entry .pre .0, entry .pre .1, at-unlike .unlike .ensures, at-if1 .if1 .left, at-just .just .ensures, at-keep .keep .ensures, at-head .head .ensures, at-keep2 .keep2 .ensures)
 
 pub close-spec : {M : Type 1} → statement M
 close-spec =

@@ -38,7 +38,15 @@ same-length : tie.Need-same-length
 same-length c = search needs
 
 returns-3 : tie.Need-returns-3
-returns-3 c = search (coded-go, c .before .before .before .before .before .before .before .before .before .before .before .before .before .before .before .before .pre, c .before .before .before .before .before .before .before .before .before .before .before .before .unlike .ensures, c .before .before .before .before .before .before .before .before .before .before .before .if1 .left, c .before .before .before .before .before .before .before .before .before .before .size .ensures .0, c .before .before .before .before .before .before .before .before .before .before .size .ensures .1, c .before .before .before .before .before .before .before .before .n .given .1, c .before .before .before .before .before .before .number .ensures, c .before .before .before .before .keep .ensures)
+returns-3 c =
+    let at-keep = c .before .before .before .before in
+    let at-number = at-keep .before .before in
+    let at-n = at-number .before .before in
+    let at-size = at-n .before .before in
+    let at-if1 = at-size .before in
+    let at-unlike = at-if1 .before in
+    let entry = at-unlike .before .before .before .before in
+    search (coded-go, entry .pre, at-unlike .unlike .ensures, at-if1 .if1 .left, at-size .size .ensures .0, at-size .size .ensures .1, at-n .n .given .1, at-number .number .ensures, at-keep .keep .ensures)
 
 pub coded-spec : {M : Type 1} → statement M
 coded-spec =

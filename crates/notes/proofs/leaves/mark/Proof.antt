@@ -23,7 +23,13 @@ same-length : tie.Need-same-length
 same-length c = search needs
 
 returns-2 : tie.Need-returns-2
-returns-2 c = search (mark-go, c .before .before .before .before .before .before .before .before .before .before .pre, c .before .before .before .before .before .before .unlike .ensures, c .before .before .before .before .before .if1 .left, c .before .before .before .before .just .ensures, c .before .before .keep .ensures)
+returns-2 c =
+    let at-keep = c .before .before in
+    let at-just = at-keep .before .before in
+    let at-if1 = at-just .before in
+    let at-unlike = at-if1 .before in
+    let entry = at-unlike .before .before .before .before in
+    search (mark-go, entry .pre, at-unlike .unlike .ensures, at-if1 .if1 .left, at-just .just .ensures, at-keep .keep .ensures)
 
 pub mark-spec : {M : Type 1} → statement M
 mark-spec =

@@ -47,7 +47,16 @@ same-length : tie.Need-same-length
 same-length c = search needs
 
 returns-3 : tie.Need-returns-3
-returns-3 c = search (needs, text-go, c .before .before .before .before .before .before .before .before .before .before .before .before .before .before .before .pre, c .before .before .before .before .before .before .before .before .before .before .before .unlike .ensures, c .before .before .before .before .before .before .before .before .before .before .if1 .left, c .before .before .before .before .before .before .before .before .before .text-fault .ensures, c .before .before .before .before .before .before .before .before .if2 .left, c .before .before .size5 .ensures, c .before .before .before .before .before .before .before .text-note .ensures, c .before .before .before .before .before .keep .ensures)
+returns-3 c =
+    let at-size5 = c .before .before in
+    let at-keep = at-size5 .before .before .before in
+    let at-text-note = at-keep .before .before in
+    let at-if2 = at-text-note .before in
+    let at-text-fault = at-if2 .before in
+    let at-if1 = at-text-fault .before in
+    let at-unlike = at-if1 .before in
+    let entry = at-unlike .before .before .before .before in
+    search (needs, text-go, entry .pre, at-unlike .unlike .ensures, at-if1 .if1 .left, at-text-fault .text-fault .ensures, at-if2 .if2 .left, at-size5 .size5 .ensures, at-text-note .text-note .ensures, at-keep .keep .ensures)
 
 pub text-value-spec : {M : Type 1} → statement M
 text-value-spec =

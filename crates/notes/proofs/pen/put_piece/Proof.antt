@@ -54,14 +54,24 @@ part-put-bytes-end c = search needs
 
 put-bytes-requires : tie.Need-put-bytes-requires
 put-bytes-requires c κs =
-    search (needs, room-bytes, c .before .before .before .before .before .before .before .before .pre, c .before .before .before .before .before .if1 .left, c .before .before .before .before .if2 .left, c .before .before .before .least .ensures, c .before .before .least2 .ensures)
+    let at-least2 = c .before .before in
+    let at-least = at-least2 .before in
+    let at-if2 = at-least .before in
+    let at-if1 = at-if2 .before in
+    let entry = at-if1 .before .before .before in
+    search (needs, room-bytes, entry .pre, at-if1 .if1 .left, at-if2 .if2 .left, at-least .least .ensures, at-least2 .least2 .ensures)
 
 same-length-3 : tie.Need-same-length-3
 same-length-3 c = search needs
 
 returns-3 : tie.Need-returns-3
 returns-3 c =
-    search (needs, put-part, c .before .before .before .before .before .before .before .before .if1 .left, c .before .before .before .before .before .before .before .if2 .left, c .before .before .before .before .before .before .least .ensures, c .before .before .before .before .before .least2 .ensures, c .before .before .put-bytes .ensures)
+    let at-put-bytes = c .before .before in
+    let at-least2 = at-put-bytes .before .before .before in
+    let at-least = at-least2 .before in
+    let at-if2 = at-least .before in
+    let at-if1 = at-if2 .before in
+    search (needs, put-part, at-if1 .if1 .left, at-if2 .if2 .left, at-least .least .ensures, at-least2 .least2 .ensures, at-put-bytes .put-bytes .ensures)
 
 pub put-piece-spec : {M : Type 1} → statement M
 put-piece-spec =

@@ -211,7 +211,11 @@ choose-particle-requires t c κs = search (needs, asked-ways)
 
 choose-particle-requires-2 : (t : ℕ) → choose-lts.Need-particle-requires-2 (choose-env t) (choose-at t) choose.Post
 choose-particle-requires-2 t c κs =
-    (omega (arith, c .before .before .before .before .before .before .before .before .before .before .before .before .before .before .before .before .before .before .before .before .before .pre .0), (c .before .before .before .before .before .before .before .before .before .before .before .before .before .before .before .before .before .before .before .before .before .pre .1 .0, c .before .before .before .before .before .before .before .before .before .before .before .before .before .before .before .before .before .before .before .before .before .pre .1 .1, search (row-fits, branch-row, c .before .before .before .before .before .before .before .before .before .before .before .before .before .before .before .before .before .before .before .before .before .pre .1 .0, c .before .before .before .before .before .before .before .before .before .before .before .before .before .before .before .before .before .before .before .before .before .pre .1 .2, c .before .before .before .before .before .before .before .before .before .before .before .before .before .before .choice .ensures, c .before .before .before .before .before .before .before .before .before .before .before .before .r2 .given .1, c .before .before .before .particle .ensures)))
+    let at-particle = c .before .before .before in
+    let at-r2 = at-particle .before .before .before .before .before .before .before .before .before in
+    let at-choice = at-r2 .before .before in
+    let entry = at-choice .before .before .before .before .before .before .before in
+    (omega (arith, entry .pre .0), (entry .pre .1 .0, entry .pre .1 .1, search (row-fits, branch-row, entry .pre .1 .0, entry .pre .1 .2, at-choice .choice .ensures, at-r2 .r2 .given .1, at-particle .particle .ensures)))
 
 choose-returns-2 : (t : ℕ) → choose-lts.Need-returns-2 (choose-env t) (choose-at t) choose.Post
 choose-returns-2 t c = search (needs, choose-ways)
@@ -356,7 +360,9 @@ enter-whole-requires t c κs = search (needs, asked-ways)
 
 enter-named-requires : (t : ℕ) → enter-lts.Need-named-requires (enter-env t) (enter-at t) enter.Post
 enter-named-requires t c κs =
-    (c .before .before .before .before .before .before .before .whole .kept .1 .1 .1 .1 .0 ∙ c .before .before .before .before .before .before .before .before .before .before .before .before .before .before .before .before .before .before .before .before .before .before .before .before .pre .1 .1, path-open _ _ _ _ _ (c .before .before .before .before .before .before .before .before .before .before .before .before .before .before .before .before .before .before .before .before .before .before .before .before .pre .1 .0), c .before .before .before .before .before .before .before .before .before .before .before .before .before .before .before .before .before .before .before .before .before .before .before .before .pre .1 .2)
+    let at-whole = c .before .before .before .before .before .before .before in
+    let entry = at-whole .before .before .before .before .before .before .before .before .before .before .before .before .before .before .before .before .before in
+    (at-whole .whole .kept .1 .1 .1 .1 .0 ∙ entry .pre .1 .1, path-open _ _ _ _ _ (entry .pre .1 .0), entry .pre .1 .2)
 
 enter-same-length-2 : (t : ℕ) → enter-lts.Need-same-length-2 (enter-env t) (enter-at t) enter.Post
 enter-same-length-2 t c = search needs
@@ -438,7 +444,8 @@ occur-returns t c = search (needs, occur-ways)
 
 occur-rounds-requires : (t : ℕ) → occur-lts.Need-rounds-requires (occur-env t) (occur-at t) occur.Post
 occur-rounds-requires t c κs =
-    (omega (arith, c .before .before .before .before .before .before .before .before .before .before .before .before .before .before .before .before .before .before .before .before .before .pre .0), (c .before .before .before .before .before .before .before .before .before .before .before .before .before .before .before .before .before .before .before .before .before .pre .1 .0, c .before .before .before .before .before .before .before .before .before .before .before .before .before .before .before .before .before .before .before .before .before .pre .1 .1, occurs-rows _ _ _ (c .before .before .before .before .before .before .before .before .before .before .before .before .before .before .before .before .before .before .before .before .before .pre .1 .2)))
+    let entry = c .before .before .before .before .before .before .before .before .before .before .before .before .before .before .before .before .before .before .before .before .before in
+    (omega (arith, entry .pre .0), (entry .pre .1 .0, entry .pre .1 .1, occurs-rows _ _ _ (entry .pre .1 .2)))
 
 occur-returns-2 : (t : ℕ) → occur-lts.Need-returns-2 (occur-env t) (occur-at t) occur.Post
 occur-returns-2 t c = search (needs, occur-ways)
@@ -550,7 +557,11 @@ rounds-particle-requires t c κs = search (needs, asked-ways)
 
 rounds-particle-requires-2 : (t : ℕ) → rounds-lts.Need-particle-requires-2 (rounds-env t) (rounds-at t) rounds.Post rounds-Inv-loop rounds-μ-loop
 rounds-particle-requires-2 t c κs =
-    (omega (arith, c .before .before .before .before .before .before .before .before .before .before .before .pre .0), (c .before .before .before .before .before .before .before .before .before .before .before .pre .1 .0, c .before .before .before .before .before .loop .inv .2 ∙ c .before .before .before .before .before .before .before .before .before .before .before .pre .1 .1, search (row-fits, round-row, c .before .before .before .before .before .before .before .before .before .before .before .pre .1 .0, c .before .before .before .before .before .loop .inv .4, c .before .before .before .before .loop-test .taken, c .before .before .before .particle .ensures)))
+    let at-particle = c .before .before .before in
+    let at-loop-test = at-particle .before in
+    let at-loop = at-loop-test .before in
+    let entry = at-loop .before .before .before .before .before .before in
+    (omega (arith, entry .pre .0), (entry .pre .1 .0, at-loop .loop .inv .2 ∙ entry .pre .1 .1, search (row-fits, round-row, entry .pre .1 .0, at-loop .loop .inv .4, at-loop-test .loop-test .taken, at-particle .particle .ensures)))
 
 rounds-enum-known-w : (t : ℕ) → rounds-lts.Need-enum-known-w (rounds-env t) (rounds-at t) rounds.Post rounds-Inv-loop rounds-μ-loop
 rounds-enum-known-w t c = search needs
@@ -566,11 +577,18 @@ rounds-same-length-3 t c = search needs
 
 rounds-returns : (t : ℕ) → rounds-lts.Need-returns (rounds-env t) (rounds-at t) rounds.Post rounds-Inv-loop rounds-μ-loop
 rounds-returns t c =
-    search (rounds-stop, c .before .before .before .before .before .before .before .before .before .before .before .before .before .loop .inv .5, c .before .before .before .before .before .before .before .before .before .before .before .before .loop-test .taken, c .before .before .before .before .before .before .before .before .before .before .before .particle .ensures, c .before .before .before .before .before .before .before .particle2 .ensures, stopped (λ (x : walk.Walk). Declared.tagOf code.the-type x) (λ x. refl) (c .before .before .before .before .before .before .before .particle2 .result) (c .match .keys2))
+    let at-particle2 = c .before .before .before .before .before .before .before in
+    let at-particle = at-particle2 .before .before .before .before in
+    let at-loop-test = at-particle .before in
+    let at-loop = at-loop-test .before in
+    search (rounds-stop, at-loop .loop .inv .5, at-loop-test .loop-test .taken, at-particle .particle .ensures, at-particle2 .particle2 .ensures, stopped (λ (x : walk.Walk). Declared.tagOf code.the-type x) (λ x. refl) (at-particle2 .particle2 .result) (c .match .keys2))
 
 rounds-add-i : (t : ℕ) → rounds-lts.Need-add-i (rounds-env t) (rounds-at t) rounds.Post rounds-Inv-loop rounds-μ-loop
 rounds-add-i t c =
-    record { fits = round-fits _ _ _ _ _ (c .before .before .before .before .before .before .before .before .before .before .before .before .before .before .before .before .before .before .before .before .before .pre .1 .0) _ _ _ _ (c .before .before .before .before .before .before .before .before .before .before .before .before .before .before .before .loop .inv .4) (c .before .before .before .before .before .before .before .before .before .before .before .before .before .before .loop-test .taken) }
+    let at-loop-test = c .before .before .before .before .before .before .before .before .before .before .before .before .before .before in
+    let at-loop = at-loop-test .before in
+    let entry = at-loop .before .before .before .before .before .before in
+    record { fits = round-fits _ _ _ _ _ (entry .pre .1 .0) _ _ _ _ (at-loop .loop .inv .4) (at-loop-test .loop-test .taken) }
 
 rounds-add-j : (t : ℕ) → rounds-lts.Need-add-j (rounds-env t) (rounds-at t) rounds.Post rounds-Inv-loop rounds-μ-loop
 rounds-add-j t c = search (needs, asked-ways)
@@ -585,8 +603,14 @@ rounds-loop-again t c = (
   search needs,
   omega arith,
   search (needs, asked-ways),
-  rounds-again _ _ _ _ _ _ _ _ _ (c .before .before .before .before .before .before .before .before .before .before .before .before .before .before .before .loop .cursor) _ (c .before .before .before .before .before .before .before .before .before .before .before .before .before .before .before .loop .events) (c .before .before .before .before .before .before .before .before .before .before .before .before .before .before .before .loop .texts) _ (c .before .before .before .before .before .before .before .before .before .before .before .before .before .before .before .before .before .before .before .before .before .args .c) (c .before .before .before .before .before .before .before .before .before .before .before .before .before .before .before .before .before .before .before .before .before .args .events .now) (c .before .before .before .before .before .before .before .before .before .before .before .before .before .before .before .before .before .before .before .before .before .args .texts .now) (c .before .before .before .before .before .before .before .before .before .before .before .before .before .before .before .loop .inv .5)
-      (c .before .before .before .before .before .before .before .before .before .before .before .before .before .particle .result) (c .before .before .before .before .before .before .before .before .before .before .before .before .before .particle .ensures) _ _ _ _ (c .before .before .before .before .before .before .before .before .before .before .before .before .before .before .loop-test .taken) (c .before .before .before .before .before .before .before .before .before .particle2 .ensures) _ (c .before .w .given .1),
+  let at-w = c .before in
+      let at-particle2 = at-w .before .before .before .before .before .before .before .before in
+      let at-particle = at-particle2 .before .before .before .before in
+      let at-loop-test = at-particle .before in
+      let at-loop = at-loop-test .before in
+      let entry = at-loop .before .before .before .before .before .before in
+      rounds-again _ _ _ _ _ _ _ _ _ (at-loop .loop .cursor) _ (at-loop .loop .events) (at-loop .loop .texts) _ (entry .args .c) (entry .args .events .now) (entry .args .texts .now) (at-loop .loop .inv .5)
+      (at-particle .particle .result) (at-particle .particle .ensures) _ _ _ _ (at-loop-test .loop-test .taken) (at-particle2 .particle2 .ensures) _ (at-w .w .given .1),
 )
 
 rounds-same-length-4 : (t : ℕ) → rounds-lts.Need-same-length-4 (rounds-env t) (rounds-at t) rounds.Post rounds-Inv-loop rounds-μ-loop
@@ -618,7 +642,8 @@ whole-same-length-3 t c = search needs
 
 whole-returns : (t : ℕ) → whole-lts.Need-returns (whole-env t) (whole-at t) whole.Post
 whole-returns t c =
-    search (whole-stop, c .before .before .before .before .before .before .before .inside .ensures, stopped (λ (x : walk.Walk). Declared.tagOf code.the-type x) (λ x. refl) (c .before .before .before .before .before .before .before .inside .result) (c .match .keys2))
+    let at-inside = c .before .before .before .before .before .before .before in
+    search (whole-stop, at-inside .inside .ensures, stopped (λ (x : walk.Walk). Declared.tagOf code.the-type x) (λ x. refl) (at-inside .inside .result) (c .match .keys2))
 
 whole-close-requires : (t : ℕ) → whole-lts.Need-close-requires (whole-env t) (whole-at t) whole.Post
 whole-close-requires t c κs = search needs

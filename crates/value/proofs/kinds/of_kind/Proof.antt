@@ -1,6 +1,5 @@
 -- A text, or a number.
 use Rattle.value.specs.KindWays.{of-kind-ways}
-use Rattle.value.specs.ReadWays.{moved}
 use borrow.Author.Needs.{needs}
 use Rattle.value.proofs.kinds.of_kind.Statement.{statement}
 use Rattle.value.proofs.kinds.of_kind.Tie as tie
@@ -20,14 +19,11 @@ enum-known-e c = search (needs, of-kind-ways)
 enum-known-v : tie.Need-enum-known-v
 enum-known-v c = search (needs, of-kind-ways)
 
-sub-t17 : tie.Need-sub-t17
-sub-t17 c = search (needs, of-kind-ways)
-
 returns-2 : tie.Need-returns-2
 returns-2 c = search (needs, of-kind-ways)
 
 returns-3 : tie.Need-returns-3
-returns-3 c = (search (needs, of-kind-ways), moved (search (needs, of-kind-ways)))
+returns-3 c = search (needs, of-kind-ways)
 
 pub of-kind-spec : {M : Type 1} → statement M
 of-kind-spec =
@@ -38,6 +34,5 @@ of-kind-spec =
     by-kind-requires
     enum-known-e
     enum-known-v
-    sub-t17
     returns-2
     returns-3)

@@ -1,6 +1,5 @@
 -- By the form.
-use Rattle.value.specs.ReadWays.{simple-ways, moved}
-use native.Mathlib.Omega.{arith}
+use Rattle.value.specs.ReadWays.{simple-ways}
 use borrow.Author.Needs.{needs}
 use Rattle.value.proofs.reading.simple.Statement.{statement}
 use Rattle.value.proofs.reading.simple.Tie as tie
@@ -16,9 +15,6 @@ enum-known-e c = search (needs, simple-ways)
 
 enum-known-v : tie.Need-enum-known-v
 enum-known-v c = search (needs, simple-ways)
-
-sub-t18 : tie.Need-sub-t18
-sub-t18 c = search (needs, simple-ways)
 
 enum-told : tie.Need-enum-told
 enum-told c = search (needs, simple-ways)
@@ -39,7 +35,7 @@ returns : tie.Need-returns
 returns c = search (needs, simple-ways)
 
 returns-2 : tie.Need-returns-2
-returns-2 c = (search (needs, simple-ways), moved (search (needs, simple-ways)))
+returns-2 c = search (needs, simple-ways)
 
 returns-3 : tie.Need-returns-3
 returns-3 c = search (needs, simple-ways)
@@ -55,7 +51,6 @@ simple-spec =
     code-requires
     enum-known-e
     enum-known-v
-    sub-t18
     enum-told
     number-requires
     enum-known-e-2

@@ -1,7 +1,6 @@
 -- The wall, and then what is wrong with the bytes.
 use Rattle.value.specs.ReadWays.{text-ways, way-text-read}
 use mathlib.Core.Path.{refl}
-use native.Mathlib.Omega.{arith}
 use borrow.Author.Needs.{needs}
 use Rattle.value.proofs.reading.text_after.Statement.{statement}
 use Rattle.value.proofs.reading.text_after.Tie as tie
@@ -27,13 +26,10 @@ mul-q c = search (needs, text-ways)
 add-q : tie.Need-add-q
 add-q c = search (needs, text-ways)
 
-sub-t16 : tie.Need-sub-t16
-sub-t16 c = search (needs, text-ways)
-
 returns-4 : tie.Need-returns-4
 returns-4 c =
     let b = c .before .before in
-    (way-text-read _ _ _ _ (b .before .if1 .left) (b .if2 .left) _ (c .before .text-fault .ensures) _ _ _ (c .if3 .left) refl refl, omega arith)
+    way-text-read _ _ _ _ (b .before .if1 .left) (b .if2 .left) _ (c .before .text-fault .ensures) _ _ (c .if3 .left) refl refl
 
 pub text-after-spec : {M : Type 1} → statement M
 text-after-spec =
@@ -46,5 +42,4 @@ text-after-spec =
     returns-3
     mul-q
     add-q
-    sub-t16
     returns-4)

@@ -36,7 +36,11 @@ same-length-2 c = search needs
 
 returns-2 : tie.Need-returns-2
 returns-2 c =
-    search (optional-absent, c .before .before .before .before .before .before .before .before .before .word .ensures, c .before .before .before .before .before .before .before .before .flag .ensures, c .before .before .before .before .before .before .coded .ensures, c .before .before .r .given .1, c .if1 .taken)
+    let at-r = c .before .before in
+    let at-coded = at-r .before .before .before .before in
+    let at-flag = at-coded .before .before in
+    let at-word = at-flag .before in
+    search (optional-absent, at-word .word .ensures, at-flag .flag .ensures, at-coded .coded .ensures, at-r .r .given .1, c .if1 .taken)
 
 value-requires : tie.Need-value-requires
 value-requires c κs = search (needs, optional-ways)

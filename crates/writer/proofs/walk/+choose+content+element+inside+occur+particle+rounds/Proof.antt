@@ -115,1026 +115,312 @@ rounds-at t = and 4 rounds-kinds.ps (is 4 rounds-kinds.ps μ-rounds t) rounds.Pr
 abbrev rounds-below : ℕ → In 4 rounds-kinds.ps
 rounds-below t = and 4 rounds-kinds.ps (falls 4 rounds-kinds.ps _<_ μ-rounds t) rounds.Pre
 
-choose-mul-word : (t : ℕ) → choose-lts.Need-mul-word (
-  word-reads.Asked,
-  word-reads.Learnt,
-  pick-reads.Asked,
-  pick-reads.Learnt,
-  particle-below t,
-  particle.Post,
-) (choose-at t) choose.Post
+abbrev rounds-env : ℕ → rounds-lts.Claims
+rounds-env t = (particle-below t, particle.Post)
+
+abbrev particle-env : ℕ → particle-lts.Claims
+particle-env t = (too-deep-reads.Asked, too-deep-reads.Learnt, particle-reads.Asked, particle-reads.Learnt, element-below t, element.Post, rounds-below t, rounds.Post, choose-below t, choose.Post, occur-below t, occur.Post)
+
+abbrev occur-env : ℕ → occur-lts.Claims
+occur-env t = (word-reads.Asked, word-reads.Learnt, count-reads.Asked, count-reads.Learnt, rounds-below t, rounds.Post)
+
+abbrev inside-env : ℕ → inside-lts.Claims
+inside-env t = (span-reads.Asked, span-reads.Learnt, all-reads.Asked, all-reads.Learnt, content-below t, content.Post)
+
+abbrev element-env : ℕ → element-lts.Claims
+element-env t = (word-reads.Asked, word-reads.Learnt, flag-in-reads.Asked, flag-in-reads.Learnt, unlike-reads.Asked, unlike-reads.Learnt, held-reads.Asked, held-reads.Learnt, inside-below t, inside.Post, close-reads.Asked, close-reads.Learnt)
+
+abbrev content-env : ℕ → content-lts.Claims
+content-env t = (content-reads.Asked, content-reads.Learnt, value-reads.Asked, value-reads.Learnt, particle-below t, particle.Post)
+
+abbrev choose-env : ℕ → choose-lts.Claims
+choose-env t = (word-reads.Asked, word-reads.Learnt, pick-reads.Asked, pick-reads.Learnt, particle-below t, particle.Post)
+
+choose-mul-word : (t : ℕ) → choose-lts.Need-mul-word (choose-env t) (choose-at t) choose.Post
 choose-mul-word t c = search (needs, choose-ways)
 
-choose-add-word : (t : ℕ) → choose-lts.Need-add-word (
-  word-reads.Asked,
-  word-reads.Learnt,
-  pick-reads.Asked,
-  pick-reads.Learnt,
-  particle-below t,
-  particle.Post,
-) (choose-at t) choose.Post
+choose-add-word : (t : ℕ) → choose-lts.Need-add-word (choose-env t) (choose-at t) choose.Post
 choose-add-word t c = search (needs, choose-ways)
 
-choose-word-requires : (t : ℕ) → choose-lts.Need-word-requires (
-  word-reads.Asked,
-  word-reads.Learnt,
-  pick-reads.Asked,
-  pick-reads.Learnt,
-  particle-below t,
-  particle.Post,
-) (choose-at t) choose.Post
+choose-word-requires : (t : ℕ) → choose-lts.Need-word-requires (choose-env t) (choose-at t) choose.Post
 choose-word-requires t c κs = search (needs, choose-ways)
 
-choose-pick-requires : (t : ℕ) → choose-lts.Need-pick-requires (
-  word-reads.Asked,
-  word-reads.Learnt,
-  pick-reads.Asked,
-  pick-reads.Learnt,
-  particle-below t,
-  particle.Post,
-) (choose-at t) choose.Post
+choose-pick-requires : (t : ℕ) → choose-lts.Need-pick-requires (choose-env t) (choose-at t) choose.Post
 choose-pick-requires t c κs = search (needs, choose-ways)
 
-choose-enum-known-r : (t : ℕ) → choose-lts.Need-enum-known-r (
-  word-reads.Asked,
-  word-reads.Learnt,
-  pick-reads.Asked,
-  pick-reads.Learnt,
-  particle-below t,
-  particle.Post,
-) (choose-at t) choose.Post
+choose-enum-known-r : (t : ℕ) → choose-lts.Need-enum-known-r (choose-env t) (choose-at t) choose.Post
 choose-enum-known-r t c = search needs
 
-choose-enum-told : (t : ℕ) → choose-lts.Need-enum-told (
-  word-reads.Asked,
-  word-reads.Learnt,
-  pick-reads.Asked,
-  pick-reads.Learnt,
-  particle-below t,
-  particle.Post,
-) (choose-at t) choose.Post
+choose-enum-told : (t : ℕ) → choose-lts.Need-enum-told (choose-env t) (choose-at t) choose.Post
 choose-enum-told t c = search needs
 
-choose-same-length : (t : ℕ) → choose-lts.Need-same-length (
-  word-reads.Asked,
-  word-reads.Learnt,
-  pick-reads.Asked,
-  pick-reads.Learnt,
-  particle-below t,
-  particle.Post,
-) (choose-at t) choose.Post
+choose-same-length : (t : ℕ) → choose-lts.Need-same-length (choose-env t) (choose-at t) choose.Post
 choose-same-length t c = search needs
 
-choose-returns : (t : ℕ) → choose-lts.Need-returns (
-  word-reads.Asked,
-  word-reads.Learnt,
-  pick-reads.Asked,
-  pick-reads.Learnt,
-  particle-below t,
-  particle.Post,
-) (choose-at t) choose.Post
+choose-returns : (t : ℕ) → choose-lts.Need-returns (choose-env t) (choose-at t) choose.Post
 choose-returns t c = search (needs, choose-ways)
 
-choose-add-particle : (t : ℕ) → choose-lts.Need-add-particle (
-  word-reads.Asked,
-  word-reads.Learnt,
-  pick-reads.Asked,
-  pick-reads.Learnt,
-  particle-below t,
-  particle.Post,
-) (choose-at t) choose.Post
+choose-add-particle : (t : ℕ) → choose-lts.Need-add-particle (choose-env t) (choose-at t) choose.Post
 choose-add-particle t c = search (needs, choose-ways)
 
-choose-particle-requires : (t : ℕ) → choose-lts.Need-particle-requires (
-  word-reads.Asked,
-  word-reads.Learnt,
-  pick-reads.Asked,
-  pick-reads.Learnt,
-  particle-below t,
-  particle.Post,
-) (choose-at t) choose.Post
+choose-particle-requires : (t : ℕ) → choose-lts.Need-particle-requires (choose-env t) (choose-at t) choose.Post
 choose-particle-requires t c κs = search (needs, choose-ways)
 
-choose-same-length-2 : (t : ℕ) → choose-lts.Need-same-length-2 (
-  word-reads.Asked,
-  word-reads.Learnt,
-  pick-reads.Asked,
-  pick-reads.Learnt,
-  particle-below t,
-  particle.Post,
-) (choose-at t) choose.Post
+choose-same-length-2 : (t : ℕ) → choose-lts.Need-same-length-2 (choose-env t) (choose-at t) choose.Post
 choose-same-length-2 t c = search needs
 
-choose-returns-2 : (t : ℕ) → choose-lts.Need-returns-2 (
-  word-reads.Asked,
-  word-reads.Learnt,
-  pick-reads.Asked,
-  pick-reads.Learnt,
-  particle-below t,
-  particle.Post,
-) (choose-at t) choose.Post
+choose-returns-2 : (t : ℕ) → choose-lts.Need-returns-2 (choose-env t) (choose-at t) choose.Post
 choose-returns-2 t c = search (needs, choose-ways)
 
-content-content-requires : (t : ℕ) → content-lts.Need-content-requires (
-  content-reads.Asked,
-  content-reads.Learnt,
-  value-reads.Asked,
-  value-reads.Learnt,
-  particle-below t,
-  particle.Post,
-) (content-at t) content.Post
+content-content-requires : (t : ℕ) → content-lts.Need-content-requires (content-env t) (content-at t) content.Post
 content-content-requires t c κs = search (needs, content-ways)
 
-content-enum-told : (t : ℕ) → content-lts.Need-enum-told (
-  content-reads.Asked,
-  content-reads.Learnt,
-  value-reads.Asked,
-  value-reads.Learnt,
-  particle-below t,
-  particle.Post,
-) (content-at t) content.Post
+content-enum-told : (t : ℕ) → content-lts.Need-enum-told (content-env t) (content-at t) content.Post
 content-enum-told t c = search needs
 
-content-enum-known-k : (t : ℕ) → content-lts.Need-enum-known-k (
-  content-reads.Asked,
-  content-reads.Learnt,
-  value-reads.Asked,
-  value-reads.Learnt,
-  particle-below t,
-  particle.Post,
-) (content-at t) content.Post
+content-enum-known-k : (t : ℕ) → content-lts.Need-enum-known-k (content-env t) (content-at t) content.Post
 content-enum-known-k t c = search needs
 
-content-value-requires : (t : ℕ) → content-lts.Need-value-requires (
-  content-reads.Asked,
-  content-reads.Learnt,
-  value-reads.Asked,
-  value-reads.Learnt,
-  particle-below t,
-  particle.Post,
-) (content-at t) content.Post
+content-value-requires : (t : ℕ) → content-lts.Need-value-requires (content-env t) (content-at t) content.Post
 content-value-requires t c κs = search (needs, content-ways)
 
-content-enum-known-i : (t : ℕ) → content-lts.Need-enum-known-i (
-  content-reads.Asked,
-  content-reads.Learnt,
-  value-reads.Asked,
-  value-reads.Learnt,
-  particle-below t,
-  particle.Post,
-) (content-at t) content.Post
+content-enum-known-i : (t : ℕ) → content-lts.Need-enum-known-i (content-env t) (content-at t) content.Post
 content-enum-known-i t c = search needs
 
-content-particle-requires : (t : ℕ) → content-lts.Need-particle-requires (
-  content-reads.Asked,
-  content-reads.Learnt,
-  value-reads.Asked,
-  value-reads.Learnt,
-  particle-below t,
-  particle.Post,
-) (content-at t) content.Post
+content-particle-requires : (t : ℕ) → content-lts.Need-particle-requires (content-env t) (content-at t) content.Post
 content-particle-requires t c κs = search (needs, content-ways)
 
-content-returns : (t : ℕ) → content-lts.Need-returns (
-  content-reads.Asked,
-  content-reads.Learnt,
-  value-reads.Asked,
-  value-reads.Learnt,
-  particle-below t,
-  particle.Post,
-) (content-at t) content.Post
+content-returns : (t : ℕ) → content-lts.Need-returns (content-env t) (content-at t) content.Post
 content-returns t c = search (needs, content-ways)
 
-content-same-length : (t : ℕ) → content-lts.Need-same-length (
-  content-reads.Asked,
-  content-reads.Learnt,
-  value-reads.Asked,
-  value-reads.Learnt,
-  particle-below t,
-  particle.Post,
-) (content-at t) content.Post
+content-same-length : (t : ℕ) → content-lts.Need-same-length (content-env t) (content-at t) content.Post
 content-same-length t c = search needs
 
-content-returns-2 : (t : ℕ) → content-lts.Need-returns-2 (
-  content-reads.Asked,
-  content-reads.Learnt,
-  value-reads.Asked,
-  value-reads.Learnt,
-  particle-below t,
-  particle.Post,
-) (content-at t) content.Post
+content-returns-2 : (t : ℕ) → content-lts.Need-returns-2 (content-env t) (content-at t) content.Post
 content-returns-2 t c = search (needs, content-ways)
 
-content-same-length-2 : (t : ℕ) → content-lts.Need-same-length-2 (
-  content-reads.Asked,
-  content-reads.Learnt,
-  value-reads.Asked,
-  value-reads.Learnt,
-  particle-below t,
-  particle.Post,
-) (content-at t) content.Post
+content-same-length-2 : (t : ℕ) → content-lts.Need-same-length-2 (content-env t) (content-at t) content.Post
 content-same-length-2 t c = search needs
 
-content-returns-3 : (t : ℕ) → content-lts.Need-returns-3 (
-  content-reads.Asked,
-  content-reads.Learnt,
-  value-reads.Asked,
-  value-reads.Learnt,
-  particle-below t,
-  particle.Post,
-) (content-at t) content.Post
+content-returns-3 : (t : ℕ) → content-lts.Need-returns-3 (content-env t) (content-at t) content.Post
 content-returns-3 t c = search (needs, content-ways)
 
-element-mul-word : (t : ℕ) → element-lts.Need-mul-word (
-  word-reads.Asked,
-  word-reads.Learnt,
-  flag-in-reads.Asked,
-  flag-in-reads.Learnt,
-  unlike-reads.Asked,
-  unlike-reads.Learnt,
-  held-reads.Asked,
-  held-reads.Learnt,
-  inside-below t,
-  inside.Post,
-  close-reads.Asked,
-  close-reads.Learnt,
-) (element-at t) element.Post
+element-mul-word : (t : ℕ) → element-lts.Need-mul-word (element-env t) (element-at t) element.Post
 element-mul-word t c = search (needs, element-ways)
 
-element-add-word : (t : ℕ) → element-lts.Need-add-word (
-  word-reads.Asked,
-  word-reads.Learnt,
-  flag-in-reads.Asked,
-  flag-in-reads.Learnt,
-  unlike-reads.Asked,
-  unlike-reads.Learnt,
-  held-reads.Asked,
-  held-reads.Learnt,
-  inside-below t,
-  inside.Post,
-  close-reads.Asked,
-  close-reads.Learnt,
-) (element-at t) element.Post
+element-add-word : (t : ℕ) → element-lts.Need-add-word (element-env t) (element-at t) element.Post
 element-add-word t c = search (needs, element-ways)
 
-element-word-requires : (t : ℕ) → element-lts.Need-word-requires (
-  word-reads.Asked,
-  word-reads.Learnt,
-  flag-in-reads.Asked,
-  flag-in-reads.Learnt,
-  unlike-reads.Asked,
-  unlike-reads.Learnt,
-  held-reads.Asked,
-  held-reads.Learnt,
-  inside-below t,
-  inside.Post,
-  close-reads.Asked,
-  close-reads.Learnt,
-) (element-at t) element.Post
+element-word-requires : (t : ℕ) → element-lts.Need-word-requires (element-env t) (element-at t) element.Post
 element-word-requires t c κs = search (needs, element-ways)
 
-element-flag-in-requires : (t : ℕ) → element-lts.Need-flag-in-requires (
-  word-reads.Asked,
-  word-reads.Learnt,
-  flag-in-reads.Asked,
-  flag-in-reads.Learnt,
-  unlike-reads.Asked,
-  unlike-reads.Learnt,
-  held-reads.Asked,
-  held-reads.Learnt,
-  inside-below t,
-  inside.Post,
-  close-reads.Asked,
-  close-reads.Learnt,
-) (element-at t) element.Post
+element-flag-in-requires : (t : ℕ) → element-lts.Need-flag-in-requires (element-env t) (element-at t) element.Post
 element-flag-in-requires t c κs = search (needs, element-ways)
 
-element-unlike-requires : (t : ℕ) → element-lts.Need-unlike-requires (
-  word-reads.Asked,
-  word-reads.Learnt,
-  flag-in-reads.Asked,
-  flag-in-reads.Learnt,
-  unlike-reads.Asked,
-  unlike-reads.Learnt,
-  held-reads.Asked,
-  held-reads.Learnt,
-  inside-below t,
-  inside.Post,
-  close-reads.Asked,
-  close-reads.Learnt,
-) (element-at t) element.Post
+element-unlike-requires : (t : ℕ) → element-lts.Need-unlike-requires (element-env t) (element-at t) element.Post
 element-unlike-requires t c κs = search (needs, element-ways)
 
-element-returns : (t : ℕ) → element-lts.Need-returns (
-  word-reads.Asked,
-  word-reads.Learnt,
-  flag-in-reads.Asked,
-  flag-in-reads.Learnt,
-  unlike-reads.Asked,
-  unlike-reads.Learnt,
-  held-reads.Asked,
-  held-reads.Learnt,
-  inside-below t,
-  inside.Post,
-  close-reads.Asked,
-  close-reads.Learnt,
-) (element-at t) element.Post
+element-returns : (t : ℕ) → element-lts.Need-returns (element-env t) (element-at t) element.Post
 element-returns t c = search (needs, element-ways)
 
-element-held-requires : (t : ℕ) → element-lts.Need-held-requires (
-  word-reads.Asked,
-  word-reads.Learnt,
-  flag-in-reads.Asked,
-  flag-in-reads.Learnt,
-  unlike-reads.Asked,
-  unlike-reads.Learnt,
-  held-reads.Asked,
-  held-reads.Learnt,
-  inside-below t,
-  inside.Post,
-  close-reads.Asked,
-  close-reads.Learnt,
-) (element-at t) element.Post
+element-held-requires : (t : ℕ) → element-lts.Need-held-requires (element-env t) (element-at t) element.Post
 element-held-requires t c κs = search (needs, element-ways)
 
-element-returns-2 : (t : ℕ) → element-lts.Need-returns-2 (
-  word-reads.Asked,
-  word-reads.Learnt,
-  flag-in-reads.Asked,
-  flag-in-reads.Learnt,
-  unlike-reads.Asked,
-  unlike-reads.Learnt,
-  held-reads.Asked,
-  held-reads.Learnt,
-  inside-below t,
-  inside.Post,
-  close-reads.Asked,
-  close-reads.Learnt,
-) (element-at t) element.Post
-element-returns-2 t c = search (element-unheld, c .before .before .before .before .before .before .before .before .before .before .pre .1 .0, c .before .before .before .before .before .word .ensures, c .before .before .before .before .flag-in .ensures, c .before .before .before .unlike .ensures, c .before .before .if1 .left, c .before .held .ensures, c .if2 .taken)
+element-returns-2 : (t : ℕ) → element-lts.Need-returns-2 (element-env t) (element-at t) element.Post
+element-returns-2 t c =
+    let at-held = c .before in
+    let at-if1 = at-held .before in
+    let at-unlike = at-if1 .before in
+    let at-flag-in = at-unlike .before in
+    let at-word = at-flag-in .before in
+    let entry = at-word .before .before .before .before .before in
+    search (element-unheld, entry .pre .1 .0, at-word .word .ensures, at-flag-in .flag-in .ensures, at-unlike .unlike .ensures, at-if1 .if1 .left, at-held .held .ensures, c .if2 .taken)
 
-element-add-t18 : (t : ℕ) → element-lts.Need-add-t18 (
-  word-reads.Asked,
-  word-reads.Learnt,
-  flag-in-reads.Asked,
-  flag-in-reads.Learnt,
-  unlike-reads.Asked,
-  unlike-reads.Learnt,
-  held-reads.Asked,
-  held-reads.Learnt,
-  inside-below t,
-  inside.Post,
-  close-reads.Asked,
-  close-reads.Learnt,
-) (element-at t) element.Post
+element-add-t18 : (t : ℕ) → element-lts.Need-add-t18 (element-env t) (element-at t) element.Post
 element-add-t18 t c = search (needs, element-ways)
 
-element-inside-requires : (t : ℕ) → element-lts.Need-inside-requires (
-  word-reads.Asked,
-  word-reads.Learnt,
-  flag-in-reads.Asked,
-  flag-in-reads.Learnt,
-  unlike-reads.Asked,
-  unlike-reads.Learnt,
-  held-reads.Asked,
-  held-reads.Learnt,
-  inside-below t,
-  inside.Post,
-  close-reads.Asked,
-  close-reads.Learnt,
-) (element-at t) element.Post
+element-inside-requires : (t : ℕ) → element-lts.Need-inside-requires (element-env t) (element-at t) element.Post
 element-inside-requires t c κs = search (needs, element-ways)
 
-element-enum-known-r : (t : ℕ) → element-lts.Need-enum-known-r (
-  word-reads.Asked,
-  word-reads.Learnt,
-  flag-in-reads.Asked,
-  flag-in-reads.Learnt,
-  unlike-reads.Asked,
-  unlike-reads.Learnt,
-  held-reads.Asked,
-  held-reads.Learnt,
-  inside-below t,
-  inside.Post,
-  close-reads.Asked,
-  close-reads.Learnt,
-) (element-at t) element.Post
+element-enum-known-r : (t : ℕ) → element-lts.Need-enum-known-r (element-env t) (element-at t) element.Post
 element-enum-known-r t c = search needs
 
-element-enum-told : (t : ℕ) → element-lts.Need-enum-told (
-  word-reads.Asked,
-  word-reads.Learnt,
-  flag-in-reads.Asked,
-  flag-in-reads.Learnt,
-  unlike-reads.Asked,
-  unlike-reads.Learnt,
-  held-reads.Asked,
-  held-reads.Learnt,
-  inside-below t,
-  inside.Post,
-  close-reads.Asked,
-  close-reads.Learnt,
-) (element-at t) element.Post
+element-enum-told : (t : ℕ) → element-lts.Need-enum-told (element-env t) (element-at t) element.Post
 element-enum-told t c = search needs
 
-element-same-length : (t : ℕ) → element-lts.Need-same-length (
-  word-reads.Asked,
-  word-reads.Learnt,
-  flag-in-reads.Asked,
-  flag-in-reads.Learnt,
-  unlike-reads.Asked,
-  unlike-reads.Learnt,
-  held-reads.Asked,
-  held-reads.Learnt,
-  inside-below t,
-  inside.Post,
-  close-reads.Asked,
-  close-reads.Learnt,
-) (element-at t) element.Post
+element-same-length : (t : ℕ) → element-lts.Need-same-length (element-env t) (element-at t) element.Post
 element-same-length t c = search needs
 
-element-returns-3 : (t : ℕ) → element-lts.Need-returns-3 (
-  word-reads.Asked,
-  word-reads.Learnt,
-  flag-in-reads.Asked,
-  flag-in-reads.Learnt,
-  unlike-reads.Asked,
-  unlike-reads.Learnt,
-  held-reads.Asked,
-  held-reads.Learnt,
-  inside-below t,
-  inside.Post,
-  close-reads.Asked,
-  close-reads.Learnt,
-) (element-at t) element.Post
-element-returns-3 t c = search (element-stop, c .before .before .before .before .before .before .before .before .before .before .before .before .before .before .before .before .pre .1 .0, c .before .before .before .before .before .before .before .before .before .before .before .word .ensures, c .before .before .before .before .before .before .before .before .before .before .flag-in .ensures, c .before .before .before .before .before .before .before .before .before .unlike .ensures, c .before .before .before .before .before .before .before .before .if1 .left, c .before .before .before .before .before .before .before .held .ensures, c .before .before .before .before .before .before .if2 .left, c .before .before .before .before .inside .ensures, c .enum-told .given .1)
+element-returns-3 : (t : ℕ) → element-lts.Need-returns-3 (element-env t) (element-at t) element.Post
+element-returns-3 t c =
+    let at-inside = c .before .before .before .before in
+    let at-if2 = at-inside .before .before in
+    let at-held = at-if2 .before in
+    let at-if1 = at-held .before in
+    let at-unlike = at-if1 .before in
+    let at-flag-in = at-unlike .before in
+    let at-word = at-flag-in .before in
+    let entry = at-word .before .before .before .before .before in
+    search (element-stop, entry .pre .1 .0, at-word .word .ensures, at-flag-in .flag-in .ensures, at-unlike .unlike .ensures, at-if1 .if1 .left, at-held .held .ensures, at-if2 .if2 .left, at-inside .inside .ensures, c .enum-told .given .1)
 
-element-close-requires : (t : ℕ) → element-lts.Need-close-requires (
-  word-reads.Asked,
-  word-reads.Learnt,
-  flag-in-reads.Asked,
-  flag-in-reads.Learnt,
-  unlike-reads.Asked,
-  unlike-reads.Learnt,
-  held-reads.Asked,
-  held-reads.Learnt,
-  inside-below t,
-  inside.Post,
-  close-reads.Asked,
-  close-reads.Learnt,
-) (element-at t) element.Post
-element-close-requires t c κs = (search (element-kept, c .before .before .before .before .before .before .inside .ensures, c .before .before .r .given .1, c .before .before .before .before .before .before .before .before .before .before .before .before .before .before .before .before .before .before .pre .1 .0), search (element-sealing, c .before .before .before .before .before .before .inside .ensures, c .before .before .r .given .1))
+element-close-requires : (t : ℕ) → element-lts.Need-close-requires (element-env t) (element-at t) element.Post
+element-close-requires t c κs =
+    let at-r = c .before .before in
+    let at-inside = at-r .before .before .before .before in
+    let entry = at-inside .before .before .before .before .before .before .before .before .before .before .before .before in
+    (search (element-kept, at-inside .inside .ensures, at-r .r .given .1, entry .pre .1 .0), search (element-sealing, at-inside .inside .ensures, at-r .r .given .1))
 
-element-same-length-2 : (t : ℕ) → element-lts.Need-same-length-2 (
-  word-reads.Asked,
-  word-reads.Learnt,
-  flag-in-reads.Asked,
-  flag-in-reads.Learnt,
-  unlike-reads.Asked,
-  unlike-reads.Learnt,
-  held-reads.Asked,
-  held-reads.Learnt,
-  inside-below t,
-  inside.Post,
-  close-reads.Asked,
-  close-reads.Learnt,
-) (element-at t) element.Post
+element-same-length-2 : (t : ℕ) → element-lts.Need-same-length-2 (element-env t) (element-at t) element.Post
 element-same-length-2 t c = search needs
 
-element-returns-4 : (t : ℕ) → element-lts.Need-returns-4 (
-  word-reads.Asked,
-  word-reads.Learnt,
-  flag-in-reads.Asked,
-  flag-in-reads.Learnt,
-  unlike-reads.Asked,
-  unlike-reads.Learnt,
-  held-reads.Asked,
-  held-reads.Learnt,
-  inside-below t,
-  inside.Post,
-  close-reads.Asked,
-  close-reads.Learnt,
-) (element-at t) element.Post
-element-returns-4 t c = search (element-go, c .before .before .before .before .before .before .before .before .before .before .before .before .before .before .before .before .before .before .before .before .before .pre .1 .0, c .before .before .before .before .before .before .before .before .before .before .before .before .before .before .before .before .word .ensures, c .before .before .before .before .before .before .before .before .before .before .before .before .before .before .before .flag-in .ensures, c .before .before .before .before .before .before .before .before .before .before .before .before .before .before .unlike .ensures, c .before .before .before .before .before .before .before .before .before .before .before .before .before .if1 .left, c .before .before .before .before .before .before .before .before .before .before .before .before .held .ensures, c .before .before .before .before .before .before .before .before .before .before .before .if2 .left, c .before .before .before .before .before .before .before .before .before .inside .ensures, c .before .before .before .before .before .r .given .1, c .before .before .close .ensures)
+element-returns-4 : (t : ℕ) → element-lts.Need-returns-4 (element-env t) (element-at t) element.Post
+element-returns-4 t c =
+    let at-close = c .before .before in
+    let at-r = at-close .before .before .before in
+    let at-inside = at-r .before .before .before .before in
+    let at-if2 = at-inside .before .before in
+    let at-held = at-if2 .before in
+    let at-if1 = at-held .before in
+    let at-unlike = at-if1 .before in
+    let at-flag-in = at-unlike .before in
+    let at-word = at-flag-in .before in
+    let entry = at-word .before .before .before .before .before in
+    search (element-go, entry .pre .1 .0, at-word .word .ensures, at-flag-in .flag-in .ensures, at-unlike .unlike .ensures, at-if1 .if1 .left, at-held .held .ensures, at-if2 .if2 .left, at-inside .inside .ensures, at-r .r .given .1, at-close .close .ensures)
 
-inside-span-requires : (t : ℕ) → inside-lts.Need-span-requires (
-  span-reads.Asked,
-  span-reads.Learnt,
-  all-reads.Asked,
-  all-reads.Learnt,
-  content-below t,
-  content.Post,
-) (inside-at t) inside.Post
+inside-span-requires : (t : ℕ) → inside-lts.Need-span-requires (inside-env t) (inside-at t) inside.Post
 inside-span-requires t c κs = search (needs, inside-ways)
 
-inside-all-requires : (t : ℕ) → inside-lts.Need-all-requires (
-  span-reads.Asked,
-  span-reads.Learnt,
-  all-reads.Asked,
-  all-reads.Learnt,
-  content-below t,
-  content.Post,
-) (inside-at t) inside.Post
+inside-all-requires : (t : ℕ) → inside-lts.Need-all-requires (inside-env t) (inside-at t) inside.Post
 inside-all-requires t c κs = search (needs, inside-ways)
 
-inside-enum-known-r : (t : ℕ) → inside-lts.Need-enum-known-r (
-  span-reads.Asked,
-  span-reads.Learnt,
-  all-reads.Asked,
-  all-reads.Learnt,
-  content-below t,
-  content.Post,
-) (inside-at t) inside.Post
+inside-enum-known-r : (t : ℕ) → inside-lts.Need-enum-known-r (inside-env t) (inside-at t) inside.Post
 inside-enum-known-r t c = search needs
 
-inside-enum-told : (t : ℕ) → inside-lts.Need-enum-told (
-  span-reads.Asked,
-  span-reads.Learnt,
-  all-reads.Asked,
-  all-reads.Learnt,
-  content-below t,
-  content.Post,
-) (inside-at t) inside.Post
+inside-enum-told : (t : ℕ) → inside-lts.Need-enum-told (inside-env t) (inside-at t) inside.Post
 inside-enum-told t c = search needs
 
-inside-same-length : (t : ℕ) → inside-lts.Need-same-length (
-  span-reads.Asked,
-  span-reads.Learnt,
-  all-reads.Asked,
-  all-reads.Learnt,
-  content-below t,
-  content.Post,
-) (inside-at t) inside.Post
+inside-same-length : (t : ℕ) → inside-lts.Need-same-length (inside-env t) (inside-at t) inside.Post
 inside-same-length t c = search needs
 
-inside-returns : (t : ℕ) → inside-lts.Need-returns (
-  span-reads.Asked,
-  span-reads.Learnt,
-  all-reads.Asked,
-  all-reads.Learnt,
-  content-below t,
-  content.Post,
-) (inside-at t) inside.Post
+inside-returns : (t : ℕ) → inside-lts.Need-returns (inside-env t) (inside-at t) inside.Post
 inside-returns t c = search (needs, inside-ways)
 
-inside-content-requires : (t : ℕ) → inside-lts.Need-content-requires (
-  span-reads.Asked,
-  span-reads.Learnt,
-  all-reads.Asked,
-  all-reads.Learnt,
-  content-below t,
-  content.Post,
-) (inside-at t) inside.Post
+inside-content-requires : (t : ℕ) → inside-lts.Need-content-requires (inside-env t) (inside-at t) inside.Post
 inside-content-requires t c κs = search (needs, inside-ways)
 
-inside-same-length-2 : (t : ℕ) → inside-lts.Need-same-length-2 (
-  span-reads.Asked,
-  span-reads.Learnt,
-  all-reads.Asked,
-  all-reads.Learnt,
-  content-below t,
-  content.Post,
-) (inside-at t) inside.Post
+inside-same-length-2 : (t : ℕ) → inside-lts.Need-same-length-2 (inside-env t) (inside-at t) inside.Post
 inside-same-length-2 t c = search needs
 
-inside-returns-2 : (t : ℕ) → inside-lts.Need-returns-2 (
-  span-reads.Asked,
-  span-reads.Learnt,
-  all-reads.Asked,
-  all-reads.Learnt,
-  content-below t,
-  content.Post,
-) (inside-at t) inside.Post
+inside-returns-2 : (t : ℕ) → inside-lts.Need-returns-2 (inside-env t) (inside-at t) inside.Post
 inside-returns-2 t c = search (needs, inside-ways)
 
-occur-mul-word : (t : ℕ) → occur-lts.Need-mul-word (
-  word-reads.Asked,
-  word-reads.Learnt,
-  count-reads.Asked,
-  count-reads.Learnt,
-  rounds-below t,
-  rounds.Post,
-) (occur-at t) occur.Post
+occur-mul-word : (t : ℕ) → occur-lts.Need-mul-word (occur-env t) (occur-at t) occur.Post
 occur-mul-word t c = search (needs, occur-ways)
 
-occur-add-word : (t : ℕ) → occur-lts.Need-add-word (
-  word-reads.Asked,
-  word-reads.Learnt,
-  count-reads.Asked,
-  count-reads.Learnt,
-  rounds-below t,
-  rounds.Post,
-) (occur-at t) occur.Post
+occur-add-word : (t : ℕ) → occur-lts.Need-add-word (occur-env t) (occur-at t) occur.Post
 occur-add-word t c = search (needs, occur-ways)
 
-occur-word-requires : (t : ℕ) → occur-lts.Need-word-requires (
-  word-reads.Asked,
-  word-reads.Learnt,
-  count-reads.Asked,
-  count-reads.Learnt,
-  rounds-below t,
-  rounds.Post,
-) (occur-at t) occur.Post
+occur-word-requires : (t : ℕ) → occur-lts.Need-word-requires (occur-env t) (occur-at t) occur.Post
 occur-word-requires t c κs = search (needs, occur-ways)
 
-occur-count-requires : (t : ℕ) → occur-lts.Need-count-requires (
-  word-reads.Asked,
-  word-reads.Learnt,
-  count-reads.Asked,
-  count-reads.Learnt,
-  rounds-below t,
-  rounds.Post,
-) (occur-at t) occur.Post
+occur-count-requires : (t : ℕ) → occur-lts.Need-count-requires (occur-env t) (occur-at t) occur.Post
 occur-count-requires t c κs = search (needs, occur-ways)
 
-occur-enum-known-r : (t : ℕ) → occur-lts.Need-enum-known-r (
-  word-reads.Asked,
-  word-reads.Learnt,
-  count-reads.Asked,
-  count-reads.Learnt,
-  rounds-below t,
-  rounds.Post,
-) (occur-at t) occur.Post
+occur-enum-known-r : (t : ℕ) → occur-lts.Need-enum-known-r (occur-env t) (occur-at t) occur.Post
 occur-enum-known-r t c = search needs
 
-occur-enum-told : (t : ℕ) → occur-lts.Need-enum-told (
-  word-reads.Asked,
-  word-reads.Learnt,
-  count-reads.Asked,
-  count-reads.Learnt,
-  rounds-below t,
-  rounds.Post,
-) (occur-at t) occur.Post
+occur-enum-told : (t : ℕ) → occur-lts.Need-enum-told (occur-env t) (occur-at t) occur.Post
 occur-enum-told t c = search needs
 
-occur-same-length : (t : ℕ) → occur-lts.Need-same-length (
-  word-reads.Asked,
-  word-reads.Learnt,
-  count-reads.Asked,
-  count-reads.Learnt,
-  rounds-below t,
-  rounds.Post,
-) (occur-at t) occur.Post
+occur-same-length : (t : ℕ) → occur-lts.Need-same-length (occur-env t) (occur-at t) occur.Post
 occur-same-length t c = search needs
 
-occur-returns : (t : ℕ) → occur-lts.Need-returns (
-  word-reads.Asked,
-  word-reads.Learnt,
-  count-reads.Asked,
-  count-reads.Learnt,
-  rounds-below t,
-  rounds.Post,
-) (occur-at t) occur.Post
+occur-returns : (t : ℕ) → occur-lts.Need-returns (occur-env t) (occur-at t) occur.Post
 occur-returns t c = search (needs, occur-ways)
 
-occur-rounds-requires : (t : ℕ) → occur-lts.Need-rounds-requires (
-  word-reads.Asked,
-  word-reads.Learnt,
-  count-reads.Asked,
-  count-reads.Learnt,
-  rounds-below t,
-  rounds.Post,
-) (occur-at t) occur.Post
+occur-rounds-requires : (t : ℕ) → occur-lts.Need-rounds-requires (occur-env t) (occur-at t) occur.Post
 occur-rounds-requires t c κs = search (needs, occur-ways)
 
-occur-same-length-2 : (t : ℕ) → occur-lts.Need-same-length-2 (
-  word-reads.Asked,
-  word-reads.Learnt,
-  count-reads.Asked,
-  count-reads.Learnt,
-  rounds-below t,
-  rounds.Post,
-) (occur-at t) occur.Post
+occur-same-length-2 : (t : ℕ) → occur-lts.Need-same-length-2 (occur-env t) (occur-at t) occur.Post
 occur-same-length-2 t c = search needs
 
-occur-returns-2 : (t : ℕ) → occur-lts.Need-returns-2 (
-  word-reads.Asked,
-  word-reads.Learnt,
-  count-reads.Asked,
-  count-reads.Learnt,
-  rounds-below t,
-  rounds.Post,
-) (occur-at t) occur.Post
+occur-returns-2 : (t : ℕ) → occur-lts.Need-returns-2 (occur-env t) (occur-at t) occur.Post
 occur-returns-2 t c = search (needs, occur-ways)
 
-particle-too-deep-requires : (t : ℕ) → particle-lts.Need-too-deep-requires (
-  too-deep-reads.Asked,
-  too-deep-reads.Learnt,
-  particle-reads.Asked,
-  particle-reads.Learnt,
-  element-below t,
-  element.Post,
-  rounds-below t,
-  rounds.Post,
-  choose-below t,
-  choose.Post,
-  occur-below t,
-  occur.Post,
-) (particle-at t) particle.Post
+particle-too-deep-requires : (t : ℕ) → particle-lts.Need-too-deep-requires (particle-env t) (particle-at t) particle.Post
 particle-too-deep-requires t c κs = search (needs, particle-ways)
 
-particle-returns : (t : ℕ) → particle-lts.Need-returns (
-  too-deep-reads.Asked,
-  too-deep-reads.Learnt,
-  particle-reads.Asked,
-  particle-reads.Learnt,
-  element-below t,
-  element.Post,
-  rounds-below t,
-  rounds.Post,
-  choose-below t,
-  choose.Post,
-  occur-below t,
-  occur.Post,
-) (particle-at t) particle.Post
+particle-returns : (t : ℕ) → particle-lts.Need-returns (particle-env t) (particle-at t) particle.Post
 particle-returns t c = search (needs, particle-ways)
 
-particle-sub-d : (t : ℕ) → particle-lts.Need-sub-d (
-  too-deep-reads.Asked,
-  too-deep-reads.Learnt,
-  particle-reads.Asked,
-  particle-reads.Learnt,
-  element-below t,
-  element.Post,
-  rounds-below t,
-  rounds.Post,
-  choose-below t,
-  choose.Post,
-  occur-below t,
-  occur.Post,
-) (particle-at t) particle.Post
+particle-sub-d : (t : ℕ) → particle-lts.Need-sub-d (particle-env t) (particle-at t) particle.Post
 particle-sub-d t c = search (needs, particle-ways)
 
-particle-particle-requires : (t : ℕ) → particle-lts.Need-particle-requires (
-  too-deep-reads.Asked,
-  too-deep-reads.Learnt,
-  particle-reads.Asked,
-  particle-reads.Learnt,
-  element-below t,
-  element.Post,
-  rounds-below t,
-  rounds.Post,
-  choose-below t,
-  choose.Post,
-  occur-below t,
-  occur.Post,
-) (particle-at t) particle.Post
+particle-particle-requires : (t : ℕ) → particle-lts.Need-particle-requires (particle-env t) (particle-at t) particle.Post
 particle-particle-requires t c κs = search (needs, particle-ways)
 
-particle-enum-known-name : (t : ℕ) → particle-lts.Need-enum-known-name (
-  too-deep-reads.Asked,
-  too-deep-reads.Learnt,
-  particle-reads.Asked,
-  particle-reads.Learnt,
-  element-below t,
-  element.Post,
-  rounds-below t,
-  rounds.Post,
-  choose-below t,
-  choose.Post,
-  occur-below t,
-  occur.Post,
-) (particle-at t) particle.Post
+particle-enum-known-name : (t : ℕ) → particle-lts.Need-enum-known-name (particle-env t) (particle-at t) particle.Post
 particle-enum-known-name t c = search needs
 
-particle-element-requires : (t : ℕ) → particle-lts.Need-element-requires (
-  too-deep-reads.Asked,
-  too-deep-reads.Learnt,
-  particle-reads.Asked,
-  particle-reads.Learnt,
-  element-below t,
-  element.Post,
-  rounds-below t,
-  rounds.Post,
-  choose-below t,
-  choose.Post,
-  occur-below t,
-  occur.Post,
-) (particle-at t) particle.Post
-particle-element-requires t c κs = (omega arith, (c .before .before .before .before .before .before .before .before .before .before .pre .1 .0, c .before .before .before .before .before .before .before .before .before .before .pre .1 .1, search (row-type, c .before .before .before .before .particle .ensures, c .before .before .before .before .before .before .before .before .before .before .pre .1 .1, c .before .before .before .before .before .before .before .before .before .before .pre .1 .2, c .before .before .name .given .1), omega arith))
+particle-element-requires : (t : ℕ) → particle-lts.Need-element-requires (particle-env t) (particle-at t) particle.Post
+particle-element-requires t c κs =
+    let at-name = c .before .before in
+    let at-particle = at-name .before .before in
+    let entry = at-particle .before .before .before .before .before .before in
+    (omega arith, (entry .pre .1 .0, entry .pre .1 .1, search (row-type, at-particle .particle .ensures, entry .pre .1 .1, entry .pre .1 .2, at-name .name .given .1), omega arith))
 
-particle-enum-known-first : (t : ℕ) → particle-lts.Need-enum-known-first (
-  too-deep-reads.Asked,
-  too-deep-reads.Learnt,
-  particle-reads.Asked,
-  particle-reads.Learnt,
-  element-below t,
-  element.Post,
-  rounds-below t,
-  rounds.Post,
-  choose-below t,
-  choose.Post,
-  occur-below t,
-  occur.Post,
-) (particle-at t) particle.Post
+particle-enum-known-first : (t : ℕ) → particle-lts.Need-enum-known-first (particle-env t) (particle-at t) particle.Post
 particle-enum-known-first t c = search needs
 
-particle-rounds-requires : (t : ℕ) → particle-lts.Need-rounds-requires (
-  too-deep-reads.Asked,
-  too-deep-reads.Learnt,
-  particle-reads.Asked,
-  particle-reads.Learnt,
-  element-below t,
-  element.Post,
-  rounds-below t,
-  rounds.Post,
-  choose-below t,
-  choose.Post,
-  occur-below t,
-  occur.Post,
-) (particle-at t) particle.Post
-particle-rounds-requires t c κs = (omega arith, (c .before .before .before .before .before .before .before .before .before .before .pre .1 .0, c .before .before .before .before .before .before .before .before .before .before .pre .1 .1, search (row-sequence, c .before .before .before .before .particle .ensures, c .before .before .before .before .before .before .before .before .before .before .pre .1 .1, c .before .before .before .before .before .before .before .before .before .before .pre .1 .2, c .before .before .first .given .1), omega arith))
+particle-rounds-requires : (t : ℕ) → particle-lts.Need-rounds-requires (particle-env t) (particle-at t) particle.Post
+particle-rounds-requires t c κs =
+    let at-first = c .before .before in
+    let at-particle = at-first .before .before in
+    let entry = at-particle .before .before .before .before .before .before in
+    (omega arith, (entry .pre .1 .0, entry .pre .1 .1, search (row-sequence, at-particle .particle .ensures, entry .pre .1 .1, entry .pre .1 .2, at-first .first .given .1), omega arith))
 
-particle-enum-known-first-2 : (t : ℕ) → particle-lts.Need-enum-known-first-2 (
-  too-deep-reads.Asked,
-  too-deep-reads.Learnt,
-  particle-reads.Asked,
-  particle-reads.Learnt,
-  element-below t,
-  element.Post,
-  rounds-below t,
-  rounds.Post,
-  choose-below t,
-  choose.Post,
-  occur-below t,
-  occur.Post,
-) (particle-at t) particle.Post
+particle-enum-known-first-2 : (t : ℕ) → particle-lts.Need-enum-known-first-2 (particle-env t) (particle-at t) particle.Post
 particle-enum-known-first-2 t c = search needs
 
-particle-choose-requires : (t : ℕ) → particle-lts.Need-choose-requires (
-  too-deep-reads.Asked,
-  too-deep-reads.Learnt,
-  particle-reads.Asked,
-  particle-reads.Learnt,
-  element-below t,
-  element.Post,
-  rounds-below t,
-  rounds.Post,
-  choose-below t,
-  choose.Post,
-  occur-below t,
-  occur.Post,
-) (particle-at t) particle.Post
-particle-choose-requires t c κs = (omega arith, (c .before .before .before .before .before .before .before .before .before .before .pre .1 .0, c .before .before .before .before .before .before .before .before .before .before .pre .1 .1, search (row-choice, c .before .before .before .before .particle .ensures, c .before .before .before .before .before .before .before .before .before .before .pre .1 .1, c .before .before .before .before .before .before .before .before .before .before .pre .1 .2, c .before .before .first2 .given .1), omega arith))
+particle-choose-requires : (t : ℕ) → particle-lts.Need-choose-requires (particle-env t) (particle-at t) particle.Post
+particle-choose-requires t c κs =
+    let at-first2 = c .before .before in
+    let at-particle = at-first2 .before .before in
+    let entry = at-particle .before .before .before .before .before .before in
+    (omega arith, (entry .pre .1 .0, entry .pre .1 .1, search (row-choice, at-particle .particle .ensures, entry .pre .1 .1, entry .pre .1 .2, at-first2 .first2 .given .1), omega arith))
 
-particle-enum-known-child : (t : ℕ) → particle-lts.Need-enum-known-child (
-  too-deep-reads.Asked,
-  too-deep-reads.Learnt,
-  particle-reads.Asked,
-  particle-reads.Learnt,
-  element-below t,
-  element.Post,
-  rounds-below t,
-  rounds.Post,
-  choose-below t,
-  choose.Post,
-  occur-below t,
-  occur.Post,
-) (particle-at t) particle.Post
+particle-enum-known-child : (t : ℕ) → particle-lts.Need-enum-known-child (particle-env t) (particle-at t) particle.Post
 particle-enum-known-child t c = search needs
 
-particle-occur-requires : (t : ℕ) → particle-lts.Need-occur-requires (
-  too-deep-reads.Asked,
-  too-deep-reads.Learnt,
-  particle-reads.Asked,
-  particle-reads.Learnt,
-  element-below t,
-  element.Post,
-  rounds-below t,
-  rounds.Post,
-  choose-below t,
-  choose.Post,
-  occur-below t,
-  occur.Post,
-) (particle-at t) particle.Post
-particle-occur-requires t c κs = (omega arith, (c .before .before .before .before .before .before .before .before .before .before .pre .1 .0, c .before .before .before .before .before .before .before .before .before .before .pre .1 .1, search (row-child, c .before .before .before .before .particle .ensures, c .before .before .before .before .before .before .before .before .before .before .pre .1 .1, c .before .before .before .before .before .before .before .before .before .before .pre .1 .2, c .before .before .child .given .1), omega arith))
+particle-occur-requires : (t : ℕ) → particle-lts.Need-occur-requires (particle-env t) (particle-at t) particle.Post
+particle-occur-requires t c κs =
+    let at-child = c .before .before in
+    let at-particle = at-child .before .before in
+    let entry = at-particle .before .before .before .before .before .before in
+    (omega arith, (entry .pre .1 .0, entry .pre .1 .1, search (row-child, at-particle .particle .ensures, entry .pre .1 .1, entry .pre .1 .2, at-child .child .given .1), omega arith))
 
-particle-same-length : (t : ℕ) → particle-lts.Need-same-length (
-  too-deep-reads.Asked,
-  too-deep-reads.Learnt,
-  particle-reads.Asked,
-  particle-reads.Learnt,
-  element-below t,
-  element.Post,
-  rounds-below t,
-  rounds.Post,
-  choose-below t,
-  choose.Post,
-  occur-below t,
-  occur.Post,
-) (particle-at t) particle.Post
+particle-same-length : (t : ℕ) → particle-lts.Need-same-length (particle-env t) (particle-at t) particle.Post
 particle-same-length t c = search needs
 
-particle-returns-2 : (t : ℕ) → particle-lts.Need-returns-2 (
-  too-deep-reads.Asked,
-  too-deep-reads.Learnt,
-  particle-reads.Asked,
-  particle-reads.Learnt,
-  element-below t,
-  element.Post,
-  rounds-below t,
-  rounds.Post,
-  choose-below t,
-  choose.Post,
-  occur-below t,
-  occur.Post,
-) (particle-at t) particle.Post
+particle-returns-2 : (t : ℕ) → particle-lts.Need-returns-2 (particle-env t) (particle-at t) particle.Post
 particle-returns-2 t c = search (needs, particle-ways)
 
-particle-same-length-2 : (t : ℕ) → particle-lts.Need-same-length-2 (
-  too-deep-reads.Asked,
-  too-deep-reads.Learnt,
-  particle-reads.Asked,
-  particle-reads.Learnt,
-  element-below t,
-  element.Post,
-  rounds-below t,
-  rounds.Post,
-  choose-below t,
-  choose.Post,
-  occur-below t,
-  occur.Post,
-) (particle-at t) particle.Post
+particle-same-length-2 : (t : ℕ) → particle-lts.Need-same-length-2 (particle-env t) (particle-at t) particle.Post
 particle-same-length-2 t c = search needs
 
-particle-returns-3 : (t : ℕ) → particle-lts.Need-returns-3 (
-  too-deep-reads.Asked,
-  too-deep-reads.Learnt,
-  particle-reads.Asked,
-  particle-reads.Learnt,
-  element-below t,
-  element.Post,
-  rounds-below t,
-  rounds.Post,
-  choose-below t,
-  choose.Post,
-  occur-below t,
-  occur.Post,
-) (particle-at t) particle.Post
+particle-returns-3 : (t : ℕ) → particle-lts.Need-returns-3 (particle-env t) (particle-at t) particle.Post
 particle-returns-3 t c = search (needs, particle-ways)
 
-particle-same-length-3 : (t : ℕ) → particle-lts.Need-same-length-3 (
-  too-deep-reads.Asked,
-  too-deep-reads.Learnt,
-  particle-reads.Asked,
-  particle-reads.Learnt,
-  element-below t,
-  element.Post,
-  rounds-below t,
-  rounds.Post,
-  choose-below t,
-  choose.Post,
-  occur-below t,
-  occur.Post,
-) (particle-at t) particle.Post
+particle-same-length-3 : (t : ℕ) → particle-lts.Need-same-length-3 (particle-env t) (particle-at t) particle.Post
 particle-same-length-3 t c = search needs
 
-particle-returns-4 : (t : ℕ) → particle-lts.Need-returns-4 (
-  too-deep-reads.Asked,
-  too-deep-reads.Learnt,
-  particle-reads.Asked,
-  particle-reads.Learnt,
-  element-below t,
-  element.Post,
-  rounds-below t,
-  rounds.Post,
-  choose-below t,
-  choose.Post,
-  occur-below t,
-  occur.Post,
-) (particle-at t) particle.Post
+particle-returns-4 : (t : ℕ) → particle-lts.Need-returns-4 (particle-env t) (particle-at t) particle.Post
 particle-returns-4 t c = search (needs, particle-ways)
 
-particle-same-length-4 : (t : ℕ) → particle-lts.Need-same-length-4 (
-  too-deep-reads.Asked,
-  too-deep-reads.Learnt,
-  particle-reads.Asked,
-  particle-reads.Learnt,
-  element-below t,
-  element.Post,
-  rounds-below t,
-  rounds.Post,
-  choose-below t,
-  choose.Post,
-  occur-below t,
-  occur.Post,
-) (particle-at t) particle.Post
+particle-same-length-4 : (t : ℕ) → particle-lts.Need-same-length-4 (particle-env t) (particle-at t) particle.Post
 particle-same-length-4 t c = search needs
 
-particle-returns-5 : (t : ℕ) → particle-lts.Need-returns-5 (
-  too-deep-reads.Asked,
-  too-deep-reads.Learnt,
-  particle-reads.Asked,
-  particle-reads.Learnt,
-  element-below t,
-  element.Post,
-  rounds-below t,
-  rounds.Post,
-  choose-below t,
-  choose.Post,
-  occur-below t,
-  occur.Post,
-) (particle-at t) particle.Post
+particle-returns-5 : (t : ℕ) → particle-lts.Need-returns-5 (particle-env t) (particle-at t) particle.Post
 particle-returns-5 t c = search (needs, particle-ways)
 
 abbrev rounds-Inv-loop : rounds-lts.InvT-loop
@@ -1154,10 +440,7 @@ rounds-loop-holds :
     rounds-μ-loop
 rounds-loop-holds t c = search (needs, rounds-ways)
 
-rounds-particle-requires : (t : ℕ) → rounds-lts.Need-particle-requires (
-  particle-below t,
-  particle.Post,
-) (rounds-at t) rounds.Post rounds-Inv-loop rounds-μ-loop
+rounds-particle-requires : (t : ℕ) → rounds-lts.Need-particle-requires (rounds-env t) (rounds-at t) rounds.Post rounds-Inv-loop rounds-μ-loop
 rounds-particle-requires t c κs = search (needs, rounds-ways)
 
 rounds-enum-known-r :
