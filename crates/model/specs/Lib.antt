@@ -45,8 +45,6 @@ pub mod Own
 pub mod EntryWays
 pub mod Buffers
 pub mod Flat
-pub mod ReadWays
-pub mod WriteWays
 pub mod Demand3Lists
 pub mod NamedReading
 pub mod NamedWriting
