@@ -4,9 +4,8 @@ use mathlib.Core.Path.{_≡_, refl}
 use mathlib.Core.Bool.{Bool, true, false}
 use mathlib.Core.List.{List, []}
 use native.Mathlib.Omega.{arith}
-use lib.Dec.{ltb}
 use lib.ListN.{length, length-append}
-use Rattle.wire.specs.Res.{got, fault}
+use Rattle.wire.specs.Res.{got}
 use Rattle.model.specs.Model.{event, Nodes, Path, Plan}
 use Rattle.model.specs.Model.Plan.{element}
 use Rattle.model.specs.Model.Nodes.{none, leaf, node}
@@ -15,7 +14,7 @@ use Rattle.model.specs.Items.{Mode, Length, long, HeadIs, no-head, Head,
 use Rattle.model.specs.ItemLaws.{same-type}
 use Rattle.model.specs.Grammar.{opens, Is, nothing, an-item, an-element, a-blank}
 use Rattle.model.specs.Plain.{Plain, item-plain}
-use Rattle.model.specs.Read.{Room, code, stored, Into, entered, mark, bare, sized, opened, elementAt}
+use Rattle.model.specs.Read.{Room, code, stored, Into, bare, sized, opened, elementAt}
 
 -- every Blank of a tree is of a type that is not held, and every element that was opened is of one that is
 abbrev pub Exact : (ℕ → Bool) → Nodes → Type 0
@@ -58,17 +57,3 @@ module _ (b : ℕ → ℕ) (mode : Mode) (held : ℕ → Bool) (f : Into) (name 
   pub nine-where : (t body : ℕ) → headAt mode b type wall at ≡ got (Head.bare t body) → held t ≡ false → elementAt b mode held f name type r π wall at ≡ refused 9 at π
   unfolding elementAt code opened bare
   nine-where t body e z = rw (e, z)
-
-  pub opened-sized : (t body end : ℕ) → headAt mode b type wall at ≡ got (Head.sized t body end) → held t ≡ true
-      → elementAt b mode held f name type r π wall at ≡ entered (ltb 0 (r .slots)) f (mark name t true at body) r π end body
-  unfolding elementAt code opened sized
-  opened-sized t body end e z = rw (e, z)
-
-  pub opened-bare : (t body : ℕ) → headAt mode b type wall at ≡ got (Head.bare t body) → held t ≡ true
-      → elementAt b mode held f name type r π wall at ≡ entered (ltb 0 (r .slots)) f (mark name t false at body) r π wall body
-  unfolding elementAt code opened bare
-  opened-bare t body e z = rw (e, z)
-
-  pub head-fault : (n : ℕ) → headAt mode b type wall at ≡ fault n → elementAt b mode held f name type r π wall at ≡ refused n at π
-  unfolding elementAt code
-  head-fault n e = rw e

@@ -1,16 +1,15 @@
--- The laws of items and heads: what is read is so, what is so is read with its exact bits, no bit past the wall is looked at, and each
--- follows from the same law of its codes.
-use Prim.Native.Nat.{ℕ, zero, suc, _+_, _-_, _<_, _≤_}
+-- The laws of items and heads: what is read is so, what is so is read with its exact bits, and each follows from the same law of its codes.
+use Prim.Native.Nat.{ℕ, zero, suc, _+_, _-_, _≤_}
 use mathlib.Core.Path.{_≡_, refl}
 use mathlib.Core.List.{List, [], _++_}
 use native.Mathlib.Omega.{arith}
 use lib.ListN.{length-append}
 use Rattle.wire.specs.Res.{got, Ensures, gives, bind, under, then, under-then}
-use Rattle.wire.specs.BitLaws.{At, at-none, at-both, at-left, at-right, at-same}
-use Rattle.wire.specs.Lawful.{Binary, bind-same}
+use Rattle.wire.specs.BitLaws.{At, at-none, at-both, at-left, at-right}
+use Rattle.wire.specs.Lawful.{Binary}
 use Rattle.value.specs.Code.{Fits, bitsOf}
 use Rattle.value.specs.CodeLaws.{code-lawful}
-use Rattle.value.specs.SimpleLaws.{simple-found, simple-reads, simple-below}
+use Rattle.value.specs.SimpleLaws.{simple-found, simple-reads}
 use Rattle.model.specs.Model.{Item}
 use Rattle.model.specs.Items.{Mode, never, optional, always, flag, lengths, Form, present, simply, formOf, FormIs, is-present, is-simple, ItemIs, Length, free, long, Measures, HeadIs, no-head, flag-off, flag-on, head-on, formAt, itemAt, Head, lengthAt, headAt}
 
@@ -116,31 +115,3 @@ module _ (b : ℕ → ℕ) where
       then _ (code-lawful flag .reads b wall at 1 _ flag-one (at-left (bitsOf flag 1) (bitsOf lengths n) f) (omega arith))
       (length-reads t n wall _ p h (at-right (bitsOf flag 1) (bitsOf lengths n) f) l)
   head-reads wall {at} {p} (head-on {t} {n} h) f k l = length-reads t n wall at p h f l
-
--- no bit at the wall or past it is looked at, whatever the answer
-module _ (b c : ℕ → ℕ) (wall : ℕ) (s : (i : ℕ) → i < wall → b i ≡ c i) where
-  pub item-below : (i : Item) (at : ℕ) → itemAt i b wall at ≡ itemAt i c wall at
-  unfolding itemAt formAt
-  item-below i at = go (formOf i)
-    where
-      go : (f : Form) → formAt f b wall at ≡ formAt f c wall at
-      go present = refl
-      go (simply d) = simple-below b c d wall at s
-
-  length-below : (f t at : ℕ) → lengthAt f b t wall at ≡ lengthAt f c t wall at
-  unfolding lengthAt
-  length-below zero t at = refl
-  length-below (suc k) t at = bind-same _ _ _ _ (code-lawful lengths .below b c wall at s) λ r e. refl
-
-  pub head-below : (mode : Mode) (t at : ℕ) → headAt mode b t wall at ≡ headAt mode c t wall at
-  unfolding headAt
-  head-below never t at = refl
-  head-below optional t at = bind-same _ _ _ _ (code-lawful flag .below b c wall at s) λ r e. length-below (r .0) t (r .1)
-  head-below always t at = length-below 1 t at
-
--- an accepted item looks at no bit past the place it ends at, and at no wall past that
-pub item-extends : (b c : ℕ → ℕ) → Binary b → (i : Item) (wall wall′ at v : ℕ) (ts : List ℕ) (q : ℕ) → itemAt i b wall at ≡ got (v, ts, q)
-    → ((j : ℕ) → at ≤ j → j < q → c j ≡ b j) → q ≤ wall′ → itemAt i c wall′ at ≡ got (v, ts, q)
-item-extends b c bit i wall wall′ at v ts q e h k =
-    let f = item-found b bit i wall at .says (v, ts, q) e in
-    item-reads c i (f .is) (at-same h (f .stands)) k

@@ -8,6 +8,8 @@ pub mod Whole
 pub mod Example
 pub mod ItemLaws
 pub mod Trees
+pub mod Reads
+pub mod Fit
 pub mod Sound
 pub mod Less
 pub mod Walk
@@ -15,11 +17,11 @@ pub mod Sums
 pub mod Complete
 pub mod Join
 pub mod Steps
-pub mod Fit
 pub mod One
 pub mod Plain
 pub mod Lists
 pub mod ItemOut
+pub mod Named
 pub mod OutLaws
 pub mod WriteSound
 pub mod WriteComplete
@@ -27,6 +29,7 @@ pub mod WriteSteps
 pub mod PackLaws
 pub mod Payload
 pub mod Entries
+pub mod Replies
 pub mod Demand2
 pub mod Open
 pub mod Follow
@@ -43,9 +46,6 @@ pub mod UnseenPayload
 pub mod Own
 pub mod EntryWays
 pub mod Buffers
-pub mod ReadWays
-pub mod WriteWays
 pub mod Demand3Lists
-pub mod Named
 pub mod NamedReading
 pub mod NamedWriting

@@ -1,17 +1,20 @@
--- A REFUSAL HAS A NUMBER, from 1 on: of the codes on the wire. NamedReading and NamedWriting say it of the entries.
+-- A REFUSAL HAS A NUMBER, from 1 on: of the codes, read and written. NamedReading and NamedWriting say it of the entries.
 use Prim.Native.Nat.{ℕ, zero, suc, _+_, _*_, _≤_}
 use mathlib.Core.Bool.{Bool, true, false, cond}
 use native.Mathlib.Omega.{arith}
 use lib.Dec.{leb, ltb, eqb}
+use mathlib.Core.List.{List}
+use lib.ListN.{length, take}
 use Rattle.wire.specs.Res.{Res, got, fault, _>>=_, _>>_, guard, atMost}
 use Rattle.wire.specs.Bits.{fixedAt}
 use Rattle.wire.specs.Width.{width}
 use Rattle.wire.specs.Number.{onesAt, groupsAt, number5, strict, read5}
 use Rattle.utf8.specs.Text.{textFault}
-use Rattle.value.specs.Code.{Code, choice, five, signed, some, shifted, choiceAt, numberAt, signedOf, someOf, codeAt}
+use Rattle.value.specs.Code.{Code, choice, five, signed, some, shifted, choiceAt, numberAt, signedOf, someOf, codeAt, fits, codeOut}
 use Rattle.value.specs.Simple.{Simple, plain, text, count, bytesAt, unless, textOf, simpleAt}
 use Rattle.model.specs.Model.{Item}
 use Rattle.model.specs.Items.{Mode, flag, lengths, Form, present, simply, formOf, formAt, itemAt, lengthAt, headAt}
+use Rattle.model.specs.Write.{simpleOut, formOut, itemOut}
 
 abbrev pub Named : {A : Type 0} → Res A → Type 0
 Named (got a) = Unit
@@ -108,3 +111,23 @@ module _ (b : ℕ → ℕ) (wall : ℕ) where
   head-named Mode.never type at = tt
   head-named Mode.optional type at = named-bind (codeAt flag b wall at) _ (code-named flag at) (λ r. length-named (r .0) type (r .1))
   head-named Mode.always type at = length-named 1 type at
+
+-- the codes of the writing
+code-out-named : (c : Code) (v : ℕ) → Named (codeOut c v)
+unfolding codeOut
+code-out-named c v = named-guard (fits c v) 20 _ (omega arith) tt
+
+simple-out-named : (s : Simple) (v : ℕ) (T : List ℕ) → Named (simpleOut s v T)
+unfolding simpleOut
+simple-out-named (plain c) v T = named-bind (codeOut c v) _ (code-out-named c v) (λ w. tt)
+simple-out-named text v T =
+    named-bind (codeOut count v) _ (code-out-named count v) (λ w. named-most v (length T) 23 _ (omega arith) (named-unless (textFault (take v T)) _ tt))
+
+form-out-named : (f : Form) (v : ℕ) (T : List ℕ) → Named (formOut f v T)
+unfolding formOut
+form-out-named present v T = tt
+form-out-named (simply s) v T = simple-out-named s v T
+
+pub item-out-named : (i : Item) (v : ℕ) (T : List ℕ) → Named (itemOut i v T)
+unfolding itemOut
+item-out-named i v T = form-out-named (formOf i) v T

@@ -1,5 +1,6 @@
--- What is said of a writing by the shape of the program that makes it, both ways: what was written is so; what is so is written.
-use Prim.Native.Nat.{ℕ, zero, suc}
+-- What is said of a writing by the shape of the program that makes it, both ways: what was written is so, and a refusal has a number; what is so is
+-- written.
+use Prim.Native.Nat.{ℕ, zero, suc, _≤_}
 use mathlib.Core.Path.{_≡_, refl, sym, ap, _∙_}
 use mathlib.Core.Bool.{Bool, true, false, cond}
 use mathlib.Core.List.{List, [], _∷_, _++_, append-assoc, append-nil}
@@ -11,10 +12,12 @@ use Rattle.wire.specs.Res.{Res, got, fault, Ensures}
 use Rattle.model.specs.Model.{end}
 use Rattle.model.specs.Items.{Mode}
 use Rattle.model.specs.Write.{Bare, bare, Out, wrote, refused, put, along, unlike, matched, taken, asEnd, coded, lengthOf, headOut, sealed, allowed}
+use Rattle.model.specs.Named.{Named}
 
--- what is written is so
+-- what is written is so, and what is refused has a number
 pub record Says (Q : List ℕ → List Bare → List ℕ → Type 0) (o : Out) : Type 0 where
   pub says : (w : List ℕ) (M : List Bare) (T : List ℕ) → o ≡ wrote w M T → Q w M T
+  pub numbered : (n i : ℕ) → o ≡ refused n i → 1 ≤ n
 
 module _ {Q : List ℕ → List Bare → List ℕ → Type 0} where
   pub gives : {w : List ℕ} {M : List Bare} {T : List ℕ} → Q w M T → Says Q (wrote w M T)
@@ -24,10 +27,11 @@ module _ {Q : List ℕ → List Bare → List ℕ → Type 0} where
         let c : M ≡ N = cc in
         let d : T ≡ U = cc in
         rw (← a, ← c, ← d) h;
+    numbered = λ n i e. absurd (let z : _≡_ {A = ℕ} 0 1 = cc in omega arith);
   }
 
-  pub stops : {n i : ℕ} → Says Q (refused n i)
-  stops = record { says = λ x N U e. absurd (let z : _≡_ {A = ℕ} 0 1 = cc in omega arith) }
+  pub stops : {n i : ℕ} → 1 ≤ n → Says Q (refused n i)
+  stops {n} h = record { says = λ x N U e. absurd (let z : _≡_ {A = ℕ} 0 1 = cc in omega arith); numbered = λ m j e. let z : n ≡ m = cc in omega arith }
 
 pub unlike-none : (f e : Bare) → unlike f e ≡ 0 → f ≡ e
 unfolding unlike
@@ -55,40 +59,40 @@ unlike-same f e h = rw (h, eq-eqb (e .kind) (e .kind) refl, eq-eqb (e .p) (e .p)
 module _ {Q : List ℕ → List Bare → List ℕ → Type 0} where
   pub taken-says : (f : Bare → Bare) (M : List Bare) (k : Bare → List Bare → Out) → ((e : Bare) (N : List Bare) → M ≡ e ∷ N → f e ≡ e → Says Q (k e N)) → Says Q (taken f M k)
   unfolding taken matched
-  taken-says f [] k g = stops
+  taken-says f [] k g = stops (omega arith)
   taken-says f (e ∷ M) k g = go (unlike (f e) e) refl
     where
       go : (n : ℕ) → unlike (f e) e ≡ n → Says Q (matched n (suc (length M)) (k e M))
       go zero x = g e M refl (unlike-none (f e) e x)
-      go (suc n) x = stops
+      go (suc n) x = stops (omega arith)
 
-  pub coded-says : {A : Type 0} {P : A → Type 0} (c : Res A) (i : ℕ) (k : A → Out) → Ensures c P → ((a : A) → P a → Says Q (k a)) → Says Q (coded c i k)
+  pub coded-says : {A : Type 0} {P : A → Type 0} (c : Res A) (i : ℕ) (k : A → Out) → Ensures c P → Named c → ((a : A) → P a → Says Q (k a)) → Says Q (coded c i k)
   unfolding coded
-  coded-says (got a) i k h g = g a (h .says a refl)
-  coded-says (fault n) i k h g = stops
+  coded-says (got a) i k h y g = g a (h .says a refl)
+  coded-says (fault n) i k h y g = stops y
 
   pub put-says : (w : List ℕ) (o : Out) → Says (λ x N U. Q (w ++ x) N U) o → Says Q (put w o)
   unfolding put
   put-says w (wrote x N U) h = gives (h .says x N U refl)
-  put-says w (refused n i) h = stops
+  put-says w (refused n i) h = stops (h .numbered n i refl)
 
   pub along-says : (o : Out) (k : List Bare → List ℕ → Out) → Says (λ w M T. Says (λ x N U. Q (w ++ x) N U) (k M T)) o → Says Q (along o k)
   unfolding along
   along-says (wrote w M T) k h = put-says w (k M T) (h .says w M T refl)
-  along-says (refused n i) k h = stops
+  along-says (refused n i) k h = stops (h .numbered n i refl)
 
   pub allowed-says : (t : Bool) (i : ℕ) (o : Out) → (t ≡ true → Says Q o) → Says Q (allowed t i o)
   unfolding allowed
   allowed-says true i o h = h refl
-  allowed-says false i o h = stops
+  allowed-says false i o h = stops (omega arith)
 
   pub sealed-says : (mode : Mode) (q : ℕ) (o : Out) → Says (λ w M T. (N : List Bare) → M ≡ bare end ∷ N → Q (headOut mode (lengthOf q (length w)) ++ w) N T) o → Says Q (sealed mode q o)
   unfolding sealed
   sealed-says mode q (wrote w M T) h = taken-says asEnd M _ λ e N m f. gives (h .says w M T refl N (m ∙ ap (λ (x : Bare). x ∷ N) (sym f)))
-  sealed-says mode q (refused n i) h = stops
+  sealed-says mode q (refused n i) h = stops (h .numbered n i refl)
 
 pub says-more : {Q R : List ℕ → List Bare → List ℕ → Type 0} (o : Out) → ((w : List ℕ) (M : List Bare) (T : List ℕ) → Q w M T → R w M T) → Says Q o → Says R o
-says-more o f h = record { says = λ w M T e. f w M T (h .says w M T e) }
+says-more o f h = record { says = λ w M T e. f w M T (h .says w M T e); numbered = h .numbered }
 
 -- what is so is written
 pub taken-then : (f : Bare → Bare) (e : Bare) (M : List Bare) (k : Bare → List Bare → Out) {o : Out} → f e ≡ e → k e M ≡ o → taken f (e ∷ M) k ≡ o

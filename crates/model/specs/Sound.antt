@@ -5,21 +5,22 @@ use mathlib.Core.Path.{_≡_, refl, sym, _∙_}
 use mathlib.Core.Bool.{Bool, true, false}
 use mathlib.Core.List.{List, [], _∷_, _++_, append-assoc}
 use native.Mathlib.Omega.{arith}
-use borrow.Author.Tests.{leb-true, ltb-true, eqb-true}
-use lib.Dec.{ltb, leb}
+use borrow.Author.Tests.{eqb-true}
 use lib.ListN.{length}
-use Rattle.wire.specs.Res.{Res, got, fault, Ensures}
+use Rattle.wire.specs.Res.{got}
 use Rattle.wire.specs.BitLaws.{At, at-none, at-both}
 use Rattle.wire.specs.Lawful.{Binary}
-use Rattle.model.specs.Model.{Event, Plan, Nodes, Path, Answer, slotsOf, bytesOf, _then_}
-use Rattle.model.specs.Model.Plan.{done, deep, item, element}
-use Rattle.model.specs.Model.Nodes.{none, leaf}
+use Rattle.model.specs.Model.{event, Plan, Nodes, Path, Answer, slotsOf, bytesOf, _then_}
+use Rattle.model.specs.Model.Plan.{done, element}
+use Rattle.model.specs.Model.Nodes.{none, leaf, node}
 use Rattle.model.specs.Model.Answer.{given, refused}
-use Rattle.model.specs.Items.{Mode, Length, free, long, coded, Measures, Head}
-use Rattle.model.specs.ItemLaws.{FoundHead, FindsHead, item-found, head-found}
-use Rattle.model.specs.Trees.{slots-then, bytes-then}
-use Rattle.model.specs.Grammar.{Bits, Is, nothing, an-item, an-element, a-blank}
-use Rattle.model.specs.Read.{Room, less, lessOne, onto, after, code, kept, stored, met, ended, closed, Into, entered, mark, bare, sized, opened, elementAt, read}
+use Rattle.model.specs.Items.{Mode, Length, free, long, coded, Measures, headAt}
+use Rattle.model.specs.ItemLaws.{FoundHead, headOf, stopOf, item-found, head-found}
+use Rattle.model.specs.Grammar as grammar
+use Rattle.model.specs.Grammar.{Bits, Is}
+use Rattle.model.specs.Read.{Room, mark, met, read}
+use Rattle.model.specs.Reads.{Extent, one, all, Goes, an-item, an-element, a-blank, nothing, more, Refuses, here, inside, unmet, no-end, later, read-by}
+use Rattle.model.specs.Fit.{goes-fits}
 
 -- the path ρ is π with more elements open inside
 pub record Extends (π ρ : Path) : Type 0 where
@@ -45,9 +46,6 @@ abbrev pub Finds : (ℕ → ℕ) → (Nodes → List ℕ → Type 0) → Room �
 Finds b R r π wall at (given ns q) = Found b R r wall at ns q
 Finds b R r π wall at (refused n p ρ) = Extends π ρ × (at ≤ p) × (p ≤ wall)
 
-stop : (π : Path) (wall at : ℕ) → at ≤ wall → Extends π π × (at ≤ at) × (at ≤ wall)
-stop π wall at h = (extends-same π, omega arith, h)
-
 -- the n bits from at
 pub slice : (ℕ → ℕ) → ℕ → ℕ → List ℕ
 slice b at zero = []
@@ -56,147 +54,125 @@ slice b at (suc n) = b at ∷ slice b (at + 1) n
 pub slice-at : (b : ℕ → ℕ) (at n : ℕ) → At b at (slice b at n) (at + n)
 unfolding slice
 slice-at b at zero = record { there = tt; next = omega arith }
-slice-at b at (suc n) = let r = slice-at b (at + 1) n in let e = r .next in record { there = (refl, r .there); next = omega arith }
+slice-at b at (suc n) =
+    let r = slice-at b (at + 1) n in let e = r .next in record { there = (refl, r .there); next = omega arith }
 
 pub slice-bits : (b : ℕ → ℕ) → Binary b → (at n : ℕ) → Bits (slice b at n)
 unfolding slice
 slice-bits b bit at zero = tt
 slice-bits b bit at (suc n) = (bit at, slice-bits b bit (at + 1) n)
 
-module _ (b : ℕ → ℕ) (mode : Mode) (held : ℕ → Bool) where
-  -- the first part of P, after which Q is left
-  abbrev Leaves : Plan → Plan → ℕ → Nodes → List ℕ → Type 0
-  Leaves P Q at ns w = (ms : Nodes) (x : List ℕ) → Is mode held Q (at + length w) ms x → Is mode held P at (ns then ms) (w ++ x)
+module _ (b : ℕ → ℕ) (mode : Mode) (held : ℕ → Bool) (bit : Binary b) where
+  -- the first part of P, after which Q is left; or all of P
+  abbrev pub Shape : Extent → Plan → Plan → ℕ → Nodes → List ℕ → Type 0
+  Shape one P Q at ns w =
+      (ms : Nodes) (x : List ℕ) → Is mode held Q (at + length w) ms x → Is mode held P at (ns then ms) (w ++ x)
+  Shape all P Q at ns w = Is mode held P at ns w
 
-  module _ (R : Nodes → List ℕ → Type 0) (r : Room) (π : Path) (wall at : ℕ) (a : at ≤ wall) where
-    code-finds : {A : Type 0} {Q : A → Type 0} (c : Res A) (k : A → Answer) → Ensures c Q
-        → ((x : A) → Q x → Finds b R r π wall at (k x)) → Finds b R r π wall at (code c π at k)
-    unfolding code
-    code-finds (got x) k f g = g x (f .says x refl)
-    code-finds (fault n) k f g = stop π wall at a
+  -- a head and its length
+  pub record Headed (type t : ℕ) (h : Length) (wall at body : ℕ) : Type 0 where
+    pub found : FoundHead b mode type t h wall at body
+    pub low : body ≤ stopOf h body wall
+    pub high : stopOf h body wall ≤ wall
 
-    kept-finds : (t u : Bool) (e : Event) (ts w : List ℕ) (q : ℕ) → leb (length ts) (r .bytes) ≡ t → ltb 0 (r .slots) ≡ u → R (leaf at e ts none) w → At b at w q → q ≤ wall
-        → Finds b R r π wall at (kept t u π at e ts q)
-    unfolding kept slotsOf bytesOf
-    kept-finds true true e ts w q t u i f k =
-        let h = leb-true (length ts) (r .bytes) t in
-        let g = ltb-true 0 (r .slots) u in
-        record { bits = w; is = i; stands = f; within = k; slots = omega arith; bytes = omega arith }
-    kept-finds true false e ts w q t u i f k = stop π wall at a
-    kept-finds false u e ts w q t u′ i f k = stop π wall at a
+  pub headed : {type t : ℕ} (h : Length) {wall at body : ℕ} → at ≤ wall
+      → headAt mode b type wall at ≡ got (headOf h t body) → Headed type t h wall at body
+  headed {type} free {wall} {at} a e =
+      let f = head-found b bit mode type wall at .says _ e in record { found = f; low = f .within a; high = omega arith }
+  headed {type} (long n) {wall} {at} {body} a e =
+      let f = head-found b bit mode type wall at .says _ e in
+      let z : body + n - body ≡ n = omega arith in
+      record { found = rw z at (f .0); low = f .1; high = f .2 }
 
-    stored-finds : (e : Event) (ts w : List ℕ) (q : ℕ) → R (leaf at e ts none) w → At b at w q → q ≤ wall → Finds b R r π wall at (stored r π at e ts q)
-    unfolding stored
-    stored-finds e ts w q i f k = kept-finds _ _ e ts w q refl refl i f k
-
-  after-finds : (P Q : Plan) (r : Room) (π : Path) (wall at : ℕ) (o : Answer) (k : Room → ℕ → Answer) → Finds b (Leaves P Q at) r π wall at o
-      → ((s : Room) (q : ℕ) → q ≤ wall → Finds b (Is mode held Q q) s π wall q (k s q)) → Finds b (Is mode held P at) r π wall at (after r o k)
-  unfolding after onto
-  after-finds P Q r π wall at (refused n p ρ) k f g = f
-  after-finds P Q r π wall at (given ns q) k f g = go (k (less r ns) q) (g (less r ns) q (f .within))
-    where
-      go : (o : Answer) → Finds b (Is mode held Q q) (less r ns) π wall q o → Finds b (Is mode held P at) r π wall at (onto ns o)
-      go (refused n p ρ) h = (h .0, omega (arith, f .stands .next), h .2)
-      go (given ms p) h =
-          let s = slots-then ns ms in
-          let t = bytes-then ns ms in
-          record {
-            bits = f .bits ++ h .bits;
-            is = f .is ms (h .bits) (rw (f .stands .next) at (h .is));
-            stands = at-both (f .stands) (h .stands);
-            within = h .within;
-            slots = omega arith;
-            bytes = omega arith;
-          }
-
-  -- where what is inside must end, with a length
-  abbrev Stops : Length → ℕ → ℕ → Type 0
-  Stops free body wall = Unit
-  Stops (long n) body wall = wall ≡ body + n
-
-  measures : (h : Length) (body wall q : ℕ) (w : List ℕ) → Stops h body wall → met (coded h) q wall ≡ true → At b body w q → Measures h (length w)
+  measures : (h : Length) {body q : ℕ} {w : List ℕ} (wall : ℕ) → met (coded h) q (stopOf h body wall) ≡ true
+      → At b body w q → Measures h (length w)
   unfolding met
-  measures free body wall q w s e f = tt
-  measures (long n) body wall q w s e f = let g = eqb-true q wall e in omega (arith, f .next)
+  measures free wall e f = tt
+  measures (long n) {body} {q} wall e f = let g = eqb-true q (body + n) e in omega (arith, f .next)
 
-  -- the wall `far` is around the element, `wall` inside it
-  module _ (name declared : ℕ) (f : ℕ → Plan) (P : Plan) (r : Room) (π : Path) (far at : ℕ) where
-    abbrev This : Nodes → List ℕ → Type 0
-    This = Leaves (element name declared f P) P at
+  pub record Standing (x : Extent) (P Q : Plan) (wall at : ℕ) (ns : Nodes) (q : ℕ) : Type 0 where
+    pub bits : List ℕ
+    pub is : Shape x P Q at ns bits
+    pub stands : At b at bits q
+    pub within : q ≤ wall
 
-    module _ (t : ℕ) (h : Length) (body wall : ℕ) (head : FoundHead b mode declared t h far at body) (z : held t ≡ true) (s : Stops h body wall) (k : body ≤ wall) (l : wall ≤ far) where
-      ended-finds : (u v : Bool) (ns : Nodes) (q : ℕ) → Found b (Is mode held (f t) body) (lessOne r) wall body ns q → met (coded h) q wall ≡ u → ltb 0 (r .slots - 1 - slotsOf ns) ≡ v
-          → Finds b This r π far at (ended u v (mark name t (coded h) at body) π body ns q)
-      unfolding ended slotsOf bytesOf _then_
-      ended-finds true true ns q g u v =
-          let e : body - at ≡ length (head .bits) = omega (arith, head .stands .next) in
-          let k = ltb-true 0 (r .slots - 1 - slotsOf ns) v in
-          let m = measures h body wall q (g .bits) s u (g .stands) in
-          record {
-            bits = head .bits ++ g .bits;
-            is = λ ms x j. rw e (an-element (head .is) z (rw (head .stands .next) at (g .is)) m j);
-            stands = at-both (head .stands) (g .stands);
-            within = omega arith;
-            slots = omega arith;
-            bytes = omega arith;
-          }
-      ended-finds true false ns q g u v = (extends-outer name π _ (extends-same _), omega (arith, g .stands .next, head .stands .next), omega arith)
-      ended-finds false v ns q g u v′ = (extends-outer name π _ (extends-same _), omega (arith, head .stands .next), omega arith)
+  element-stands : {name type t : ℕ} {f : ℕ → Plan} {P : Plan} (h : Length) {wall at body q : ℕ} {ns : Nodes}
+      → Headed type t h wall at body → held t ≡ true → met (coded h) q (stopOf h body wall) ≡ true
+      → Standing all (f t) done (stopOf h body wall) body ns q
+      → Standing one (element name type f P) P wall at (node (mark name t (coded h) at body) ns none) q
+  unfolding _then_
+  element-stands h {wall} {at} {body} o z e i =
+      let s = o .found .stands in
+      let y : body - at ≡ length (o .found .bits) = omega (arith, s .next) in
+      let m = measures h wall e (i .stands) in
+      record {
+        bits = o .found .bits ++ i .bits;
+        is = λ ms x j. rw y (grammar.an-element (o .found .is) z (rw (s .next) at (i .is)) m j);
+        stands = at-both s (i .stands);
+        within = omega (arith, o .high);
+      }
 
-      closed-finds : (o : Answer) → Finds b (Is mode held (f t) body) (lessOne r) (name ∷ π) wall body o → Finds b This r π far at (closed (lessOne r) (mark name t (coded h) at body) π wall body o)
-      unfolding closed
-      closed-finds (given ns q) g = ended-finds _ _ ns q g refl refl
-      closed-finds (refused n p ρ) g = (extends-outer name π ρ (g .0), omega (arith, head .stands .next), omega arith)
+  blank-stands : {name type t : ℕ} {f : ℕ → Plan} {P : Plan} {wall at body : ℕ} (n : ℕ)
+      → Headed type t (long n) wall at body → held t ≡ false
+      → Standing one (element name type f P) P wall at (leaf at (event 7 name t (body + n - at)) [] none) (body + n)
+  unfolding _then_
+  blank-stands {at} {body} n o z =
+      let s = slice-at b body n in
+      let c = at-both (o .found .stands) s in
+      let i : n ≡ length (slice b body n) = omega (arith, s .next) in
+      let m : body + n - at ≡ length (o .found .bits ++ slice b body n) = omega (arith, c .next) in
+      let w = slice-bits b bit body n in
+      record { bits = o .found .bits ++ slice b body n; is = λ ms x j. rw m (grammar.a-blank _ (rw i at (o .found .is)) z w j); stands = c; within = o .high }
 
-      entered-finds : (u : Bool) (g : Into) → ((s : Room) (ρ : Path) (w p : ℕ) → p ≤ w → Finds b (Is mode held (f t) p) s ρ w p (g t s ρ w p))
-          → Finds b This r π far at (entered u g (mark name t (coded h) at body) r π wall body)
-      unfolding entered
-      entered-finds true g ih = closed-finds _ (ih (lessOne r) (name ∷ π) wall body k)
-      entered-finds false g ih = stop π far at (omega (arith, head .stands .next))
+  both-stand : {P Q : Plan} {wall at q p : ℕ} {ns ms : Nodes} → Standing one P Q wall at ns q
+      → Standing all Q done wall q ms p → Standing all P done wall at (ns then ms) p
+  both-stand {ms} i j =
+      record { bits = i .bits ++ j .bits; is = i .is ms (j .bits) (rw (i .stands .next) at (j .is)); stands = at-both (i .stands) (j .stands); within = j .within }
 
-    module _ (bit : Binary b) (a : at ≤ far) (g : Into) (ih : (t : ℕ) (s : Room) (ρ : Path) (w p : ℕ) → p ≤ w → Finds b (Is mode held (f t) p) s ρ w p (g t s ρ w p)) where
-      bare-finds : (u : Bool) (t p : ℕ) → held t ≡ u → FoundHead b mode declared t free far at p → Finds b This r π far at (bare u g (mark name t false at p) r π far p)
-      unfolding bare
-      bare-finds true t p z h = entered-finds t free p far h z tt (h .within a) (omega arith) _ g (ih t)
-      bare-finds false t p z h = stop π far at a
+  pub goes-stands : {x : Extent} {P Q : Plan} {r : Room} {wall at q : ℕ} {ns : Nodes}
+      → Goes b mode held x P r wall at ns q Q → at ≤ wall → Standing x P Q wall at ns q
+  unfolding _then_
+  goes-stands {wall} {at} (an-item {i} {v} {q} {ts} e h k) a =
+      let f = item-found b bit i wall at .says (v, ts, q) e in
+      let z : q - at ≡ length (f .bits) = omega (arith, f .stands .next) in
+      record { bits = f .bits; is = λ ms x j. rw z (grammar.an-item (f .is) j); stands = f .stands; within = f .within a }
+  goes-stands (an-element y g e l) a =
+      let o = headed (y .h) a (y .head) in element-stands (y .h) o (y .is) e (goes-stands g (o .low))
+  goes-stands (a-blank n e z k) a = blank-stands n (headed (long n) a e) z
+  goes-stands nothing a = record { bits = []; is = grammar.nothing; stands = at-none; within = a }
+  goes-stands (more f g) a = let i = goes-stands f a in both-stand i (goes-stands g (i .within))
 
-      sized-finds : (u : Bool) (t p e : ℕ) → held t ≡ u → p ≤ e → e ≤ far → FoundHead b mode declared t (long (e - p)) far at p
-          → Finds b This r π far at (sized u g (mark name t true at p) r π e p)
-      unfolding sized _then_
-      sized-finds true t p e z k l h = entered-finds t (long (e - p)) p e h z (omega arith) k l _ g (ih t)
-      sized-finds false t p e z k l h =
-          let s = slice-at b p (e - p) in
-          let q : e ≡ p + (e - p) = omega arith in
-          let c = at-both (h .stands) s in
-          let i : e - p ≡ length (slice b p (e - p)) = omega (arith, s .next) in
-          let m : e - at ≡ length (h .bits ++ slice b p (e - p)) = omega (arith, c .next) in
-          stored-finds This r π far at a _ [] (h .bits ++ slice b p (e - p)) e
-          (λ ms x j. rw m (a-blank (slice b p (e - p)) (rw i at (h .is)) z (slice-bits b bit p (e - p)) j)) (rw (← q) at c) l
+  pub refuses-within : {P : Plan} {r : Room} {π ρ : Path} {wall at n p : ℕ} → Refuses b mode held P r π wall at n p ρ
+      → at ≤ wall → Extends π ρ × (at ≤ p) × (p ≤ wall)
+  refuses-within {π} (here x) a = (extends-same π, omega arith, a)
+  refuses-within {π} {ρ} (inside {name} x s d) a =
+      let o = headed (x .h) a (x .head) in
+      let i = refuses-within d (o .low) in
+      (extends-outer name π ρ (i .0), omega (arith, o .found .stands .next), omega (arith, o .high))
+  refuses-within {π} (unmet {name} x s g e) a =
+      let o = headed (x .h) a (x .head) in
+      (extends-outer name π _ (extends-same _), omega (arith, o .found .stands .next), omega (arith, o .high))
+  refuses-within {π} (no-end {name} x s g e k) a =
+      let o = headed (x .h) a (x .head) in
+      let i = goes-stands g (o .low) in
+      (extends-outer name π _ (extends-same _), omega (arith, o .found .stands .next, i .stands .next), omega (arith, o .high))
+  refuses-within (later f d) a =
+      let i = goes-stands f a in
+      let j = refuses-within d (i .within) in
+      (j .0, omega (arith, i .stands .next), j .2)
 
-      opened-finds : (x : Head) → FindsHead b mode declared far at x → Finds b This r π far at (opened held g name r π far at x)
-      unfolding opened
-      opened-finds (Head.bare t p) h = bare-finds (held t) t p refl h
-      opened-finds (Head.sized t p e) h = sized-finds (held t) t p e refl (h .1) (h .2) (h .0)
-
-      element-finds : Finds b This r π far at (elementAt b mode held g name declared r π far at)
-      unfolding elementAt
-      element-finds = code-finds This r π far at a _ _ (head-found b bit mode declared far at) opened-finds
-
-  pub read-is : Binary b → (P : Plan) (r : Room) (π : Path) (wall at : ℕ) → at ≤ wall → Finds b (Is mode held P at) r π wall at (read b mode held P r π wall at)
-  unfolding read slotsOf bytesOf _then_
-  read-is bit done r π wall at a = record { bits = []; is = nothing; stands = at-none; within = a; slots = omega arith; bytes = omega arith }
-  read-is bit deep r π wall at a = stop π wall at a
-  read-is bit (item i k) r π wall at a =
-      code-finds (Is mode held (item i k) at) r π wall at a _ _ (item-found b bit i wall at) λ x g.
-      let e : x .2 - at ≡ length (g .bits) = omega (arith, g .stands .next) in
-      after-finds (item i k) (k (x .0)) r π wall at _ _
-      (stored-finds _ r π wall at a _ (x .1) (g .bits) (x .2) (λ ms y j. rw e (an-item (g .is) j)) (g .stands) (g .within a))
-      (λ s p l. read-is bit (k (x .0)) s π wall p l)
-  read-is bit (element name type f P) r π wall at a =
-      after-finds (element name type f P) P r π wall at _ _
-      (element-finds name type f P r π wall at bit a _ (λ t s ρ w p l. read-is bit (f t) s ρ w p l))
-      (λ s p l. read-is bit P s π wall p l)
+module _ (b : ℕ → ℕ) (mode : Mode) (held : ℕ → Bool) where
+  pub read-is : Binary b → (P : Plan) (r : Room) (π : Path) (wall at : ℕ) → at ≤ wall
+      → Finds b (Is mode held P at) r π wall at (read b mode held P r π wall at)
+  read-is bit P r π wall at a =
+      read-by b mode held (Finds b (Is mode held P at) r π wall at) P r π wall at
+      (λ ns q g.
+      let i = goes-stands b mode held bit g a in
+      let f = goes-fits b mode held g in
+      record { bits = i .bits; is = i .is; stands = i .stands; within = i .within; slots = f .0; bytes = f .1 })
+      (λ n p ρ d. refuses-within b mode held bit d a)
 
   -- what was given, found
-  pub read-found : Binary b → (P : Plan) (r : Room) (π : Path) (wall at : ℕ) (ns : Nodes) (q : ℕ) → at ≤ wall → read b mode held P r π wall at ≡ given ns q → Found b (Is mode held P at) r wall at ns q
+  pub read-found : Binary b → (P : Plan) (r : Room) (π : Path) (wall at : ℕ) (ns : Nodes) (q : ℕ) → at ≤ wall
+      → read b mode held P r π wall at ≡ given ns q → Found b (Is mode held P at) r wall at ns q
   read-found bit P r π wall at ns q a e = rw e at (read-is bit P r π wall at a)

@@ -5,14 +5,13 @@ use mathlib.Core.Path.{_≡_, refl, _∙_}
 use mathlib.Core.List.{List, [], _∷_}
 use mathlib.Core.Bool.{Bool, true, false}
 use native.Mathlib.Omega.{arith}
-use Rattle.wire.specs.Res.{got}
 use Rattle.table.specs.Rows.{Row, Content, Attribute, Table, attributeOf, attributesFrom}
 use Rattle.table.specs.Rows.Content.{empty, simple, particles}
 use Rattle.value.specs.Simple.{simpleOf, timesCode, simpleAt, plain}
 use Rattle.value.specs.Code.{choice}
 use Rattle.model.specs.Model.{event, eventOf, Plan, Path, Answer, value, maybe, attribute, attributes, contents, rows, within, due, plan}
 use Rattle.model.specs.Model.Plan.{done}
-use Rattle.model.specs.Model.Item.{required, optional, valued, picked, counted}
+use Rattle.model.specs.Model.Item.{optional, valued, picked, counted}
 use Rattle.model.specs.Model.Nodes.{none}
 use Rattle.model.specs.Model.Answer.{given, refused}
 use Rattle.model.specs.Items.{Mode, formOf, formAt, itemAt, headAt}
@@ -21,10 +20,6 @@ use Rattle.model.specs.Join.{after-done, attribute-join, attributes-join
 
 -- which code each item has
 module _ (b : ℕ → ℕ) (wall at : ℕ) where
-  pub item-required : (name : ℕ) → itemAt (required name) b wall at ≡ got (1, [], at)
-  unfolding itemAt formOf formAt
-  item-required name = refl
-
   pub item-optional : (name : ℕ) → itemAt (optional name) b wall at ≡ simpleAt (plain (choice 2)) b wall at
   unfolding itemAt formOf formAt
   item-optional name = refl

@@ -8,7 +8,6 @@ use native.Mathlib.Omega.{arith}
 use Rattle.model.specs.Model.{event, Mark, Nodes, Path, Answer, slotsOf, bytesOf, bitsOf, _then_}
 use Rattle.model.specs.Model.Nodes.{leaf, node}
 use Rattle.model.specs.Model.Answer.{given, refused}
-use Rattle.model.specs.Read.{onto}
 use Rattle.model.specs.Trees.{slots-then, bytes-then}
 use Rattle.model.specs.Less.{outermost, replaced, firstBare, said}
 
@@ -73,11 +72,6 @@ walk-fits new π (leaf at e ts r) = both-fits (shown (leaf at e ts Nodes.none)) 
 walk-fits new π (node m i r) =
     both-fits (shownAs (new (m .type)) (m .coded) m π i (walk new (m .name ∷ π) i)) (walk new π r) (node m i Nodes.none) r
     (shownAs-fits (new (m .type)) (m .coded) m π i (walk new (m .name ∷ π) i) (walk-fits new (m .name ∷ π) i)) (walk-fits new π r)
-
-pub onto-answer : (ns : Nodes) (w : Walk) (q : ℕ) → onto ns (answer w q) ≡ answer (both (shown ns) w) q
-unfolding onto answer both
-onto-answer ns (shown ms) q = refl
-onto-answer ns (lacking p π) q = refl
 
 -- where nothing is new it leaves the tree as it is
 pub walk-none : (new : ℕ → Bool) → ((t : ℕ) → new t ≡ false) → (π : Path) (ns : Nodes) → walk new π ns ≡ shown ns

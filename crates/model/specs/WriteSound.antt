@@ -1,5 +1,5 @@
 -- WRITER SOUND (`write-is`): what is written, in fewer than 2 ^ 32 bits, is so by the grammar: the tree of the events taken, with their true
--- bits, at whatever place.
+-- bits, at whatever place; a refusal's number is from 1 on.
 use Prim.Native.Nat.{ℕ, zero, suc, _+_, _<_, _^_}
 use mathlib.Core.Path.{_≡_, refl, sym, ap, ap₂, _∙_}
 use mathlib.Core.Bool.{Bool}
@@ -16,6 +16,7 @@ use Rattle.model.specs.Write.{Bare, bare, Out, wordOf, asItem, flagIn, a
 use Rattle.model.specs.Lists.{lists, spells}
 use Rattle.model.specs.ItemOut.{item-written, bare-event}
 use Rattle.model.specs.Plain.{Plain, item-plain}
+use Rattle.model.specs.Named.{item-out-named}
 use Rattle.model.specs.OutLaws.{Says, gives, stops, taken-says, coded-says, put-says, along-says, allowed-says, sealed-says, says-more}
 
 -- of the events M and the texts T the bits w were written, and N and U were left
@@ -84,11 +85,11 @@ module _ (mode : Mode) (held : ℕ → Bool) where
   pub write-is : (P : Plan) (M : List Bare) (T : List ℕ) → Says (Writes P M T) (write mode held P M T)
   unfolding write lists spells tooDeep
   write-is done M T = gives λ b at. record { tree = none; is = nothing; plain = tt; list = refl; text = refl }
-  write-is deep [] T = stops
-  write-is deep (e ∷ M) T = stops
+  write-is deep [] T = stops (omega arith)
+  write-is deep (e ∷ M) T = stops (omega arith)
   write-is (item i k) M T =
       taken-says (asItem i) M _ λ e N m made.
-      coded-says (itemOut i (wordOf i e) T) _ _ (item-written i e T) λ r f.
+      coded-says (itemOut i (wordOf i e) T) _ _ (item-written i e T) (item-out-named i (wordOf i e) T) λ r f.
       put-says (r .0) _ (says-more (write mode held (k (wordOf i e)) N (r .1)) (λ x K U g b at.
       let n = length-append (r .0) x in
       let h = g (omega arith) (at + length (r .0)) in
