@@ -1,11 +1,14 @@
 -- What the program prints, as ASCII.
 use Prim.Native.Nat.{ℕ, zero, suc, _/_}
+use mathlib.Core.Path.{_≡_, ap₂}
 use mathlib.Core.Bool.{cond}
 use mathlib.Core.List.{List, [], _∷_, _++_}
 use lib.Dec.{ltb, eqb}
 use lib.ListN.{getD, drop}
 use Rattle.io.specs.Digits.{digits}
 use Rattle.model.specs.Whole.{Outcome, outcome, eventsLeft}
+use Rattle.reader.specs.Answers.{answerIs, Replies}
+use Rattle.reader.specs.declared.Answer.{Answer}
 use Rattle.list.specs.Ascii.{ascii}
 use Rattle.list.specs.Listing.{listing}
 
@@ -40,3 +43,8 @@ printed o l = cond (eqb (o .number) 0) (heading (o .events) (o .text) (o .bits) 
 -- what the program prints of an input: 2,048 events and 8,192 text bytes are lent
 unfoldable pub printedOf : List ℕ → List ℕ
 printedOf s = let R = listing s 8192 8192 in printed (outcome R) (eventsLeft 8192 R)
+
+-- whatever answer and event words the promise of `read_input` lets the program hold, their text is that of the input
+pub text-held : (s : List ℕ) (r : Answer) (E T : List ℕ) → Replies (listing s 8192 8192) 8192 8192 r E T → printed (answerIs r) E ≡ printedOf s
+unfolding printedOf
+text-held s r E T h = ap₂ printed (h .answer) (h .events-left)
