@@ -1,16 +1,17 @@
 -- A table's bytes judged by the words that are lent of it.
 use Prim.Native.Nat.{ℕ, _/_, _%_, _≤_, _<_, min}
 use mathlib.Core.Path.{_≡_, sym, ap, subst, _∙_}
-use mathlib.Core.List.{List}
+use mathlib.Core.List.{List, _++_}
 use native.Mathlib.Omega.{arith}
 use borrow.Author.Tests.{eq-eqb, ne-eqb, le-leb, lt-leb}
-use lib.ListN.{length, take}
+use lib.ListN.{length, take, drop}
 use Rattle.table.specs.First.{Verdict}
 use Rattle.table.specs.Valid.{verdict}
 use Rattle.table.specs.Views.{verdictIs}
 use Rattle.table.specs.declared.answers.Verdict as code
 use Rattle.table.specs.declared.answers.Verdict.the-variants.{Right, Wrong}
 use Rattle.words.specs.Bytes.{wordsOf}
+use Rattle.words.specs.BytesLaws.{loaded-front}
 use Rattle.host.specs.Calls.{tableVerdict}
 use Rattle.host.specs.TableLaws.{wordsLent, placed, moved, Told, told, verdict-lent}
 
@@ -47,9 +48,9 @@ placed-kept seen given place e = sym (rw (ne-eqb place seen e))
 pub ruleset placed-ways = (placed-moved, placed-kept)
 
 -- the check
-module _ (t words : List ℕ) (k : ℕ) (n : k ≡ wordsLent (length t)) (l : take k words ≡ take k (wordsOf t)) (v : code.Verdict) (e : verdictIs v ≡ verdict (take k words)) where
+module _ (t room words : List ℕ) (k : ℕ) (n : k ≡ wordsLent (length t)) (b : k ≤ length t / 4) (l : words ≡ take k (wordsOf t) ++ drop k room) (v : code.Verdict) (e : verdictIs v ≡ verdict (take k words)) where
   judged-is : tableVerdict t ≡ moved k (length t / 4) (verdictIs v)
-  judged-is = verdict-lent t k (subst (Told t) (sym n) (told t)) ∙ ap (λ (x : List ℕ). moved k (length t / 4) (verdict x)) (sym l) ∙ ap (moved k (length t / 4)) (sym e)
+  judged-is = verdict-lent t k (subst (Told t) (sym n) (told t)) ∙ ap (λ (x : List ℕ). moved k (length t / 4) (verdict x)) (sym (loaded-front t room words k l b)) ∙ ap (moved k (length t / 4)) (sym e)
 
   pub judged-right : v ≡ Right → verdictIs Right ≡ tableVerdict t
   judged-right r = sym (judged-is ∙ ap (λ (x : code.Verdict). moved k (length t / 4) (verdictIs x)) r)

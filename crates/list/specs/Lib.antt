@@ -1,2 +1,4 @@
+pub mod Ascii
 pub mod Listing
 pub mod Text
+pub mod Example

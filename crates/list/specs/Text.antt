@@ -1,13 +1,16 @@
 -- What the program prints, as ASCII.
 use Prim.Native.Nat.{ℕ, zero, suc, _/_}
+use mathlib.Core.Path.{_≡_, ap₂}
 use mathlib.Core.Bool.{cond}
 use mathlib.Core.List.{List, [], _∷_, _++_}
-use lib.Dec.{ltb}
-use lib.ListN.{length}
+use lib.Dec.{ltb, eqb}
+use lib.ListN.{getD, drop}
 use Rattle.io.specs.Digits.{digits}
-use Rattle.model.specs.Model.{Event, events, texts}
-use Rattle.model.specs.Whole.{Reply}
-use Rattle.model.specs.Whole.Reply.{accepted, declined}
+use Rattle.model.specs.Whole.{Outcome, outcome, eventsLeft}
+use Rattle.reader.specs.Answers.{answerIs, Replies}
+use Rattle.reader.specs.declared.Answer.{Answer}
+use Rattle.list.specs.Ascii.{ascii}
+use Rattle.list.specs.Listing.{listing}
 
 -- how many decimal digits a number has, of at most k + 1
 unfoldable pub places : ℕ → ℕ → ℕ
@@ -18,39 +21,30 @@ places (suc k) n = cond (ltb n 10) 1 (suc (places k (n / 10)))
 unfoldable pub decimal : ℕ → List ℕ
 decimal n = digits 10 (places 19 n) n
 
-abbrev space : List ℕ
-space = 32 ∷ []
-
-abbrev line-end : List ℕ
-line-end = 10 ∷ []
-
--- "events ", " text ", " bits ", "refused "
-abbrev pub word-events : List ℕ
-word-events = 101 ∷ 118 ∷ 101 ∷ 110 ∷ 116 ∷ 115 ∷ 32 ∷ []
-
-abbrev pub word-text : List ℕ
-word-text = 32 ∷ 116 ∷ 101 ∷ 120 ∷ 116 ∷ 32 ∷ []
-
-abbrev pub word-bits : List ℕ
-word-bits = 32 ∷ 98 ∷ 105 ∷ 116 ∷ 115 ∷ 32 ∷ []
-
-abbrev pub word-refused : List ℕ
-word-refused = 114 ∷ 101 ∷ 102 ∷ 117 ∷ 115 ∷ 101 ∷ 100 ∷ 32 ∷ []
-
 -- `events E text T bits B`; an event's four words; `refused N P`
 unfoldable pub heading : ℕ → ℕ → ℕ → List ℕ
-heading e t b = word-events ++ decimal e ++ (word-text ++ decimal t) ++ (word-bits ++ decimal b) ++ line-end
+heading e t b = ascii "events " ++ decimal e ++ (ascii " text " ++ decimal t) ++ (ascii " bits " ++ decimal b) ++ ascii "\n"
 
 unfoldable pub eventLine : ℕ → ℕ → ℕ → ℕ → List ℕ
-eventLine kind p q bits = decimal kind ++ (space ++ decimal p) ++ (space ++ decimal q) ++ (space ++ decimal bits) ++ line-end
+eventLine kind p q bits = decimal kind ++ (ascii " " ++ decimal p) ++ (ascii " " ++ decimal q) ++ (ascii " " ++ decimal bits) ++ ascii "\n"
 
 unfoldable pub refusal : ℕ → ℕ → List ℕ
-refusal n p = word-refused ++ decimal n ++ (space ++ decimal p) ++ line-end
+refusal n p = ascii "refused " ++ decimal n ++ (ascii " " ++ decimal p) ++ ascii "\n"
 
-unfoldable pub eventLines : List Event → List ℕ
-eventLines [] = []
-eventLines (e ∷ l) = eventLine (e .kind) (e .p) (e .q) (e .bits) ++ eventLines l
+-- the lines of the first n events, four words each
+unfoldable pub eventLines : ℕ → List ℕ → List ℕ
+eventLines zero l = []
+eventLines (suc n) l = eventLine (getD l 0 0) (getD l 1 0) (getD l 2 0) (getD l 3 0) ++ eventLines n (drop 4 l)
 
-unfoldable pub printed : Reply → List ℕ
-printed (accepted mode ns q) = heading (length (events ns)) (length (texts ns)) q ++ eventLines (events ns)
-printed (declined n p π) = refusal n p
+-- THE TEXT: all that is printed of an answer and of the event words that came with it
+unfoldable pub printed : Outcome → List ℕ → List ℕ
+printed o l = cond (eqb (o .number) 0) (heading (o .events) (o .text) (o .bits) ++ eventLines (o .events) l) (refusal (o .number) (o .place))
+
+-- what the program prints of an input: 2,048 events and 8,192 text bytes are lent
+unfoldable pub printedOf : List ℕ → List ℕ
+printedOf s = let R = listing s 8192 8192 in printed (outcome R) (eventsLeft 8192 R)
+
+-- whatever answer and event words the promise of `read_input` lets the program hold, their text is that of the input
+pub text-held : (s : List ℕ) (r : Answer) (E T : List ℕ) → Replies (listing s 8192 8192) 8192 8192 r E T → printed (answerIs r) E ≡ printedOf s
+unfolding printedOf
+text-held s r E T h = ap₂ printed (h .answer) (h .events-left)

@@ -4,7 +4,7 @@ use mathlib.Core.Path.{_≡_}
 use mathlib.Core.List.{List, [], _∷_}
 use Rattle.signed.specs.Words.{rank}
 use Rattle.table.specs.Valid.{ranged, enumeration}
-use Rattle.table.specs.Rows.{Row, Content, Attribute}
+use Rattle.table.specs.Rows.{Row, Content, Attribute, Table}
 use Rattle.table.specs.Rows.Row.{element, sequence, choice, occurs}
 use Rattle.table.specs.Rows.Content.{empty, simple, particles}
 
@@ -44,13 +44,18 @@ ContentOk P empty = Unit {0}
 ContentOk P (simple kind b c) = SimpleOk kind b c
 ContentOk P (particles row) = row < P
 
-pub record AttributeOk (a : Attribute) : Type 0 where
+-- an attribute whose row names a type of the table: one with simple content, which the attribute's value has, and with no attributes
+pub record AttributeOk (T : Table) (type : ℕ) (a : Attribute) : Type 0 where
   pub name-small : a .name ≤ 65535
+  pub type-known : type < T .types
+  pub type-simple : T .content type ≡ simple (a .kind) (a .b) (a .c)
+  pub type-bare : T .attributes type ≡ []
   pub value : SimpleOk (a .kind) (a .b) (a .c)
 
-abbrev pub Each : (Attribute → Type 0) → List Attribute → Type 0
-Each Q [] = Unit {0}
-Each Q (a ∷ l) = Q a × Each Q l
+-- each attribute, with its row's number, from row i on
+abbrev pub Each : (ℕ → Attribute → Type 0) → ℕ → List Attribute → Type 0
+Each Q i [] = Unit {0}
+Each Q i (a ∷ l) = Q i a × Each Q (i + 1) l
 
 pub record CountsOk (T A P : ℕ) : Type 0 where
   pub types-some : 1 ≤ T

@@ -1,7 +1,7 @@
 -- The laws of a right table: it keeps to what `Keeps` says. Callers cite these and never the words.
 use Prim.Native.Nat.{ℕ, zero, suc, _+_, _≤_, _<_}
 use mathlib.Core.Path.{_≡_, refl, sym, _∙_}
-use mathlib.Core.List.{List}
+use mathlib.Core.List.{List, []}
 use mathlib.Core.Bool.{Bool, true, false, _&&_, _||_, true≢false}
 use native.Mathlib.Omega.{arith}
 use borrow.Author.Tests.{ltb-true, leb-true, eqb-true, eq-eqb, ne-eqb, lt-ltb}
@@ -16,12 +16,12 @@ use Rattle.table.specs.FirstLaws.{judge-right, both-right, Every, right-
 use Rattle.table.specs.Valid.{within, given, headerWords, frontWords, rangeWords, enumerationWords, kindWords, simpleWords, particlesWords, contentWords, attributeWords, elementWords, groupWords, occursWords, particleWords, rows, typeRow, attributeRow, particleRow, rowWords, verdict, verdictFrom, Sized, ranged}
 use Rattle.table.specs.Lines.{typesVerdict, attributesVerdict, particlesVerdict, rows-in-parts}
 use Rattle.table.specs.Keeps.{ElementOk, GroupOk, OccursOk, RowOk, SimpleOk, ContentOk, AttributeOk, Each, CountsOk}
-use Rattle.table.specs.Rows.{contentFrom, rowFrom, contentOf, rowAt, rowOf, attributeOf, attributesFrom, firstOf, countOf, attributesOf, tableOf}
+use Rattle.table.specs.Rows.Content.{simple}
+use Rattle.table.specs.Rows.{Attribute, contentFrom, rowFrom, contentOf, rowAt, rowOf, attributeType, attributeOf, attributesFrom, firstOf, countOf, attributesOf, tableOf}
 use Rattle.table.specs.Walk.{attributes-length}
-use Rattle.table.specs.Views.{rowIs, contentIs, attributeIs}
+use Rattle.table.specs.Views.{rowIs, contentIs}
 use Rattle.table.specs.declared.answers.Particle as code·particle
 use Rattle.table.specs.declared.answers.Content as code·content
-use Rattle.table.specs.declared.answers.Attribute as code·attribute
 
 -- From tests to facts.
 and-true : (x y : Bool) → (x && y) ≡ true → (x ≡ true) × (y ≡ true)
@@ -161,24 +161,43 @@ module _ (l : List ℕ) (valid : verdict l ≡ right) where
   span-ok t h = leb-true _ _ (front-back t h .0 .1 .1 .1 .0)
 
   -- a type that an attribute may have
+  simple-is : (t : ℕ) → w (typeAt t + 1) ≡ 1 → contentOf l t ≡ simple (w (typeAt t + 4)) (w (typeAt t + 5)) (w (typeAt t + 6))
+  unfolding contentOf contentFrom
+  simple-is t e = rw e
+
+  none-are : (t : ℕ) → w (typeAt t + 3) ≡ 0 → attributesOf l t ≡ []
+  unfolding attributesOf attributesFrom countOf
+  none-are t e = rw e
+
   plain-ok : (t : ℕ) → t < T → w (typeAt t + 1) ≡ 1 → SimpleOk (w (typeAt t + 4)) (w (typeAt t + 5)) (w (typeAt t + 6))
   unfolding contentWords
   plain-ok t h e = simple-ok _ _ _ (rw e at (front-back t h .1))
 
-  pub attribute-ok : (a : ℕ) → a < A → AttributeOk (attributeOf l a)
-  unfolding attributeOf attributeRow attributeWords
+  abbrev Attributed : ℕ → Attribute → Type 0
+  Attributed a = AttributeOk (tableOf l) (attributeType l a)
+
+  pub attribute-ok : (a : ℕ) → a < A → AttributeOk (tableOf l) (attributeType l a) (attributeOf l a)
+  unfolding tableOf attributeOf attributeRow attributeWords
   attribute-ok a h =
       let r = attribute-every a h in
       let type = and-true _ _ (r .1 .1 .0) in
       let plain = and-true _ _ (type .1) in
-      record { name-small = leb-true _ _ (r .0); value = plain-ok _ (ltb-true _ _ (type .0)) (eqb-true _ _ (plain .0)) }
+      let known = ltb-true _ _ (type .0) in
+      let one = eqb-true _ _ (plain .0) in
+      record {
+        name-small = leb-true _ _ (r .0);
+        type-known = known;
+        type-simple = simple-is _ one;
+        type-bare = none-are _ (eqb-true _ _ (plain .1));
+        value = plain-ok _ known one;
+      }
 
-  attributes-from-ok : (n i : ℕ) → i + n ≤ A → Each AttributeOk (attributesFrom l n i)
+  attributes-from-ok : (n i : ℕ) → i + n ≤ A → Each Attributed i (attributesFrom l n i)
   unfolding attributesFrom
   attributes-from-ok zero i h = tt
   attributes-from-ok (suc n) i h = (attribute-ok i (omega arith), attributes-from-ok n (i + 1) (omega arith))
 
-  pub attributes-ok : (t : ℕ) → t < T → Each AttributeOk (tableOf l .attributes t)
+  pub attributes-ok : (t : ℕ) → t < T → Each (λ a. AttributeOk (tableOf l) (attributeType l a)) (firstOf l t) (tableOf l .attributes t)
   unfolding tableOf attributesOf
   attributes-ok t h = attributes-from-ok (countOf l t) (firstOf l t) (omega (arith, span-ok t h))
 

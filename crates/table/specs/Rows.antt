@@ -56,10 +56,14 @@ module _ (l : List ℕ) where
   unfoldable pub rowOf : (p : ℕ) → Row
   rowOf p = rowAt (typesIn l) (attributesIn l) p
 
+  -- the type that an attribute row names
+  abbrev pub attributeType : (a : ℕ) → ℕ
+  attributeType a = w (attributeAt (typesIn l) a + 2)
+
   unfoldable pub attributeOf : (a : ℕ) → Attribute
   attributeOf a =
       let i = attributeAt (typesIn l) a in
-      let j = typeAt (w (i + 2)) in
+      let j = typeAt (attributeType a) in
       record { name = w i; must = eqb (w (i + 1)) 1; kind = w (j + 4); b = w (j + 5); c = w (j + 6) }
 
   -- n attribute rows from row i on

@@ -30,10 +30,14 @@ pub record Wrote (s t : List ℕ) (at : ℕ) (l : List ℕ) (p : ℕ) : Type 0 w
   pub bits : Put (bitAt s) (bitAt t) at l
   pub next : p ≡ at + length l
 
--- a vluimsbf8 is written whole; or it would take a third byte, and nothing is
+-- the number v is written whole, as the bits l; or it has no code, and nothing is
+abbrev pub WroteOr : (coded uncoded : Type 0) (l : List ℕ) (v : ℕ) (s t : List ℕ) (at : ℕ) → Read → Type 0
+WroteOr coded uncoded l v s t at (read.Value u p) = (u ≡ v) × coded × Wrote s t at l (p .0)
+WroteOr coded uncoded l v s t at (read.Refuse e) = (e ≡ 20) × uncoded × (t ≡ s)
+
+-- a vluimsbf8 would else take a third byte
 abbrev pub Wrote8 : List ℕ → List ℕ → ℕ → ℕ → Read → Type 0
-Wrote8 s t at v (read.Value u p) = (u ≡ v) × (v < 16384) × Wrote s t at (code8 v) (p .0)
-Wrote8 s t at v (read.Refuse e) = (e ≡ 20) × (16384 ≤ v) × (t ≡ s)
+Wrote8 s t at v r = WroteOr (v < 16384) (16384 ≤ v) (code8 v) v s t at r
 
 pub put-none : (b : ℕ → ℕ) (at : ℕ) → Put b b at []
 put-none b at = record { stands = tt; before = λ j h. refl; after = λ j h. refl }
@@ -83,7 +87,7 @@ bits-one (suc n) x y f g h =
     let e = h 0 (omega arith) in
     omega arith
 
--- bytes with the same bits are the same bytes, so a write determines the buffer
+-- bytes with the same bits are the same bytes
 pub bytes-one : (s t : List ℕ) → length s ≡ length t → ((i : ℕ) → getD s i 0 < 256) → ((i : ℕ) → getD t i 0 < 256) → ((j : ℕ) → bitAt s j ≡ bitAt t j) → s ≡ t
 unfolding bitAt
 bytes-one s t e f g h = ext-getD 0 s t e (λ i l. bits-one 8 (getD s i 0) (getD t i 0) (f i) (g i) (λ k m. same i k m))
@@ -93,6 +97,28 @@ bytes-one s t e f g h = ext-getD 0 s t e (λ i l. bits-one 8 (getD s i 0) (getD 
         let q : (8 * i + (7 - k)) / 8 ≡ i = omega arith in
         let r : 7 - (8 * i + (7 - k)) % 8 ≡ k = omega arith in
         rw (q, r) at (h (8 * i + (7 - k)))
+
+-- what a slice of bytes holds after a call that was lent it with the bytes s
+pub record Lent (s t : List ℕ) : Type 0 where
+  pub long : length t ≡ length s
+  pub byte : (i : ℕ) → getD t i 0 < 256
+
+-- two buffers that a writing promise allows are equal, and so are the two answers
+pub wrote-one : (s t u : List ℕ) (at : ℕ) (l : List ℕ) (p q : ℕ) → Lent s t → Lent s u → Wrote s t at l p → Wrote s u at l q → (t ≡ u) × (p ≡ q)
+wrote-one s t u at l p q f g a b =
+    (bytes-one t u (f .long ∙ sym (g .long)) (f .byte) (g .byte) (put-one _ _ _ at l (a .bits) (b .bits)), a .next ∙ sym (b .next))
+
+pub wrote-or-one : (coded uncoded : Type 0) → (coded → uncoded → ⊥) → (l : List ℕ) (v : ℕ) (s t u : List ℕ) (at : ℕ) (a b : Read) → Lent s t → Lent s u
+    → WroteOr coded uncoded l v s t at a → WroteOr coded uncoded l v s u at b → (t ≡ u) × (a ≡ b)
+wrote-or-one c n never l v s t u at (read.Value x p) (read.Value y q) f g (d, i, h) (e, j, k) =
+    let one = wrote-one s t u at l (p .0) (q .0) f g h k in
+    (one .0, λ i. read.Value ((d ∙ sym e) i) (record { 0 = one .1 i }))
+wrote-or-one c n never l v s t u at (read.Value x p) (read.Refuse y) f g (d, i, h) (e, j, k) = absurd (never i j)
+wrote-or-one c n never l v s t u at (read.Refuse x) (read.Value y q) f g (d, i, h) (e, j, k) = absurd (never j i)
+wrote-or-one c n never l v s t u at (read.Refuse x) (read.Refuse y) f g (d, i, h) (e, j, k) = (h ∙ sym k, ap read.Refuse (d ∙ sym e))
+
+pub wrote8-one : (s t u : List ℕ) (at v : ℕ) (a b : Read) → Lent s t → Lent s u → Wrote8 s t at v a → Wrote8 s u at v b → (t ≡ u) × (a ≡ b)
+wrote8-one s t u at v a b f g h k = wrote-or-one _ _ (λ i j. omega arith) (code8 v) v s t u at a b f g h k
 
 half-up : (y k : ℕ) → (y + 2 ^ suc k) / 2 ≡ y / 2 + 2 ^ k
 half-up y k = omega arith

@@ -1,23 +1,27 @@
 -- One more turn of each loop over a buffer.
-use Prim.Native.Nat.{ℕ, _+_, _-_, _*_, _/_, _≤_, _<_}
+use Prim.Native.Nat.{ℕ, suc, _+_, _-_, _*_, _/_, _≤_, _<_}
 use mathlib.Core.Path.{_≡_, refl, sym, ap, _∙_}
-use mathlib.Core.List.{List, _++_, append-nil}
+use mathlib.Core.List.{List, [], _∷_, _++_, append-nil, append-assoc}
 use native.Mathlib.Omega.{arith}
 use native.Mathlib.Numerals.{add-one}
 use borrow.Rule.Slice.PartMut.{putMid, post-is}
 use borrow.Author.Fill.{fill-more}
 use lib.ListN.{length, getD, set, take, drop, replicate, drop-of-length-le}
-use lib.Seq.{sets, take-suc, take-suc-set, take-all, length-take-le, drop-length}
+use lib.Seq.{sets, set-at, take-suc, drop-cons, take-all, length-take-le, drop-length}
 use Rattle.words.specs.Bytes.{wordFrom, wordsOf, spelled}
 use Rattle.words.specs.BytesLaws.{words-length, word-at, spelled-length, spelled-more}
 
--- words loaded
-pub loaded-more : (s words : List ℕ) (i w : ℕ) → i < length words → i < length s / 4 → w ≡ wordFrom s (4 * i) → take i words ≡ take i (wordsOf s)
-    → take (i + 1) (set words i w) ≡ take (i + 1) (wordsOf s)
-loaded-more s words i w h g e f =
-    let b : i < length (wordsOf s) = omega (arith, words-length s) in
-    let x : w ≡ getD (wordsOf s) i 0 = e ∙ sym (word-at s i g) in
-    rw (add-one i, take-suc-set words i w h, take-suc (wordsOf s) i 0 b, f, x)
+-- words loaded at the front
+pub loaded-more : (s words loaded : List ℕ) (i w : ℕ) → i < length words → i < length s / 4 → w ≡ wordFrom s (4 * i)
+    → loaded ≡ take i (wordsOf s) ++ drop i words → set loaded i w ≡ take (i + 1) (wordsOf s) ++ drop (i + 1) words
+loaded-more s words loaded i w h g e f =
+    let W = wordsOf s in
+    let b : i < length W = omega (arith, words-length s) in
+    let front : take i W ++ w ∷ [] ≡ take (suc i) W = sym (take-suc W i 0 b ∙ ap (λ (x : ℕ). take i W ++ x ∷ []) (word-at s i g ∙ sym e)) in
+    ap (λ (x : List ℕ). set x i w) (f ∙ ap (λ (x : List ℕ). take i W ++ x) (drop-cons words i 0 h))
+    ∙ set-at (take i W) (getD words i 0) (drop (suc i) words) w i (length-take-le i W (omega arith))
+    ∙ sym (append-assoc (take i W) (w ∷ []) (drop (suc i) words))
+    ∙ rw (add-one i) (ap (λ (x : List ℕ). x ++ drop (suc i) words) front)
 
 -- numbers of k bytes each stored from the front
 module _ (f : ℕ → List ℕ) (k : ℕ) (wide : (x : ℕ) → length (f x) ≡ k) (l b : List ℕ) where

@@ -6,7 +6,7 @@ use native.Mathlib.Omega.{arith}
 use native.Mathlib.Nat.{suc-mul}
 use native.Mathlib.Numerals.{add-one}
 use lib.ListN.{length, getD, take, drop, replicate, length-append, length-drop}
-use lib.Seq.{sets, sets-eq, take-suc, take-at, drop-at, drop-drop}
+use lib.Seq.{sets, sets-eq, take-suc, take-at, drop-at, drop-drop, length-take-le}
 use Rattle.words.specs.Bytes.{word, wordFrom, four, two, wordsOf, spelled, bytesOf, namesOf}
 
 pub words-length : (s : List ℕ) → length (wordsOf s) ≡ length s / 4
@@ -36,6 +36,11 @@ word-at (a ∷ b ∷ c ∷ []) i h = absurd (omega arith)
 word-at (a ∷ b ∷ c ∷ d ∷ s) zero h = refl
 word-at (a ∷ b ∷ c ∷ d ∷ s) (suc i) h =
     word-at s i (omega arith) ∙ sym (from-shifted a b c d s (4 * i) (4 * suc i) (omega arith))
+
+-- the front of a buffer that n words were loaded into
+pub loaded-front : (s words loaded : List ℕ) (n : ℕ) → loaded ≡ take n (wordsOf s) ++ drop n words → n ≤ length s / 4 → take n loaded ≡ take n (wordsOf s)
+loaded-front s words loaded n e h =
+    ap (take n) e ∙ take-at (take n (wordsOf s)) (drop n words) n (length-take-le n (wordsOf s) (omega (arith, words-length s)))
 
 -- every number takes k bytes
 pub spelled-length : (f : ℕ → List ℕ) (k : ℕ) → ((x : ℕ) → length (f x) ≡ k) → (l : List ℕ) → length (spelled f l) ≡ length l * k

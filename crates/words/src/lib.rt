@@ -35,10 +35,10 @@ pub fn half(s: &[u8], at: usize) -> u32
     a * 256 + b
 }
 
-// The first n words of bytes.
+// The first n words of bytes at the front of a buffer; what stands behind them stays.
 pub fn load(s: &[u8], words: &mut [u32], n: usize)
     requires { ⌜ (n ≤ length (now s) / 4) × (n ≤ length (now words)) ⌝ }
-    ensures { λ _. ⌜ take n (now (words .exit)) ≡ take n (wordsOf (now (s .entry))) ⌝ }
+    ensures { λ _. ⌜ now (words .exit) ≡ take n (wordsOf (now (s .entry))) ++ drop n (now (words .entry)) ⌝ }
 {
     let mut i = 0;
     while i < n {

@@ -1,8 +1,9 @@
--- `load`: the words passed are those of the bytes.
+-- `load`: the words passed are those of the bytes, and nothing else has changed.
 use Prim.Native.Nat.{_-_, _≤_}
 use mathlib.Core.Path.{_≡_}
+use mathlib.Core.List.{_++_}
 use native.Mathlib.Omega.{arith}
-use lib.ListN.{length, take, length-set}
+use lib.ListN.{length, take, drop, length-set}
 use Rattle.words.specs.Bytes.{wordsOf}
 use Rattle.words.proofs.Loops.{loaded-more}
 use borrow.Author.Needs.{needs}
@@ -10,7 +11,7 @@ use Rattle.words.proofs.load.Statement.{statement}
 use Rattle.words.proofs.load.Tie as tie
 
 abbrev Inv-loop : tie.InvT-loop
-Inv-loop s words₀ n i₀ words i = (i ≤ n) × (length words ≡ length words₀) × (take i words ≡ take i (wordsOf s))
+Inv-loop s words₀ n i₀ words i = (i ≤ n) × (length words ≡ length words₀) × (words ≡ take i (wordsOf s) ++ drop i words₀)
 
 abbrev μ-loop : tie.MeasureT-loop
 μ-loop s words₀ n i₀ words i = n - i
@@ -38,7 +39,7 @@ loop-less c = search needs
 
 loop-again : tie.Need-loop-again Inv-loop μ-loop
 loop-again c = let v = c .before .before .loop in
-    (omega arith, simp length-set (omega arith), loaded-more _ (v .words) (v .i) _ (omega arith) (omega arith) (c .word .ensures) (v .inv .2))
+    (omega arith, simp length-set (omega arith), loaded-more _ _ (v .words) (v .i) _ (omega arith) (omega arith) (c .word .ensures) (v .inv .2))
 
 same-length : tie.Need-same-length Inv-loop μ-loop
 same-length c = search needs

@@ -2,6 +2,7 @@
 use native.Mathlib.Omega.{arith}
 use lib.ListN.{length-take}
 use Rattle.host.proofs.Replies.{bytes-read}
+use Rattle.words.specs.BytesLaws.{loaded-front}
 use borrow.Author.Needs.{needs}
 use Rattle.host.proofs.reads.read_in.Statement.{statement}
 use Rattle.host.proofs.reads.read_in.Tie as tie
@@ -35,7 +36,7 @@ returns c =
     let b = c .before .before .before .before .before in
     let d = b .before .before .before .before .before .before in
     let entry = d .before .before .before .before .before .before .before in
-    bytes-read _ _ _ _ _ _ _ _ (b .read-list .result) _ _ _ (entry .pre .0) (d .load .ensures) (b .read-list .ensures) (c .placed .ensures)
+    bytes-read _ _ _ _ _ _ _ _ (b .read-list .result) _ _ _ (entry .pre .0) (loaded-front _ _ _ _ (d .load .ensures) (entry .pre .1)) (b .read-list .ensures) (c .placed .ensures)
 
 pub read-in-spec : {M : Type 1} → statement M
 read-in-spec =

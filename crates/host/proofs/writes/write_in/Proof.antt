@@ -2,6 +2,7 @@
 use native.Mathlib.Omega.{arith}
 use lib.ListN.{length-take}
 use Rattle.host.proofs.Lists.{bytes-written}
+use Rattle.words.specs.BytesLaws.{loaded-front}
 use borrow.Author.Needs.{needs}
 use Rattle.host.proofs.writes.write_in.Statement.{statement}
 use Rattle.host.proofs.writes.write_in.Tie as tie
@@ -32,7 +33,7 @@ returns c =
     let d = c .before .before .before in
     let e = d .before .before .before .before .before in
     let entry = e .before .before .before .before .before .before .before in
-    bytes-written _ _ _ _ _ _ _ _ _ _ _ (d .write-list .result) _ _ (entry .pre .0) (e .load .ensures) (d .write-list .ensures) (c .placed .ensures)
+    bytes-written _ _ _ _ _ _ _ _ _ _ _ (d .write-list .result) _ _ (entry .pre .0) (loaded-front _ _ _ _ (e .load .ensures) (entry .pre .1)) (d .write-list .ensures) (c .placed .ensures)
 
 pub write-in-spec : {M : Type 1} → statement M
 write-in-spec =

@@ -1,8 +1,10 @@
 -- `write_words`: a list's bytes are its words.
 use native.Mathlib.Omega.{arith}
-use lib.ListN.{length-take}
+use Prim.Native.Nat.{_/_}
+use lib.ListN.{length, length-take}
 use mathlib.Core.Path.{refl}
 use Rattle.host.proofs.Lists.{list-whole}
+use Rattle.words.specs.BytesLaws.{loaded-front}
 use borrow.Author.Needs.{needs}
 use Rattle.host.proofs.writes.write_words.Statement.{statement}
 use Rattle.host.proofs.writes.write_words.Tie as tie
@@ -28,7 +30,9 @@ same-length-2 c = search needs
 returns : tie.Need-returns
 returns c =
     let b = c .before .before .before .before .before .before .before in
-    list-whole _ _ _ _ _ _ _ _ _ _ _ _ (b .before .before .before .before .before .before .before .pre .0) refl (b .load .ensures) (c .before .before .write .ensures)
+    let entry = b .before .before .before .before .before .before .before in
+    let e = entry .args .events .now in
+    list-whole _ _ _ _ _ _ _ _ _ _ _ _ (entry .pre .0) refl (loaded-front e _ _ (length e / 4) (b .load .ensures) (omega arith)) (c .before .before .write .ensures)
 
 pub write-words-spec : {M : Type 1} → statement M
 write-words-spec =

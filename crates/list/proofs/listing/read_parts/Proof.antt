@@ -1,9 +1,10 @@
 -- `read_parts`: what is lent to the reader is what the listing reads.
 use native.Mathlib.Omega.{arith}
 use mathlib.Core.Path.{refl}
-use Prim.Native.Nat.{_+_, _*_}
-use lib.ListN.{length-take}
+use Prim.Native.Nat.{_+_, _*_, _-_}
+use lib.ListN.{take, drop, length-take, length-drop}
 use Rattle.list.proofs.Inputs.{parts-read}
+use Rattle.words.specs.BytesLaws.{loaded-front}
 use borrow.Author.Needs.{needs}
 use Rattle.list.proofs.listing.read_parts.Statement.{statement}
 use Rattle.list.proofs.listing.read_parts.Tie as tie
@@ -72,7 +73,9 @@ returns : tie.Need-returns
 returns c =
     let d = c .before .before .before .before .before .before .before .before .before in
     let a = c .before .before .before .before .before .before .before .before .before .before .before .before .before .before .before .before .before .before .before .args in
-    parts-read _ _ _ _ _ (a .input .now) (a .n) _ (4 + 4 * a .n) (4 + 4 * a .n + 4) _ _ _ (omega arith) refl (omega arith) (d .payload-end .ensures) (d .before .before .load .ensures)
+    let part = take (4 + 4 * a .n - 4) (drop 4 (a .input .now)) in
+    let loaded = loaded-front part _ _ (a .n) (d .before .before .load .ensures) (simp (length-take, length-drop) (omega arith)) in
+    parts-read _ _ _ _ _ (a .input .now) (a .n) _ (4 + 4 * a .n) (4 + 4 * a .n + 4) _ _ _ (omega arith) refl (omega arith) (d .payload-end .ensures) loaded
     (d .before .before .before .before .before .before .half .ensures) (d .before .before .before .before .before .half2 .ensures) (c .before .before .before .before .read .ensures)
 
 pub read-parts-spec : {M : Type 1} → statement M
