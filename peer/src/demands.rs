@@ -8,6 +8,7 @@ use crate::bim;
 use crate::call::{Call, Read, Write, READER, WRITER};
 use crate::cases::Case;
 use crate::model;
+use crate::rows::held_word;
 use crate::{reader, table, tally, writer};
 
 /// What the run has met so far.
@@ -367,7 +368,7 @@ pub fn judge_pair(
     first: &Outcome,
     second: &Outcome,
 ) -> Result<Pair, String> {
-    let held = |words: &[u32], of_type: usize| words[bim::HEADER + bim::TYPE_ROW * of_type] == 1;
+    let held = |words: &[u32], of_type: usize| words[held_word(of_type)] == 1;
     match (first.answer.is_accepted(), second.answer.is_accepted()) {
         (_, true) => {
             let all = spans(second_table, root, &second.list());

@@ -7,7 +7,7 @@ use crate::bim;
 use crate::call::{Read, Write};
 use crate::model::{bits5, bits_of, bytes_of, count_bits, groups, value_bits, width};
 use crate::rng::Rng;
-use crate::rows::{choice, complex, element, occurs, sequence, simple, Rows, NOTHING};
+use crate::rows::{choice, complex, element, held_word, occurs, sequence, simple, Rows, NOTHING};
 use crate::table::{Particle, Table};
 
 /// The costs from here on are as good as endless.
@@ -25,16 +25,9 @@ const KINDS: [u32; 7] =
     [bim::ELEMENT, bim::ELEMENT, bim::SEQUENCE, bim::SEQUENCE, bim::CHOICE, bim::OCCURS, bim::OCCURS];
 
 /// Simple kinds, those with parameters or texts more often.
+#[rustfmt::skip]
 const SIMPLE_KINDS: [u32; 9] = [
-    bim::BOOLEAN,
-    bim::RANGED,
-    bim::RANGED,
-    bim::UNSIGNED,
-    bim::SIGNED,
-    bim::ENUMERATION,
-    bim::TEXT,
-    bim::TEXT,
-    bim::FLOAT,
+    bim::BOOLEAN, bim::RANGED, bim::RANGED, bim::UNSIGNED, bim::SIGNED, bim::ENUMERATION, bim::TEXT, bim::TEXT, bim::FLOAT,
 ];
 
 /// Words that lie at some limit.
@@ -42,6 +35,11 @@ const EDGES: [u32; 28] = [
     0, 1, 2, 3, 4, 5, 6, 7, 8, 15, 16, 63, 64, 65, 256, 257, 1024, 1025, 4095, 4096, 65_535, 65_536, 65_537,
     0x1000_0000, 0x7fff_ffff, 0x8000_0000, 0xffff_fffe, 0xffff_ffff,
 ];
+
+/// So many bits.
+pub fn any_bits(rng: &mut Rng, count: usize) -> Vec<bool> {
+    (0..count).map(|_| rng.one_in(2)).collect()
+}
 
 /// A word that is often at a limit.
 pub fn edge_word(rng: &mut Rng) -> u32 {
@@ -171,7 +169,7 @@ pub fn let_go(rng: &mut Rng, words: &[u32], times: usize) -> Vec<u32> {
     let mut words = words.to_vec();
     for of_type in 0..words[1] as usize {
         if rng.one_in(times) {
-            words[bim::HEADER + bim::TYPE_ROW * of_type] = 0;
+            words[held_word(of_type)] = 0;
         }
     }
     words

@@ -14,6 +14,11 @@ pub struct Rows {
     pub particles: Vec<[u32; 4]>,
 }
 
+/// Where the held mark of a type stands.
+pub const fn held_word(of_type: usize) -> usize {
+    bim::HEADER + bim::TYPE_ROW * of_type
+}
+
 /// A type of no content and no attributes.
 pub const NOTHING: [u32; 7] = [1, bim::EMPTY, 0, 0, 0, 0, 0];
 

@@ -2,6 +2,7 @@
 
 use peer::cases;
 use peer::demands::{named, Tally};
+use peer::vectors::renewed;
 
 #[test]
 fn every_named_case_gives_its_answer() {
@@ -26,4 +27,18 @@ fn names_are_told_apart() {
     names.sort();
     names.dedup();
     assert_eq!(names.len(), count);
+}
+
+#[test]
+fn vectors_adds_what_is_computed_and_leaves_answers_alone() {
+    let asked = "# for the eye\ncase x\ntable 1 1 0 0 1 1 0 0 0 0 0\nroot 1 0\nbits 00001111 1\nrooms 12 0\n";
+    let given = format!("{asked}answer 0 0 0 3 0 9\nend\n");
+    let whole = given
+        .replace("rooms", "payload 0f80\nrooms")
+        .replace("end", "event 1 1 0 0\nevent 3 1 0 1\nevent 6 0 0 0\ntexts -\nend");
+    assert_eq!(renewed(&given), Ok(whole.clone()));
+    assert_eq!(renewed(&whole), Ok(whole));
+    assert!(renewed(&format!("{asked}answer 5 8 0 0 0 0\npath 1\nend\n")).is_err());
+    assert!(renewed("case x\nend\n").is_err());
+    assert_eq!(renewed("width 5 = 7\n"), Ok("width 5 = 3\n".to_string()));
 }

@@ -3,7 +3,7 @@
 
 use super::bench::Lent;
 use crate::bim;
-use crate::gen::edge_word;
+use crate::gen::{any_bits, edge_word};
 use crate::lent::{self, Coding};
 use crate::model::{bits5, bits_of, bytes_of, groups};
 use crate::rng::Rng;
@@ -57,7 +57,7 @@ impl BitBench<'_> {
             _ => Coding::Eight,
         };
         let (at, behind) = (rng.below(12), rng.below(12));
-        let bits = [noise(rng, at), code(rng, coding), noise(rng, behind)].concat();
+        let bits = [any_bits(rng, at), code(rng, coding), any_bits(rng, behind)].concat();
         let bytes = bytes_of(&bits);
         // Junk lies around the bytes, so that one bit too many shows.
         let held = Lent::holding(&mut self.junk, &bytes);
@@ -145,18 +145,14 @@ fn name(coding: Coding) -> &'static str {
     }
 }
 
-fn noise(rng: &mut Rng, count: usize) -> Vec<bool> {
-    (0..count).map(|_| rng.one_in(2)).collect()
-}
-
 /// The bits of a code of this kind: the shortest, a longer one, too long a one, or any bits.
 fn code(rng: &mut Rng, coding: Coding) -> Vec<bool> {
     let value = u64::from(edge_word(rng));
     match coding {
-        Coding::Fixed(width) => noise(rng, width as usize),
+        Coding::Fixed(width) => any_bits(rng, width as usize),
         Coding::Five => match rng.below(6) {
-            0 => [vec![true; rng.within(6, 10)], noise(rng, 40)].concat(),
-            1 => noise(rng, 48),
+            0 => [vec![true; rng.within(6, 10)], any_bits(rng, 40)].concat(),
+            1 => any_bits(rng, 48),
             2 => bits5(value, rng.within(groups(value), 8)),
             _ => bits5(value, groups(value)),
         },

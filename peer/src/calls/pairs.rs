@@ -6,6 +6,7 @@ use crate::bim;
 use crate::demands::{element_types, judge_pair, Pair};
 use crate::gen::{self, let_go, table_and_sample, Sample};
 use crate::rng::Rng;
+use crate::rows::held_word;
 use crate::words::big_endian;
 use std::panic::{catch_unwind, AssertUnwindSafe};
 
@@ -104,7 +105,7 @@ fn judged(
 
 /// Where the held marks of a table stand.
 fn marks(table: &[u32]) -> impl Iterator<Item = usize> {
-    (0..table[1] as usize).map(|of_type| bim::HEADER + bim::TYPE_ROW * of_type)
+    (0..table[1] as usize).map(held_word)
 }
 
 /// A table and a sample, mostly of more elements than its root.
@@ -124,8 +125,7 @@ fn holds_less(rng: &mut Rng, table: &[u32], types: &[usize]) -> Vec<u32> {
     let times = rng.within(3, 12);
     let mut less = let_go(rng, table, times);
     let held: Vec<_> = marks(table).filter(|&at| table[at] == 1).collect();
-    let wanted: Vec<_> =
-        types.iter().map(|of_type| bim::HEADER + bim::TYPE_ROW * of_type).filter(|at| held.contains(at)).collect();
+    let wanted: Vec<_> = types.iter().map(|&of_type| held_word(of_type)).filter(|at| held.contains(at)).collect();
     if !wanted.is_empty() && !rng.one_in(4) {
         less[rng.pick(&wanted)] = 0;
     } else if less == table && !held.is_empty() {

@@ -1,4 +1,4 @@
-//! The C calls of target/staticlib/libhost.a, as include/bim.h declares them.
+//! The proved C calls, as include/bim.h declares them; build.rs names the archive that they are linked from.
 //!
 //! SAFETY, of every call below: the archive's functions are proved safe for all arguments of their types, with no
 //! `requires`; a slice passes as its pointer and its length, and no two of them overlap.

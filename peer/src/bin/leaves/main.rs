@@ -8,44 +8,60 @@ mod tables;
 mod texts;
 mod writes;
 
+use peer::bim;
 use peer::program::{count_and_seed, status, usage};
 use peer::rng::Rng;
 use peer::tally::{Numbers, Tally};
+use proved::OUTSIDE;
 use std::process::ExitCode;
 use std::time::Instant;
 
-/// Every number that a leaf can answer.
-const NUMBERS: [Numbers; 30] = [
-    ("any5", &[0, 5, 13, 99]),
-    ("any8", &[0, 5, 13, 99]),
-    ("attribute", &[0, 1]),
-    ("bit", &[0, 99]),
-    ("byte", &[0, 99]),
-    ("choice", &[0, 5, 14, 99]),
-    ("content", &[0, 1, 2]),
-    ("fixed", &[0, 5, 13, 99]),
-    ("gap", &[0, 1]),
-    ("held", &[0, 1]),
-    ("number", &[0, 5, 12, 13, 99]),
-    ("particle", &[0, 1, 2, 3]),
-    ("put", &[0, 99]),
-    ("put5", &[0, 99]),
-    ("put8", &[0, 20, 99]),
-    ("put_bytes", &[0, 99]),
-    ("put_range", &[0, 20, 99]),
-    ("put_simple", &[0, 20, 99]),
-    ("put_times", &[0, 20, 99]),
-    ("range", &[0, 5, 12, 13, 14, 99]),
-    ("simple", &[0, 5, 12, 13, 14, 15, 16, 99]),
-    ("size_range", &[0, 20]),
-    ("size_simple", &[0, 20]),
-    ("size_times", &[0, 20]),
-    ("table", &[0, 1]),
-    ("text_fault", &[0, 16, 99]),
-    ("times", &[0, 5, 12, 13, 14, 99]),
-    ("utf8", &[0, 16]),
-    ("vlu5", &[0, 5, 12, 13, 99]),
-    ("vlu8", &[0, 5, 12, 13, 99]),
+/// A code of a fixed width, or a number in any form.
+const FIXED: &[u32] = &[bim::ACCEPTED, bim::PAST_END, bim::TOO_LARGE, OUTSIDE];
+/// A number in shortest form.
+const SHORTEST: &[u32] = &[bim::ACCEPTED, bim::PAST_END, bim::NOT_SHORTEST, bim::TOO_LARGE, OUTSIDE];
+/// A number in shortest form, or one of several choices, as the row has it.
+const ROW: &[u32] = &[bim::ACCEPTED, bim::PAST_END, bim::NOT_SHORTEST, bim::TOO_LARGE, bim::NO_SUCH_CODE, OUTSIDE];
+/// A code written or a bit read, which has room or has not.
+const PUT: &[u32] = &[bim::ACCEPTED, OUTSIDE];
+/// A code of a row written, and its size.
+const PUT_ROW: &[u32] = &[bim::ACCEPTED, bim::OUTSIDE_ROW, OUTSIDE];
+const SIZE: &[u32] = &[bim::ACCEPTED, bim::OUTSIDE_ROW];
+const YES_NO: &[u32] = &[0, 1];
+
+/// Every number that a leaf can answer; of a row's leaf, its kind.
+const NUMBERS: [Numbers; 31] = [
+    ("any5", FIXED),
+    ("any8", FIXED),
+    ("attribute", YES_NO),
+    ("bit", PUT),
+    ("byte", PUT),
+    ("choice", &[bim::ACCEPTED, bim::PAST_END, bim::NO_SUCH_CODE, OUTSIDE]),
+    ("content", &[bim::EMPTY, bim::SIMPLE, bim::PARTICLES]),
+    ("fixed", FIXED),
+    ("gap", YES_NO),
+    ("held", YES_NO),
+    ("number", SHORTEST),
+    ("particle", &[bim::ELEMENT, bim::SEQUENCE, bim::CHOICE, bim::OCCURS]),
+    ("put", PUT),
+    ("put5", PUT),
+    ("put8", PUT_ROW),
+    ("put_bytes", PUT),
+    ("put_range", PUT_ROW),
+    ("put_simple", PUT_ROW),
+    ("put_times", PUT_ROW),
+    ("range", ROW),
+    ("simple", ROW),
+    ("simple", &[bim::MINUS_ZERO, bim::NOT_UTF8]),
+    ("size_range", SIZE),
+    ("size_simple", SIZE),
+    ("size_times", SIZE),
+    ("table", &[bim::ACCEPTED, bim::TABLE]),
+    ("text_fault", &[bim::ACCEPTED, bim::NOT_UTF8, OUTSIDE]),
+    ("times", ROW),
+    ("utf8", &[bim::ACCEPTED, bim::NOT_UTF8]),
+    ("vlu5", SHORTEST),
+    ("vlu8", SHORTEST),
 ];
 
 fn main() -> ExitCode {

@@ -1,4 +1,4 @@
-//! The proved leaves of target/staticlib/libprobe.a, each as a safe function.
+//! The proved leaves, each as a safe function; build.rs names the archive that they are linked from.
 //!
 //! SAFETY, of every call below: the archive's functions are proved safe for all arguments of their types, with no
 //! `requires`; a slice passes as its pointer and its length, and an answer as four words.

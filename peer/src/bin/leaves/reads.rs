@@ -5,7 +5,7 @@ use crate::texts;
 use peer::bim;
 use peer::bits::fixed;
 use peer::codes::{self, Reading, Taken};
-use peer::gen::edge_word;
+use peer::gen::{any_bits, edge_word};
 use peer::model::{bits5, bits_of, bytes_of, groups};
 use peer::rng::Rng;
 use peer::tally::Tally;
@@ -35,13 +35,13 @@ struct Pattern {
 impl Pattern {
     fn new(rng: &mut Rng, code: &[bool]) -> Self {
         let at = rng.below(18);
-        let mut bits = noise(rng, at);
+        let mut bits = any_bits(rng, at);
         bits.extend(code);
         let stop = bits.len();
         let behind = rng.below(20);
-        bits.extend(noise(rng, behind));
+        bits.extend(any_bits(rng, behind));
         let last = bits.len().next_multiple_of(8) - bits.len();
-        bits.extend(noise(rng, last));
+        bits.extend(any_bits(rng, last));
         Pattern { payload: bytes_of(&bits), at, stop }
     }
 
@@ -94,10 +94,6 @@ fn pick(rng: &mut Rng, words: &[u32]) -> u32 {
     }
 }
 
-fn noise(rng: &mut Rng, count: usize) -> Vec<bool> {
-    (0..count).map(|_| rng.one_in(2)).collect()
-}
-
 /// Now and then one bit of the code is turned.
 fn damaged(rng: &mut Rng, mut code: Vec<bool>) -> Vec<bool> {
     if !code.is_empty() && rng.one_in(6) {
@@ -111,8 +107,8 @@ fn damaged(rng: &mut Rng, mut code: Vec<bool>) -> Vec<bool> {
 fn five(rng: &mut Rng, value: u32) -> Vec<bool> {
     let least = groups(u64::from(value));
     let code = match rng.below(12) {
-        0 => [vec![true; rng.within(6, 10)], noise(rng, 40)].concat(),
-        1 => noise(rng, 48),
+        0 => [vec![true; rng.within(6, 10)], any_bits(rng, 40)].concat(),
+        1 => any_bits(rng, 48),
         2 | 3 => bits5(u64::from(value), rng.within(least, 8)),
         _ => bits5(u64::from(value), least),
     };
@@ -136,7 +132,7 @@ fn taken(read: Taken) -> (u32, usize, u32) {
 
 fn fixed_width(rng: &mut Rng, tally: &mut Tally) {
     let width = rng.below(36);
-    let code = noise(rng, width);
+    let code = any_bits(rng, width);
     let width = width as u32;
     let pattern = Pattern::new(rng, &code);
     if width > 32 {
@@ -325,16 +321,16 @@ pub fn simple_row(rng: &mut Rng) -> (u32, u32, u32) {
 
 fn value_code(rng: &mut Rng, kind: u32, b: u32, c: u32) -> Vec<bool> {
     match kind {
-        bim::BOOLEAN => noise(rng, 1),
+        bim::BOOLEAN => any_bits(rng, 1),
         bim::RANGED => range_code(rng, b as i32, c as i32),
         bim::SIGNED => {
             let magnitude = pick(rng, &[0, 1, (1 << 31) - 1, 1 << 31, (1 << 31) + 1, u32::MAX]);
-            let sign = noise(rng, 1);
+            let sign = any_bits(rng, 1);
             [sign, five(rng, magnitude)].concat()
         }
         bim::ENUMERATION => index(rng, b),
         bim::TEXT => text_code(rng),
-        bim::FLOAT => noise(rng, 32),
+        bim::FLOAT => any_bits(rng, 32),
         _ => {
             let value = edge_word(rng);
             five(rng, value)

@@ -75,9 +75,9 @@ fn rows(tally: &mut Tally, words: &[u32], table: &Table<'_>) {
         let held = u32::from(of_type.held);
         tally.hold("held", held, proved::held(words, row), held, || shown("type", row));
         let expected = match of_type.content {
-            bim::EMPTY => (0, [0; 4]),
-            bim::SIMPLE => (1, [of_type.a, of_type.b, of_type.c, 0]),
-            _ => (2, [of_type.a, 0, 0, 0]),
+            bim::EMPTY => (bim::EMPTY, [0; 4]),
+            bim::SIMPLE => (bim::SIMPLE, [of_type.a, of_type.b, of_type.c, 0]),
+            _ => (bim::PARTICLES, [of_type.a, 0, 0, 0]),
         };
         tally.hold("content", expected.0, proved::content(words, row), expected, || shown("type", row));
         let expected = (0, [of_type.first_attribute as u32, of_type.attributes as u32, 0, 0]);
@@ -92,10 +92,10 @@ fn rows(tally: &mut Tally, words: &[u32], table: &Table<'_>) {
     }
     for row in 0..table.particles() {
         let expected = match table.particle_row(row) {
-            Particle::Element { name, of_type } => (0, [name, of_type as u32, 0, 0]),
-            Particle::Sequence { first, number } => (1, [first as u32, number as u32, 0, 0]),
-            Particle::Choice { first, number } => (2, [first as u32, number as u32, 0, 0]),
-            Particle::Occurs { child, least, most } => (3, [child as u32, least, most, 0]),
+            Particle::Element { name, of_type } => (bim::ELEMENT, [name, of_type as u32, 0, 0]),
+            Particle::Sequence { first, number } => (bim::SEQUENCE, [first as u32, number as u32, 0, 0]),
+            Particle::Choice { first, number } => (bim::CHOICE, [first as u32, number as u32, 0, 0]),
+            Particle::Occurs { child, least, most } => (bim::OCCURS, [child as u32, least, most, 0]),
         };
         tally.hold("particle", expected.0, proved::particle(words, row), expected, || shown("particle", row));
     }

@@ -1,6 +1,7 @@
 //! Texts: every kind of damage at every place and every alignment.
 
 use crate::proved::{self, Answer, OUTSIDE};
+use peer::gen::any_bits;
 use peer::model::{bits_of, bytes_of};
 use peer::rng::Rng;
 use peer::tally::Tally;
@@ -83,10 +84,10 @@ fn ask(rng: &mut Rng, tally: &mut Tally, text: &[u8]) {
     tally.hold("utf8", fault, proved::utf8(text), fault, || format!("{text:02x?}"));
     for shift in 0..8 {
         let at = 8 * rng.below(3) + shift;
-        let mut bits: Vec<_> = (0..at).map(|_| rng.one_in(2)).collect();
+        let mut bits = any_bits(rng, at);
         bits.extend(text.iter().flat_map(|byte| bits_of(u64::from(*byte), 8)));
         let behind = rng.below(20);
-        bits.extend((0..behind).map(|_| rng.one_in(2)));
+        bits.extend(any_bits(rng, behind));
         let payload = bytes_of(&bits);
         let most = (8 * payload.len() - at) / 8;
         for count in [text.len(), rng.below(text.len() + 1), most, most + 1, u32::MAX as usize] {
