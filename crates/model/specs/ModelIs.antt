@@ -8,7 +8,7 @@ use mathlib.Core.List.{List, [], _∷_, _++_, map, append-nil, map-append}
 use native.Mathlib.Omega.{arith}
 use lib.ListN.{length, length-append, List·getD-eq-default}
 use Rattle.signed.specs.Laws.{ordered}
-use Rattle.table.specs.Rows.{Row, Attribute, Table, rowFrom, rowAt, rowOf, contentOf, attributesOf, tableOf}
+use Rattle.table.specs.Rows.{Row, Attribute, Table, rowFrom, rowAt, rowOf, contentOf, attributeType, firstOf, attributesOf, tableOf}
 use Rattle.table.specs.Rows as rows
 use Rattle.table.specs.First.Verdict.{right}
 use Rattle.table.specs.Valid.{verdict}
@@ -54,10 +54,14 @@ ContentFine (rows.Content.particles i) = Unit {0}
 abbrev pub AttributeFine : Attribute → Type 0
 AttributeFine a = KindFine (a .kind) (a .b)
 
+abbrev pub AllFine : List Attribute → Type 0
+AllFine [] = Unit {0}
+AllFine (a ∷ l) = AttributeFine a × AllFine l
+
 pub record Bounded (T : Table) : Type 0 where
   pub rows : (p : ℕ) → RowFine (T .types) (T .row p)
   pub contents : (t : ℕ) → t < T .types → ContentFine (T .content t)
-  pub attributes : (t : ℕ) → t < T .types → Each AttributeFine (T .attributes t)
+  pub attributes : (t : ℕ) → t < T .types → AllFine (T .attributes t)
 
 kind-fine : {kind b c : ℕ} → SimpleOk kind b c → KindFine kind b
 kind-fine h e = h .values e .1
@@ -73,9 +77,9 @@ content-fine P rows.Content.empty h = tt
 content-fine P (rows.Content.simple kind b c) h = kind-fine h
 content-fine P (rows.Content.particles i) h = tt
 
-each-fine : (l : List Attribute) → Each AttributeOk l → Each AttributeFine l
-each-fine [] h = tt
-each-fine (a ∷ l) h = (kind-fine (h .0 .value), each-fine l (h .1))
+all-fine : (T : Table) (types : ℕ → ℕ) (i : ℕ) (l : List Attribute) → Each (λ a. AttributeOk T (types a)) i l → AllFine l
+all-fine T types i [] h = tt
+all-fine T types i (a ∷ l) h = (kind-fine (h .0 .value), all-fine T types (i + 1) l (h .1))
 
 -- past the last row there are zeros: an element of type 0
 row-past : (l : List ℕ) → verdict l ≡ right → (p : ℕ) → particlesIn l ≤ p → RowFine (typesIn l) (rowOf l p)
@@ -94,7 +98,7 @@ right-bounded l r = record {
       (λ h. row-fine (typesIn l) (particlesIn l) p (rowOf l p) (row-ok l r p h))
       (λ h. row-past l r p h);
   contents = λ t h. content-fine (particlesIn l) (contentOf l t) (content-ok l r t h);
-  attributes = λ t h. each-fine (attributesOf l t) (attributes-ok l r t h);
+  attributes = λ t h. all-fine (tableOf l) (attributeType l) (firstOf l t) (attributesOf l t) (attributes-ok l r t h);
 }
 
 -- a head has few bits
@@ -264,7 +268,7 @@ module _ (mode : Mode) (held : ℕ → Bool) where
     Fine (children first n) = Unit {0}
     Fine (repeats c n) = Unit {0}
     Fine (inside t) = t < T .types
-    Fine (attributes l) = Each AttributeFine l
+    Fine (attributes l) = AllFine l
     Fine (content c) = ContentFine c
 
     -- one row, then others

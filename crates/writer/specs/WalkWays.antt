@@ -32,6 +32,7 @@ use Rattle.model.specs.OutLaws.{unlike-none, Says, gives, taken-says, coded-say
 use Rattle.model.specs.ItemOut.{item-written, picked-value}
 use Rattle.model.specs.WriteSteps as steps
 use Rattle.model.specs.Whole.{eventAt}
+use Rattle.model.specs.Named.{item-out-named}
 use Rattle.notes.specs.declared.Cursor.{Cursor}
 use Rattle.notes.specs.declared.Step.{Step}
 use Rattle.notes.specs.declared.Step.the-variants.{Go, Refuse}
@@ -290,7 +291,7 @@ picked-below L X c N n v z r M h e w =
     let E = eventAt L (c .event) in
     let T = textsAt X (c .used) in
     let says : Says (λ w A U. v < n) (noted (asItem (picked n) E) (itemOut (picked n) (wordOf (picked n) E) T) (eventsAt L (c .event))) =
-    taken-says (λ e. asItem (picked n) E) (eventsAt L (c .event)) _ (λ f A m g. coded-says (itemOut (picked n) (wordOf (picked n) E) T) (suc (length A)) _ (item-written (picked n) E T) (λ a p. gives (rw z (picked-value n (p .is))))) in
+    taken-says (λ e. asItem (picked n) E) (eventsAt L (c .event)) _ (λ f A m g. coded-says (itemOut (picked n) (wordOf (picked n) E) T) (suc (length A)) _ (item-written (picked n) E T) (item-out-named (picked n) (wordOf (picked n) E) T) (λ a p. gives (rw z (picked-value n (p .is))))) in
     says .says _ _ _ (sym (alone-noted L (c .event) (picked n) T) ∙ went h e w .out)
 
 module _ (L X : List ℕ) (c : Cursor) (N : List ℕ) (t : List ℕ) (mode d : ℕ) (v : ℕ) (z : v ≡ getD L (4 * c .event + 1) 0) (r : Step) (M : List ℕ) where
