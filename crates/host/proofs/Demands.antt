@@ -1,4 +1,6 @@
 -- THE THREE DEMANDS, of the calls that a host makes: the statements of specs/Demands.antt, proved.
+use Rattle.words.specs.Bytes.{wordsOf}
+use Rattle.model.specs.ValidModel.{valid-model}
 use Rattle.host.specs.Demands.{Demand1, Demand2, Demand3}
 use Rattle.host.proofs.AreaBack.{area-fetches, area-one}
 use Rattle.host.proofs.Demand1.{check-answered, read-answered, write-answered, bits-answered}
@@ -19,6 +21,7 @@ pub demand2 : Demand2
 demand2 = record {
   accepts-only = accepts-only;
   accepts-all = accepts-all;
+  valid-by-table = λ t name type mode E X. valid-model (wordsOf t) name type mode (wordsOf E) X;
   writes-only = writes-only;
   writes-all = writes-all;
   writes-back = writes-back;

@@ -5,6 +5,7 @@
 -- is accepted with it.
 use Prim.Native.Nat.{ℕ, _+_, _*_, _/_, _%_, _≤_, _<_, min}
 use mathlib.Core.Path.{_≡_}
+use mathlib.Core.Logic.{_↔_}
 use mathlib.Core.Bool.{Bool, true}
 use mathlib.Core.List.{List, [], _∷_, map, reverse}
 use mathlib.Core.Option.{Option, none, some}
@@ -16,7 +17,9 @@ use Rattle.words.specs.Bytes.{wordsOf, bytesOf, wordFrom, halfFrom}
 use Rattle.model.specs.Model.{Mark, Nodes, Path, events, texts}
 use Rattle.model.specs.Items.{Mode}
 use Rattle.model.specs.Trees.{total}
+use Rattle.model.specs.Write.{bare}
 use Rattle.model.specs.Content.{Model, row}
+use Rattle.model.specs.ValidModel.{Follows}
 use Rattle.model.specs.Blanks.{Exact}
 use Rattle.model.specs.Less.{outermost, replaced, firstBare}
 use Rattle.model.specs.Open.{Excuse}
@@ -119,7 +122,7 @@ pub record Reads (t : List ℕ) (name type : ℕ) (s : List ℕ) (e x : ℕ) : T
   pub shows : readCall t name type s e x 152 ≡ shown e x mode tree used
   -- content models and occurrence bounds; Blanks of types that are not held, elements of types that are; true bit
   -- counts
-  pub follows : Model (tableOf (wordsOf t)) (row (Row.element name type)) (events tree)
+  pub follows : Model (tableOf (wordsOf t)) mode (heldOf (wordsOf t)) 64 (row (Row.element name type)) (map bare (events tree)) (texts tree)
   pub blanks : Exact (heldOf (wordsOf t)) tree
   pub counts : 8 + total (events tree) ≡ used
 
@@ -149,6 +152,9 @@ pub record Demand2 : Type 0 where
       → Reads t name type s e x
   pub accepts-all : (t : List ℕ) (name type : ℕ) (s : List ℕ) (e x : ℕ) (mode : Mode) (tree : Nodes) (used : ℕ)
       → Reading t name type s e x mode tree used → readCall t name type s e x 152 ≡ shown e x mode tree used
+  -- a list is valid exactly when, by the table alone, it follows the content models and has no Blank
+  pub valid-by-table : (t : List ℕ) (name type : ℕ) (mode : Mode) (E X : List ℕ)
+      → Valid (wordsOf t) name type mode (wordsOf E) X ↔ Follows (wordsOf t) name type mode (wordsOf E) X
   -- what is written reads back, and every valid list is written, given room
   pub writes-only : (t : List ℕ) (name type n : ℕ) (E X : List ℕ) (room : ℕ)
       → writeCall t name type n E X room 152 .number ≡ 0 → Writes t name type n E X room
