@@ -1,4 +1,4 @@
--- What a written code leaves: its bits and the place past them; or 20, where the value does not fit, and the buffer as it was.
+-- What a written code leaves: its bits and the place past them; or outsideRow, where the value does not fit, and the buffer as it was.
 use Prim.Native.Nat.{ℕ, zero, suc, _+_, _-_, _*_, _^_, _<_, _≤_, min}
 use mathlib.Core.Path.{_≡_, refl, sym, ap, subst, _∙_}
 use mathlib.Core.Bool.{Bool, true, false}

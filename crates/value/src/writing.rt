@@ -4,6 +4,7 @@ use super::Inner;
 use super::Size;
 use super::octets::lay;
 use super::octets::lay_slanted;
+use numbers::refusal;
 use signed::lowered;
 use signed::magnitude;
 use wire::Bits;
@@ -24,7 +25,7 @@ ghost use Rattle.value.specs.Simple.{bytes};
 ghost use Rattle.value.specs.Answer.{innerIs, codeIs, sizeIs, Under};
 ghost use Rattle.value.specs.Written.{WroteCode};
 
-// The size of a code that another holds, or 20.
+// The size of a code that another holds, or OUTSIDE_ROW.
 fn inner_size(i: Inner, v: u32) -> Size
     ensures { λ r. ⌜ (sizeIs r ≡ sizeOut (innerIs i) v) × Under 40 r ⌝ }
 {
@@ -34,13 +35,13 @@ fn inner_size(i: Inner, v: u32) -> Size
                 let w = Bits(width(n));
                 return Size::Takes(w);
             }
-            Size::Refuse(20)
+            Size::Refuse(refusal::OUTSIDE_ROW)
         }
         Inner::Five(most) => {
             if v <= most {
                 return Size::Takes(size5(v));
             }
-            Size::Refuse(20)
+            Size::Refuse(refusal::OUTSIDE_ROW)
         }
     }
 }
@@ -62,7 +63,7 @@ fn some_size(i: Inner, v: u32) -> Size
     }
 }
 
-// How many bits a code takes for a value, or 20.
+// How many bits a code takes for a value, or OUTSIDE_ROW.
 pub fn size(c: Code, v: u32) -> Size
     ensures { λ r. ⌜ (sizeIs r ≡ sizeOut (codeIs c) v) × Under 41 r ⌝ }
 {
@@ -83,7 +84,7 @@ pub fn size(c: Code, v: u32) -> Size
     }
 }
 
-// A code that another holds, and the place past it; or 20, and nothing is written.
+// A code that another holds, and the place past it; or OUTSIDE_ROW, and nothing is written.
 fn put_inner(buf: &mut [u8], at: Bits, i: Inner, v: u32) -> Read
     requires { ⌜ Room (now buf) (at .0) (length (bitsOf (innerIs i) v)) ⌝ }
     ensures { λ r. ⌜ WroteCode (now (buf .entry)) (now (buf .exit)) (at .0) (innerIs i) v r ⌝ }
@@ -91,14 +92,14 @@ fn put_inner(buf: &mut [u8], at: Bits, i: Inner, v: u32) -> Read
     match i {
         Inner::Choice(n) => {
             if n <= v {
-                return Read::Refuse(20);
+                return Read::Refuse(refusal::OUTSIDE_ROW);
             }
             let p = put(buf, at, width(n), v);
             Read::Value(v, p)
         }
         Inner::Five(most) => {
             if most < v {
-                return Read::Refuse(20);
+                return Read::Refuse(refusal::OUTSIDE_ROW);
             }
             let p = put5(buf, at, v);
             Read::Value(v, p)

@@ -9,6 +9,7 @@ use native.Mathlib.Decide.{decLt, ℕ-discrete}
 use lib.ListN.{length, getD, set, length-append}
 use lib.Seq.{getD-set-same, getD-set-other, ext-getD}
 use lib.Pow.{pow-pos, shl-exact}
+use Rattle.numbers.specs.Refusal.{outsideRow}
 use Rattle.wire.specs.declared.Read.{Read}
 use Rattle.wire.specs.declared.Read.the-variants as read
 use Rattle.wire.specs.Bits.{bitAt, digits, Has}
@@ -33,7 +34,7 @@ pub record Wrote (s t : List ℕ) (at : ℕ) (l : List ℕ) (p : ℕ) : Type 0 w
 -- a vluimsbf8 is written whole; or it would take a third byte, and nothing is
 abbrev pub Wrote8 : List ℕ → List ℕ → ℕ → ℕ → Read → Type 0
 Wrote8 s t at v (read.Value u p) = (u ≡ v) × (v < 16384) × Wrote s t at (code8 v) (p .0)
-Wrote8 s t at v (read.Refuse e) = (e ≡ 20) × (16384 ≤ v) × (t ≡ s)
+Wrote8 s t at v (read.Refuse e) = (e ≡ outsideRow) × (16384 ≤ v) × (t ≡ s)
 
 pub put-none : (b : ℕ → ℕ) (at : ℕ) → Put b b at []
 put-none b at = record { stands = tt; before = λ j h. refl; after = λ j h. refl }
