@@ -4,6 +4,7 @@ use mathlib.Core.Path.{_≡_, ap}
 use mathlib.Core.List.{List, _∷_}
 use native.Mathlib.Omega.{arith}
 use lib.ListN.{length}
+use Rattle.numbers.specs.Kind as kinds
 use Rattle.wire.specs.Bits.{source}
 use Rattle.wire.specs.BitLaws.{At}
 use Rattle.table.specs.Rows.{Attribute, Table}
@@ -31,5 +32,5 @@ item-own i w {v} {v′} {ts} {ts′} h k =
     record { values = e; texts = ap (λ (r : ℕ × List ℕ × ℕ). r .1) z; events = ap (λ (x : ℕ). eventOf i x (length w)) e }
 
 -- an absent attribute has no Value: after its event come the events of the attributes after it
-pub absent-no-value : {T : Table} {a : Attribute} {l : List Attribute} {n : ℕ} {L : List Event} → Model T (attributes (a ∷ l)) (event 2 (a .name) 0 n ∷ L) → Model T (attributes l) L
+pub absent-no-value : {T : Table} {a : Attribute} {l : List Attribute} {n : ℕ} {L : List Event} → Model T (attributes (a ∷ l)) (event kinds.attribute (a .name) 0 n ∷ L) → Model T (attributes l) L
 absent-no-value (Model.absent e m) = m
