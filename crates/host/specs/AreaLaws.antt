@@ -1,4 +1,4 @@
--- The names that an array and a count are, and that an area has 152 bytes.
+-- The names that an array and a count are, and how many bytes an area has.
 use Prim.Native.Nat.{ℕ, zero, suc, _-_, _≤_, _<_}
 use mathlib.Core.Path.{_≡_, refl, _∙_}
 use mathlib.Core.List.{List, [], _∷_}
@@ -6,6 +6,7 @@ use native.Mathlib.Omega.{arith}
 use native.Mathlib.Decide.{ℕ-discrete}
 use lib.ListN.{length, getD, length-append, length-replicate, List·getD-append}
 use lib.Seq.{getD-at}
+use Rattle.numbers.specs.Limit.{mostNames}
 use Rattle.reader.specs.Answers.{firstNames}
 use Rattle.model.specs.Whole.{Outcome, filled}
 use Rattle.words.specs.Bytes.{bytesOf, namesOf}
@@ -25,8 +26,8 @@ first-at l (suc n) i h = elim (ℕ-discrete i n) [
   | no e ↦ List·getD-append (firstNames l n) (getD l n 0 ∷ []) 0 i (omega (arith, first-length l n)) ∙ first-at l n i (omega arith)
 ]
 
-pub area-length : (o : Outcome) → length (o .path) ≤ 64 → length (areaOf o) ≡ areaBytes
+pub area-length : (o : Outcome) → length (o .path) ≤ mostNames → length (areaOf o) ≡ areaBytes
 unfolding areaOf filled
 area-length o h =
-    length-append (bytesOf (areaWords o)) (namesOf (filled 64 (o .path)))
-    ∙ omega (arith, bytes-length (areaWords o), names-length (filled 64 (o .path)), length-append (o .path) (lib.ListN.replicate (64 - length (o .path)) 0), length-replicate {A = ℕ} (64 - length (o .path)) 0)
+    length-append (bytesOf (areaWords o)) (namesOf (filled mostNames (o .path)))
+    ∙ omega (arith, bytes-length (areaWords o), names-length (filled mostNames (o .path)), length-append (o .path) (lib.ListN.replicate (mostNames - length (o .path)) 0), length-replicate {A = ℕ} (mostNames - length (o .path)) 0)

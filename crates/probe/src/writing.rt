@@ -4,6 +4,7 @@ use super::accepted;
 use super::reach;
 use super::refused;
 use super::told;
+use numbers::limit;
 use value::Code;
 use value::Form;
 use value::Inner;
@@ -73,7 +74,7 @@ pub extern "C" fn probe_put8(buf: &mut [u8], at: u32, v: u32, out: &mut [u32; 4]
 fn number_of(kind: u32, b: u32, c: u32) -> Code {
     match simple(kind, b, c) {
         Form::Number(code) => code,
-        Form::Text => Code::Plain(Inner::Five(4095)),
+        Form::Text => Code::Plain(Inner::Five(limit::MOST_TEXT)),
     }
 }
 
