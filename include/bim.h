@@ -36,18 +36,31 @@
 extern "C" {
 #endif
 
-/* The bytes of an answer area and of an event; the most events, payload bytes, table bytes and open elements there are.
+/* The bytes of an answer area and of an event; the most events, payload bytes, table bytes, rows open at once (elements and particle
+ * rows) and names of a path there are; the greatest word, where places stop.
  * Rooms that are never too small: BIM_MOST_EVENTS * BIM_EVENT bytes for events, BIM_MOST_PAYLOAD bytes for texts and for a payload. */
 #define BIM_AREA 152
 #define BIM_EVENT 16
 #define BIM_MOST_EVENTS 2048
 #define BIM_MOST_PAYLOAD 8192
 #define BIM_MOST_TABLE 35856
+#define BIM_MOST_OPEN 64
 #define BIM_MOST_NAMES 64
+#define BIM_MOST_WORD 4294967295
 
 /* The stack, in bytes, that a call never needs more than. It has no arrays but of fixed length, and calls itself once for each row open, of
  * which there are at most 64. `make stack` measures it, and bounds it by the frames of the machine code (x86-64). */
 #define BIM_STACK 196608
+
+/* Length coding: the mode, and the byte that a payload of that mode begins with. */
+enum {
+    BIM_MODE_NEVER = 0,    /* no element has a length */
+    BIM_MODE_OPTIONAL = 1, /* a flag says whether an element has one */
+    BIM_MODE_ALWAYS = 2,   /* every element has one */
+    BIM_MODE_NEVER_BYTE = 0x0F,
+    BIM_MODE_OPTIONAL_BYTE = 0x4F,
+    BIM_MODE_ALWAYS_BYTE = 0x8F
+};
 
 /* The kinds of an event, and what its words p and q then are (else 0). Its fourth word is the bits that it took. */
 enum {

@@ -34,7 +34,21 @@ enum {
     BIM_CHOICE = 2,   /* first child row, number of child rows */
     BIM_OCCURS = 3    /* child row, least, most */
 };
+/* The most of an occurs row that has no end. */
 #define BIM_UNBOUNDED 65536
+
+/* The most types, attribute rows and particle rows of a table, child rows of a sequence or a choice, values of an enumeration and bytes
+ * of a text; the greatest name, and the greatest count of an occurs row. A range whose ends lie at most BIM_MOST_FIXED apart has a fixed
+ * width, any other a vluimsbf5. */
+#define BIM_MOST_TYPES 256
+#define BIM_MOST_ATTRIBUTES 1024
+#define BIM_MOST_PARTICLES 1024
+#define BIM_MOST_CHILDREN 64
+#define BIM_MOST_VALUES 65536
+#define BIM_MOST_NAME 65535
+#define BIM_MOST_TIMES 65535
+#define BIM_MOST_FIXED 65535
+#define BIM_MOST_TEXT 4095
 
 /* a, b and c: of simple content its kind and parameters; of particles a is their row. */
 struct bim_type {

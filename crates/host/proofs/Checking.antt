@@ -3,6 +3,8 @@ use Prim.Native.Nat.{ℕ}
 use mathlib.Core.Path.{_≡_, sym, ap, _∙_}
 use mathlib.Core.List.{List, []}
 use lib.ListN.{length}
+use Rattle.numbers.specs.Refusal.{areaSize}
+use Rattle.numbers.specs.Limit as limit
 use Rattle.table.specs.First.{Verdict}
 use Rattle.table.specs.Views.{verdictIs}
 use Rattle.table.specs.declared.answers.Verdict as code
@@ -12,11 +14,11 @@ use Rattle.host.specs.Calls.{back, zeros, tableVerdict, judged, checkTab
 use Rattle.host.specs.CallLaws.{unlent, lent-whole}
 
 module _ (t area area′ : List ℕ) where
-  pub check-unlent : (length area ≡ 152 → ⊥) → area′ ≡ zeros (length area) → back 24 area′ [] ≡ checkTable t (length area)
+  pub check-unlent : (length area ≡ limit.area → ⊥) → area′ ≡ zeros (length area) → back areaSize area′ [] ≡ checkTable t (length area)
   unfolding checkTable
-  check-unlent n e = ap (λ (x : List ℕ). back 24 x []) e ∙ sym (unlent (length area) [] _ [] n)
+  check-unlent n e = ap (λ (x : List ℕ). back areaSize x []) e ∙ sym (unlent (length area) [] _ [] n)
 
-  module _ (w : length area ≡ 152) (v : code.Verdict) (e : verdictIs v ≡ tableVerdict t) where
+  module _ (w : length area ≡ limit.area) (v : code.Verdict) (e : verdictIs v ≡ tableVerdict t) where
     checked : (number place : ℕ) → area′ ≡ areaOf (told place 0 0 0 0 []) → (judged (tableVerdict t) .number ≡ number) → areaOf (judged (tableVerdict t)) ≡ areaOf (told place 0 0 0 0 [])
         → back number area′ [] ≡ checkTable t (length area)
     unfolding checkTable

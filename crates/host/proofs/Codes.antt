@@ -5,6 +5,7 @@ use mathlib.Core.List.{List, [], _++_, append-nil}
 use native.Mathlib.Omega.{arith}
 use borrow.Author.Tests.{eq-eqb, ne-eqb}
 use lib.ListN.{length, drop, drop-of-length-le}
+use Rattle.numbers.specs.Refusal.{areaSize}
 use Rattle.lent.specs.Codes.{answerIs, codeAt}
 use Rattle.lent.specs.declared.codes.Coding.{Coding}
 use Rattle.lent.specs.declared.codes.Answer.{Answer}
@@ -13,7 +14,7 @@ use Rattle.host.specs.Calls.{back, zeros}
 use Rattle.host.specs.Bits.{codeWords, told, bitsCall}
 
 module _ (s : List ℕ) (at : ℕ) (c : Coding) (area area′ : List ℕ) where
-  pub code-unlent : (length area ≡ 12 → ⊥) → area′ ≡ zeros (length area) → back 24 area′ [] ≡ bitsCall s at c (length area)
+  pub code-unlent : (length area ≡ 12 → ⊥) → area′ ≡ zeros (length area) → back areaSize area′ [] ≡ bitsCall s at c (length area)
   unfolding bitsCall
   code-unlent n e = rw (ne-eqb (length area) 12 n, e)
 

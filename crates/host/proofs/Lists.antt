@@ -5,6 +5,8 @@ use mathlib.Core.List.{List, [], _∷_}
 use native.Mathlib.Omega.{arith}
 use lib.ListN.{length, take}
 use lib.Seq.{take-all}
+use Rattle.numbers.specs.Refusal.{areaSize}
+use Rattle.numbers.specs.Limit as limit
 use Rattle.model.specs.Whole.{Made, Outcome, declines, outcomeMade, payloadLeft, writing}
 use Rattle.model.specs.Whole.Made.{unmade}
 use Rattle.words.specs.Bytes.{wordsOf}
@@ -89,11 +91,11 @@ bytes-written t name type mode e x room k E T words a P p n l h q =
 
 -- the call
 module _ (t : List ℕ) (name type mode : ℕ) (e x P A P′ A′ : List ℕ) where
-  pub write-unlent : (length A ≡ 152 → ⊥) → P′ ≡ zeros (length P) → A′ ≡ zeros (length A) → back 24 A′ (P′ ∷ []) ≡ writeCall t name type mode e x (length P) (length A)
+  pub write-unlent : (length A ≡ limit.area → ⊥) → P′ ≡ zeros (length P) → A′ ≡ zeros (length A) → back areaSize A′ (P′ ∷ []) ≡ writeCall t name type mode e x (length P) (length A)
   unfolding writeCall
   write-unlent n p a = rw (p, a) (sym (unlent (length A) (length P ∷ []) _ _ n))
 
-  pub write-told : (a : Answer) (r : ℕ) → length A ≡ 152 → Writes (writeBytes t name type mode e x (length P)) mode (length e / 16) (length x) (length P) a P′
+  pub write-told : (a : Answer) (r : ℕ) → length A ≡ limit.area → Writes (writeBytes t name type mode e x (length P)) mode (length e / 16) (length x) (length P) a P′
       → (r ≡ a .number) × (A′ ≡ areaOf (answerIs a)) → back r A′ (P′ ∷ []) ≡ writeCall t name type mode e x (length P) (length A)
   unfolding writeCall
   write-told a r w h (n, k) =

@@ -5,6 +5,8 @@ use mathlib.Core.List.{List, [], _∷_, _++_}
 use native.Mathlib.Omega.{arith}
 use lib.ListN.{length, take, drop, replicate}
 use lib.Seq.{length-take-le}
+use Rattle.numbers.specs.Refusal.{areaSize}
+use Rattle.numbers.specs.Limit as limit
 use Rattle.model.specs.Whole.{Reply, Outcome, outcome, reading, eventsLeft, textsLeft}
 use Rattle.reader.specs.Answers.{answerIs}
 use Rattle.reader.specs.declared.Answer.{Answer}
@@ -74,12 +76,12 @@ bytes-read t name type s e x k words a E X p n l b q =
 
 -- the call
 module _ (t : List ℕ) (name type : ℕ) (s E X A E′ X′ A′ : List ℕ) where
-  pub read-unlent : (length A ≡ 152 → ⊥) → E′ ≡ zeros (length E) → X′ ≡ zeros (length X) → A′ ≡ zeros (length A)
-      → back 24 A′ (E′ ∷ X′ ∷ []) ≡ readCall t name type s (length E) (length X) (length A)
+  pub read-unlent : (length A ≡ limit.area → ⊥) → E′ ≡ zeros (length E) → X′ ≡ zeros (length X) → A′ ≡ zeros (length A)
+      → back areaSize A′ (E′ ∷ X′ ∷ []) ≡ readCall t name type s (length E) (length X) (length A)
   unfolding readCall
   read-unlent n e x a = rw (e, x, a) (sym (unlent (length A) (length E ∷ length X ∷ []) _ _ n))
 
-  pub read-told : (a : Answer) (r : ℕ) → length A ≡ 152 → ReadBack (readBytes t name type s (length E) (length X)) (length E) (length X) (answerIs a) E′ X′
+  pub read-told : (a : Answer) (r : ℕ) → length A ≡ limit.area → ReadBack (readBytes t name type s (length E) (length X)) (length E) (length X) (answerIs a) E′ X′
       → (r ≡ a .number) × (A′ ≡ areaOf (answerIs a)) → back r A′ (E′ ∷ X′ ∷ []) ≡ readCall t name type s (length E) (length X) (length A)
   unfolding readCall
   read-told a r w b (n, k) =

@@ -1,4 +1,4 @@
--- The names that an array and a count are, and that an area has 152 bytes.
+-- The names that an array and a count are.
 use Prim.Native.Nat.{ℕ, zero, suc, _-_, _<_}
 use mathlib.Core.Path.{_≡_, refl, _∙_}
 use mathlib.Core.List.{List, [], _∷_}
@@ -6,6 +6,7 @@ use native.Mathlib.Omega.{arith}
 use native.Mathlib.Decide.{ℕ-discrete}
 use lib.ListN.{length, getD, length-append, List·getD-append}
 use lib.Seq.{getD-at}
+use Rattle.numbers.specs.Limit.{mostNames}
 use Rattle.reader.specs.Answers.{firstNames}
 
 pub first-length : (l : List ℕ) (n : ℕ) → length (firstNames l n) ≡ n

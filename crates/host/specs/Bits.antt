@@ -3,6 +3,8 @@ use Prim.Native.Nat.{ℕ}
 use mathlib.Core.Bool.{cond}
 use mathlib.Core.List.{List, [], _∷_}
 use lib.Dec.{eqb}
+use Rattle.numbers.specs.Refusal.{areaSize}
+use Rattle.numbers.specs.Limit.{bitsArea}
 use Rattle.lent.specs.Codes.{Told, codeAt}
 use Rattle.lent.specs.declared.codes.Coding.{Coding}
 use Rattle.words.specs.Bytes.{bytesOf}
@@ -15,6 +17,6 @@ codeWords a = a .value ∷ a .place ∷ a .left ∷ []
 abbrev pub told : Told → Back
 told a = back (a .number) (bytesOf (codeWords a)) []
 
--- bytes, place, coding; bytes of the area. 24 first: an area that has not 12 bytes is zero throughout
+-- bytes, place, coding; bytes of the area. The size first: an area of another one is zero throughout
 unfoldable pub bitsCall : List ℕ → ℕ → Coding → ℕ → Back
-bitsCall s at c area = cond (eqb area 12) (told (codeAt s at c)) (back 24 (zeros area) [])
+bitsCall s at c area = cond (eqb area bitsArea) (told (codeAt s at c)) (back areaSize (zeros area) [])

@@ -4,6 +4,9 @@ use mathlib.Core.Bool.{cond}
 use mathlib.Core.List.{List, [], _∷_, map}
 use lib.Dec.{eqb}
 use lib.ListN.{length, replicate}
+use Rattle.numbers.specs.Refusal as refusal
+use Rattle.numbers.specs.Refusal.{noReading, areaSize}
+use Rattle.numbers.specs.Limit as limit
 use Rattle.table.specs.First.{Verdict, first, _then_}
 use Rattle.table.specs.First.Verdict.{right, wrong}
 use Rattle.table.specs.Valid.{headerWords, verdict}
@@ -27,9 +30,9 @@ back number area buffers = record { number = number; area = area; buffers = buff
 abbrev pub zeros : ℕ → List ℕ
 zeros n = replicate n 0
 
--- 24 first: the area, whatever its size, and the output buffers are zero throughout; else the answer is in the area
+-- its size first: the area, whatever that is, and the output buffers are zero throughout; else the answer is in the area
 unfoldable pub lent : (area : ℕ) (sizes : List ℕ) → Outcome → List (List ℕ) → Back
-lent area sizes o buffers = cond (eqb area areaBytes) (back (o .number) (areaOf o) buffers) (back 24 (zeros area) (map zeros sizes))
+lent area sizes o buffers = cond (eqb area areaBytes) (back (o .number) (areaOf o) buffers) (back areaSize (zeros area) (map zeros sizes))
 
 -- The table's bytes judged: where they are no multiple of 4, the header of the whole words, and then the length.
 unfoldable pub tableVerdict : List ℕ → Verdict
@@ -37,13 +40,13 @@ tableVerdict t = cond (eqb (length t % 4) 0) (verdict (wordsOf t)) (first 0 (hea
 
 abbrev pub judged : Verdict → Outcome
 judged right = declines 0 0 []
-judged (wrong i) = declines 1 i []
+judged (wrong i) = declines refusal.table i []
 
 -- bim_check_table: table; bytes of the area
 unfoldable pub checkTable : List ℕ → ℕ → Back
 checkTable t area = lent area [] (judged (tableVerdict t)) []
 
--- The reading of bytes: e / 4 words are lent for events, so that there is room for e / 16 of them, at most 2,048.
+-- The reading of bytes: e / 4 words are lent for events, so that there is room for e / limit.event of them, at most mostEvents.
 unfoldable pub readBytes : List ℕ → ℕ → ℕ → List ℕ → ℕ → ℕ → Reply
 readBytes t name type s e x = afterVerdict (tableVerdict t) (reading (wordsOf t) name type s (e / 4) x)
 
@@ -58,14 +61,14 @@ readCall t name type s e x area =
     let r = readBytes t name type s e x in
     lent area (e ∷ x ∷ []) (outcome r) (eventsBack e r ∷ textsLeft x r ∷ [])
 
--- The writing of a list's bytes: where they are no multiple of 16, 18 at bytes / 16, after 1, 2 and 22.
+-- The writing of a list's bytes: where they are no whole events, noReading at the number of them that are whole, after table, root and mode.
 unfoldable pub unlisted : List ℕ → ℕ → ℕ → ℕ → ℕ → Made
 unlisted l name type mode n =
-    verdictMade (verdict l) (orUnmade (asked (tableOf l .types) name type) (λ u. orUnmade (modeAsked mode) (λ m. unmade 18 n)))
+    verdictMade (verdict l) (orUnmade (asked (tableOf l .types) name type) (λ u. orUnmade (modeAsked mode) (λ m. unmade noReading n)))
 
 unfoldable pub writeList : List ℕ → ℕ → ℕ → ℕ → List ℕ → List ℕ → ℕ → Made
 writeList l name type mode e x room =
-    cond (eqb (length e % 16) 0) (writing l name type mode (wordsOf e) x room) (unlisted l name type mode (length e / 16))
+    cond (eqb (length e % limit.event) 0) (writing l name type mode (wordsOf e) x room) (unlisted l name type mode (length e / limit.event))
 
 unfoldable pub writeBytes : List ℕ → ℕ → ℕ → ℕ → List ℕ → List ℕ → ℕ → Made
 writeBytes t name type mode e x room = verdictMade (tableVerdict t) (writeList (wordsOf t) name type mode e x room)
@@ -74,4 +77,4 @@ writeBytes t name type mode e x room = verdictMade (tableVerdict t) (writeList (
 unfoldable pub writeCall : List ℕ → ℕ → ℕ → ℕ → List ℕ → List ℕ → ℕ → ℕ → Back
 writeCall t name type mode e x room area =
     let m = writeBytes t name type mode e x room in
-    lent area (room ∷ []) (outcomeMade mode (length e / 16) (length x) m) (payloadLeft room m ∷ [])
+    lent area (room ∷ []) (outcomeMade mode (length e / limit.event) (length x) m) (payloadLeft room m ∷ [])

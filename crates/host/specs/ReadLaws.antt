@@ -5,6 +5,9 @@ use mathlib.Core.List.{List, [], _++_}
 use native.Mathlib.Omega.{arith}
 use lib.ListN.{length, take, drop, length-append}
 use lib.Seq.{take-at}
+use Rattle.numbers.specs.Refusal as refusal
+use Rattle.numbers.specs.Limit as limit
+use Rattle.numbers.specs.Limit.{mostEvents}
 use Rattle.table.specs.First.{Verdict}
 use Rattle.table.specs.First.Verdict.{right, wrong}
 use Rattle.table.specs.Valid.{verdict}
@@ -20,7 +23,7 @@ use Rattle.host.specs.TableLaws.{placed, placed-same, Told, whole, part}
 
 -- the words lent for events: four for each that has room
 abbrev pub slotWords : ℕ → ℕ
-slotWords e = 4 * min (e / 16) 2048
+slotWords e = 4 * min (e / limit.event) mostEvents
 
 abbrev pub placedIn : (seen given : ℕ) → Outcome → Outcome
 placedIn seen given o =
@@ -39,7 +42,7 @@ pub record ReadBack (R : Reply) (e x : ℕ) (o : Outcome) (E X : List ℕ) : Typ
 same-room : (l : List ℕ) (name type : ℕ) (s : List ℕ) (e x : ℕ) → reading l name type s (e / 4) x ≡ reading l name type s (slotWords e) x
 unfolding reading
 same-room l name type s e x =
-    let h : min (e / 4 / 4) 2048 ≡ min (slotWords e / 4) 2048 = omega arith in
+    let h : min (e / 4 / 4) mostEvents ≡ min (slotWords e / 4) mostEvents = omega arith in
     ap (λ (n : ℕ). afterVerdict (verdict l) (afterAsked (asked (tableOf l .types) name type) (payload (heldOf l) (rooted (tableOf l) name type) s (record { slots = n; bytes = x })))) h
 
 -- what the reading of the words lent tells of the reading of the bytes
@@ -56,7 +59,7 @@ same-reply R R′ k m e x r g =
       texts = ap (textsLeft x) r;
     }
 
-both-declined : (R R′ : Reply) (k m e x i : ℕ) → R ≡ declined 1 (placed k m i) [] → R′ ≡ declined 1 i [] → Read R R′ k m e x
+both-declined : (R R′ : Reply) (k m e x i : ℕ) → R ≡ declined refusal.table (placed k m i) [] → R′ ≡ declined refusal.table i [] → Read R R′ k m e x
 unfolding outcome eventsBack textsLeft
 both-declined R R′ k m e x i r r′ =
     record {

@@ -8,6 +8,7 @@ use borrow.Author.Tests.{leb-true, leb-false, ne-eqb, eq-eqb, lt-ltb, le-ltb, eq
 use lib.Dec.{eqb, leb}
 use lib.ListN.{length, take, getD, length-take, List·getD-eq-default}
 use lib.Seq.{take-all}
+use Rattle.numbers.specs.Limit.{mostTypes, mostAttributes, mostParticles, mostTableWords}
 use Rattle.signed.specs.Laws.{ordered}
 use Rattle.table.specs.Words.{sizeOf, wordAt, typesIn, attributesIn, particlesIn}
 use Rattle.table.specs.First.{Verdict, first, judge, _then_}
@@ -43,18 +44,18 @@ given-most l i least most e =
 
 -- where every header word that is given is right
 module _ (l : List ℕ) (e : first 0 (headerWords l) ≡ right) where
-  pub size-most : sizeOf (typesIn l) (attributesIn l) (particlesIn l) ≤ 8964
+  pub size-most : sizeOf (typesIn l) (attributesIn l) (particlesIn l) ≤ mostTableWords
   unfolding headerWords
   size-most =
       let h = right-every 0 (headerWords l) e in
-      let t = given-most l 1 1 256 (h .1 .0) in
-      let a = given-most l 2 0 1024 (h .1 .1 .0) in
-      let p = given-most l 3 0 1024 (h .1 .1 .1 .0) in
+      let t = given-most l 1 1 mostTypes (h .1 .0) in
+      let a = given-most l 2 0 mostAttributes (h .1 .1 .0) in
+      let p = given-most l 3 0 mostParticles (h .1 .1 .1 .0) in
       omega arith
 
   some-type : 1 < length l → 1 ≤ typesIn l
   unfolding headerWords
-  some-type h = given-within l 1 1 256 (right-every 0 (headerWords l) e .1 .0) h .0
+  some-type h = given-within l 1 1 mostTypes (right-every 0 (headerWords l) e .1 .0) h .0
 
   -- another length is named at the number of words
   unsized : (length l ≡ sizeOf (typesIn l) (attributesIn l) (particlesIn l) → ⊥) → verdict l ≡ wrong (length l)
@@ -77,9 +78,9 @@ header-given l i e = let f = wrong-fails 0 (headerWords l) i e in at (f .0) (f .
   where
     at : (j : ℕ) → getD (headerWords l) j true ≡ false → i ≡ j → i < length l
     at zero g k = rw k (given-false l 0 1 1 g)
-    at (suc zero) g k = rw k (given-false l 1 1 256 g)
-    at (suc (suc zero)) g k = rw k (given-false l 2 0 1024 g)
-    at (suc (suc (suc zero))) g k = rw k (given-false l 3 0 1024 g)
+    at (suc zero) g k = rw k (given-false l 1 1 mostTypes g)
+    at (suc (suc zero)) g k = rw k (given-false l 2 0 mostAttributes g)
+    at (suc (suc (suc zero))) g k = rw k (given-false l 3 0 mostParticles g)
     at (suc (suc (suc (suc j)))) g k = absurd (true≢false g)
 
 -- the header alone, and m for a length that is wrong
@@ -87,7 +88,7 @@ abbrev pub headed : List ℕ → ℕ → Verdict
 headed l m = first 0 (headerWords l) then wrong m
 
 -- more words than any table has
-too-long : (l : List ℕ) → 8964 < length l → verdict l ≡ headed l (length l)
+too-long : (l : List ℕ) → mostTableWords < length l → verdict l ≡ headed l (length l)
 unfolding _then_
 too-long l h = go (first 0 (headerWords l)) refl
   where
@@ -123,7 +124,7 @@ four-words l m = go (first 0 (headerWords l)) refl
 
 -- how many words of a table of b bytes are lent: all of them, or four at most where the length is wrong
 abbrev pub wordsLent : ℕ → ℕ
-wordsLent b = cond (eqb (b % 4) 0) (cond (leb (b / 4) 8964) (b / 4) 4) (min (b / 4) 4)
+wordsLent b = cond (eqb (b % 4) 0) (cond (leb (b / 4) mostTableWords) (b / 4) 4) (min (b / 4) 4)
 
 -- what the words lent tell of the table
 pub data Told (t : List ℕ) (k : ℕ) : Type 0 where
@@ -150,12 +151,12 @@ module _ (t : List ℕ) where
 
   pub told : Told t (wordsLent (length t))
   unfolding tableVerdict
-  told = go (eqb (length t % 4) 0) (leb m 8964) refl refl
+  told = go (eqb (length t % 4) 0) (leb m mostTableWords) refl refl
     where
-      go : (x y : Bool) → eqb (length t % 4) 0 ≡ x → leb m 8964 ≡ y → Told t (cond (eqb (length t % 4) 0) (cond (leb m 8964) m 4) (min m 4))
+      go : (x y : Bool) → eqb (length t % 4) 0 ≡ x → leb m mostTableWords ≡ y → Told t (cond (eqb (length t % 4) 0) (cond (leb m mostTableWords) m 4) (min m 4))
       go true true e f = rw (e, f) (whole (rw e) (take-all m l (omega (arith, words-length t))) refl)
       go true false e f =
-          let b = leb-false m 8964 f in
+          let b = leb-false m mostTableWords f in
           let n = words-length t in
           rw (e, f) (in-part 4 (rw e (too-long l (omega arith) ∙ ap (headed l) n)) refl (omega (arith, length-take 4 l)))
       go false y e f = rw e (in-part (min m 4) (rw e) (of-four m refl) (omega (arith, length-take 4 l, words-length t)))

@@ -7,6 +7,10 @@ use native.Mathlib.Omega.{arith}
 use borrow.Author.Tests.{eq-eqb, ne-eqb, lt-leb}
 use lib.Dec.{eqb, leb}
 use lib.ListN.{length, take}
+use Rattle.numbers.specs.Refusal as refusal
+use Rattle.numbers.specs.Refusal.{noReading}
+use Rattle.numbers.specs.Limit as limit
+use Rattle.numbers.specs.Limit.{mostEvents, mostName}
 use Rattle.wire.specs.Res.{Res, got, fault, guard, atMost, _>>_, _>>=_}
 use Rattle.table.specs.First.{Verdict}
 use Rattle.table.specs.First.Verdict.{right, wrong}
@@ -37,35 +41,35 @@ mode-fault (suc (suc (suc k))) n e = cc
 -- a list of another shape than the words that stand for it
 module _ (l : List ℕ) (name type mode : ℕ) where
   -- more events than there may be
-  pub too-many : (e x : List ℕ) (room : ℕ) → length e % 16 ≡ 0 → 2048 < length e / 16 → writeList l name type mode e x room ≡ unlisted l name type mode (length e / 16)
+  pub too-many : (e x : List ℕ) (room : ℕ) → length e % limit.event ≡ 0 → mostEvents < length e / limit.event → writeList l name type mode e x room ≡ unlisted l name type mode (length e / limit.event)
   unfolding writeList unlisted writing shaped
   too-many e x room h g =
       let n = words-length e in
       let a : length (wordsOf e) % 4 ≡ 0 = omega arith in
-      let b : length (wordsOf e) / 4 ≡ length e / 16 = omega arith in
-      rw (eq-eqb (length e % 16) 0 h, eq-eqb (length (wordsOf e) % 4) 0 a, b, lt-leb (length e / 16) 2048 g)
+      let b : length (wordsOf e) / 4 ≡ length e / limit.event = omega arith in
+      rw (eq-eqb (length e % limit.event) 0 h, eq-eqb (length (wordsOf e) % 4) 0 a, b, lt-leb (length e / limit.event) mostEvents g)
 
-  pub no-list : (e x : List ℕ) (room : ℕ) → (length e % 16 ≡ 0 → ⊥) → writeList l name type mode e x room ≡ unlisted l name type mode (length e / 16)
+  pub no-list : (e x : List ℕ) (room : ℕ) → (length e % limit.event ≡ 0 → ⊥) → writeList l name type mode e x room ≡ unlisted l name type mode (length e / limit.event)
   unfolding writeList
-  no-list e x room h = rw (ne-eqb (length e % 16) 0 h)
+  no-list e x room h = rw (ne-eqb (length e % limit.event) 0 h)
 
-  pub whole-list : (e x : List ℕ) (room : ℕ) → length e % 16 ≡ 0 → writeList l name type mode e x room ≡ writing l name type mode (wordsOf e) x room
+  pub whole-list : (e x : List ℕ) (room : ℕ) → length e % limit.event ≡ 0 → writeList l name type mode e x room ≡ writing l name type mode (wordsOf e) x room
   unfolding writeList
-  whole-list e x room h = rw (eq-eqb (length e % 16) 0 h)
+  whole-list e x room h = rw (eq-eqb (length e % limit.event) 0 h)
 
   -- one word is no list
   pub one-word : (w : ℕ) (x : List ℕ) (room : ℕ) → writing l name type mode (w ∷ []) x room ≡ unlisted l name type mode 0
   unfolding writing unlisted shaped
   one-word w x room = refl
 
-  -- 18 is at the place that is asked for, and no number before it depends on that place
+  -- noReading is at the place that is asked for, and no number before it depends on that place
   pub data Unlisted : Type 0 where
     early : (k p : ℕ) → (k ≡ 18 → ⊥) → ((n : ℕ) → unlisted l name type mode n ≡ unmade k p) → Unlisted
-    late : ((n : ℕ) → unlisted l name type mode n ≡ unmade 18 n) → Unlisted
+    late : ((n : ℕ) → unlisted l name type mode n ≡ unmade noReading n) → Unlisted
 
   asked-two : (types n : ℕ) → asked types name type ≡ fault n → n ≡ 2
   unfolding asked atMost _>>_ _>>=_
-  asked-two types n e = guards-two (leb (suc type) types) (leb name 65535) n e
+  asked-two types n e = guards-two (leb (suc type) types) (leb name mostName) n e
 
   pub unlisted-is : Unlisted
   unfolding unlisted verdictMade orUnmade
@@ -89,7 +93,7 @@ same-made M M′ k m mode events text room r g =
       payload = ap (payloadLeft room) r;
     }
 
-both-unmade : (M M′ : Made) (k m mode events text room i : ℕ) → M ≡ unmade 1 (placed k m i) → M′ ≡ unmade 1 i → Wrote M M′ k m mode events text room
+both-unmade : (M M′ : Made) (k m mode events text room i : ℕ) → M ≡ unmade refusal.table (placed k m i) → M′ ≡ unmade refusal.table i → Wrote M M′ k m mode events text room
 unfolding outcomeMade payloadLeft
 both-unmade M M′ k m mode events text room i r r′ =
     record {
@@ -106,14 +110,14 @@ once (wrong i) r = refl
 module _ (l : List ℕ) (name type mode : ℕ) (e x : List ℕ) (room : ℕ) where
   list-once : verdictMade (verdict l) (writeList l name type mode e x room) ≡ writeList l name type mode e x room
   unfolding writeList writing unlisted
-  list-once = go (eqb (length e % 16) 0)
+  list-once = go (eqb (length e % limit.event) 0)
     where
-      go : (b : Bool) → verdictMade (verdict l) (cond b (writing l name type mode (wordsOf e) x room) (unlisted l name type mode (length e / 16)))
-          ≡ cond b (writing l name type mode (wordsOf e) x room) (unlisted l name type mode (length e / 16))
+      go : (b : Bool) → verdictMade (verdict l) (cond b (writing l name type mode (wordsOf e) x room) (unlisted l name type mode (length e / limit.event)))
+          ≡ cond b (writing l name type mode (wordsOf e) x room) (unlisted l name type mode (length e / limit.event))
       go true = once (verdict l) _
       go false = once (verdict l) _
 
-  list-wrong : (i : ℕ) → verdict l ≡ wrong i → writeList l name type mode e x room ≡ unmade 1 i
+  list-wrong : (i : ℕ) → verdict l ≡ wrong i → writeList l name type mode e x room ≡ unmade refusal.table i
   unfolding verdictMade
   list-wrong i w = sym list-once ∙ ap (λ (v : Verdict). verdictMade v (writeList l name type mode e x room)) w
 

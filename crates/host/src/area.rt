@@ -1,4 +1,5 @@
 // The area in which a host finds an answer.
+use numbers::limit;
 use words::clear;
 use words::put_half;
 use words::store;
@@ -6,19 +7,23 @@ ghost use mathlib.Core.Path.{_≡_};
 ghost use mathlib.Core.List.{[]};
 ghost use Prim.Native.Nat.{_≤_};
 ghost use lib.ListN.{length, getD};
+ghost use Rattle.numbers.specs.Limit as limit;
+ghost use Rattle.numbers.specs.Limit.{mostNames};
 ghost use Rattle.model.specs.Whole.{filled};
 ghost use Rattle.reader.specs.Answers.{firstNames};
 ghost use Rattle.words.specs.Bytes.{namesOf};
 ghost use Rattle.host.specs.Area as meaning;
 
-// A place stops at 2^32 - 1.
+const PLACE: usize = limit::MOST_WORD as usize;
+
+// A place stops at MOST_WORD.
 fn capped(place: usize) -> u32
     ensures { λ r. ⌜ r ≡ meaning.capped place ⌝ }
 {
-    if place < 4294967295 {
+    if place < PLACE {
         place as u32
     } else {
-        4294967295
+        limit::MOST_WORD
     }
 }
 
@@ -34,13 +39,13 @@ fn name_at(names: &[u16], count: usize, i: usize) -> u16
     0
 }
 
-// The first count names, and zeros for the rest of 64, name by name.
+// The first count names, and zeros for the rest, name by name.
 fn put_each(s: &mut [u8], names: &[u16], count: usize)
-    requires { ⌜ (length (now s) ≡ 128) × (count ≤ 64) ⌝ }
-    ensures { λ _. ⌜ now (s .exit) ≡ namesOf (filled 64 (firstNames (now (names .entry)) count)) ⌝ }
+    requires { ⌜ (length (now s) ≡ 128) × (count ≤ mostNames) ⌝ }
+    ensures { λ _. ⌜ now (s .exit) ≡ namesOf (filled mostNames (firstNames (now (names .entry)) count)) ⌝ }
 {
     let mut i = 0;
-    while i < 64 {
+    while i < limit::MOST_NAMES {
         put_half(s, 2 * i, name_at(names, count, i));
         i += 1;
     }
@@ -48,8 +53,8 @@ fn put_each(s: &mut [u8], names: &[u16], count: usize)
 
 // The same; most answers have no name.
 fn put_names(s: &mut [u8], names: &[u16], count: usize)
-    requires { ⌜ (length (now s) ≡ 128) × (count ≤ 64) ⌝ }
-    ensures { λ _. ⌜ now (s .exit) ≡ namesOf (filled 64 (firstNames (now (names .entry)) count)) ⌝ }
+    requires { ⌜ (length (now s) ≡ 128) × (count ≤ mostNames) ⌝ }
+    ensures { λ _. ⌜ now (s .exit) ≡ namesOf (filled mostNames (firstNames (now (names .entry)) count)) ⌝ }
 {
     if count == 0 {
         clear(s);
@@ -69,7 +74,7 @@ pub fn tell(
     names: &[u16],
     count: usize,
 )
-    requires { ⌜ (length (now area) ≡ 152) × (count ≤ 64) ⌝ }
+    requires { ⌜ (length (now area) ≡ limit.area) × (count ≤ mostNames) ⌝ }
     ensures { λ _. ⌜ now (area .exit) ≡ meaning.areaOf (meaning.told place mode events text bits (firstNames (now (names .entry)) count)) ⌝ }
 {
     let head = [capped(place), mode, events, text, bits, count as u32];
@@ -79,9 +84,9 @@ pub fn tell(
 
 // The area of an answer that is a place alone.
 pub fn tell_place(area: &mut [u8], place: usize)
-    requires { ⌜ length (now area) ≡ 152 ⌝ }
+    requires { ⌜ length (now area) ≡ limit.area ⌝ }
     ensures { λ _. ⌜ now (area .exit) ≡ meaning.areaOf (meaning.told place 0 0 0 0 []) ⌝ }
 {
-    let none = [0u16; 64];
+    let none = [0u16; limit::MOST_NAMES];
     tell(area, place, 0, 0, 0, 0, &none, 0);
 }

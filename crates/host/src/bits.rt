@@ -2,6 +2,8 @@
 use lent::code;
 use lent::codes::Coding;
 use lent::codes::left_at;
+use numbers::limit;
+use numbers::refusal;
 use wire::Bits;
 use words::clear;
 use words::store;
@@ -13,13 +15,13 @@ ghost use Rattle.lent.specs.declared.codes.Coding.the-variants as coding;
 ghost use Rattle.host.specs.Calls.{back};
 ghost use Rattle.host.specs.Bits.{bitsCall};
 
-// A code read, and told in an area of 12 bytes.
+// A code read, and told in an area of BITS_AREA bytes.
 fn read_code(bytes: &[u8], place: u32, coding: Coding, area: &mut [u8]) -> u32
     ensures { λ r. ⌜ back r (now (area .exit)) [] ≡ bitsCall (now (bytes .entry)) place coding (length (now (area .entry))) ⌝ }
 {
-    if area.len() != 12 {
+    if area.len() != limit::BITS_AREA {
         clear(area);
-        return 24;
+        return refusal::AREA_SIZE;
     }
     let a = code(bytes, Bits(place), coding);
     let next = a.place.0;

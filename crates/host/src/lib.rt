@@ -9,6 +9,8 @@ mod writes;
 use answers::tell_answer;
 use answers::tell_written;
 use area::tell_place;
+use numbers::limit;
+use numbers::refusal;
 use reads::read_bytes;
 use table::Verdict;
 use tables::check_bytes;
@@ -25,18 +27,18 @@ ghost use Rattle.host.specs.Calls.{back, checkTable, readCall, writeCall
 pub extern "C" fn bim_check_table(table: &[u8], area: &mut [u8]) -> u32
     ensures { λ r. ⌜ back r (now (area .exit)) [] ≡ checkTable (now (table .entry)) (length (now (area .entry))) ⌝ }
 {
-    if area.len() != 152 {
+    if area.len() != limit::AREA {
         clear(area);
-        return 24;
+        return refusal::AREA_SIZE;
     }
     match check_bytes(table) {
         Verdict::Right => {
             tell_place(area, 0);
-            0
+            refusal::ACCEPTED
         }
         Verdict::Wrong(i) => {
             tell_place(area, i);
-            1
+            refusal::TABLE
         }
     }
 }
@@ -55,11 +57,11 @@ pub extern "C" fn bim_read(
     ensures answer { λ r. ⌜ back r (now (area .exit)) (now (events .exit) ∷ now (texts .exit) ∷ []) ≡ readCall (now (table .entry)) «root_name» «root_type» (now (payload .entry)) (length (now (events .entry))) (length (now (texts .entry))) (length (now (area .entry))) ⌝ }
     ensures octets { λ r. ⌜ Octets (now (payload .entry)) ⌝ }
 {
-    if area.len() != 152 {
+    if area.len() != limit::AREA {
         clear(events);
         clear(texts);
         clear(area);
-        return 24;
+        return refusal::AREA_SIZE;
     }
     let a = read_bytes(table, root_name, root_type, payload, events, texts);
     tell_answer(area, a)
@@ -79,10 +81,10 @@ pub extern "C" fn bim_write(
 ) -> u32
     ensures { λ r. ⌜ back r (now (area .exit)) (now (payload .exit) ∷ []) ≡ writeCall (now (table .entry)) «root_name» «root_type» mode (now (events .entry)) (now (texts .entry)) (length (now (payload .entry))) (length (now (area .entry))) ⌝ }
 {
-    if area.len() != 152 {
+    if area.len() != limit::AREA {
         clear(payload);
         clear(area);
-        return 24;
+        return refusal::AREA_SIZE;
     }
     let a = write_bytes(table, root_name, root_type, mode, events, texts, payload);
     tell_written(area, a)

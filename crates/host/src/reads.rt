@@ -1,6 +1,10 @@
 // A payload read over bytes.
+use crate::tables::FEW_WORDS;
+use crate::tables::SOME_WORDS;
 use crate::tables::placed;
 use crate::tables::words_lent;
+use numbers::limit;
+use numbers::refusal;
 use reader::Answer;
 use reader::read;
 use words::clear;
@@ -9,21 +13,28 @@ use words::store;
 ghost use mathlib.Core.Path.{_≡_};
 ghost use lib.ListN.{length};
 ghost use Prim.Native.Nat.{_*_, _/_, _≤_};
+ghost use Rattle.numbers.specs.Limit.{mostEventWords};
 ghost use Rattle.model.specs.Whole.{reading};
 ghost use Rattle.reader.specs.Answers.{answerIs};
 ghost use Rattle.host.specs.Calls.{readBytes};
 ghost use Rattle.host.specs.ReadLaws.{slotWords, ReadBack};
 ghost use Rattle.host.specs.TableLaws.{wordsLent};
 
+// Words of the events that a small payload seldom has more of.
+const FEW_EVENT_WORDS: usize = 512;
+
+// The bytes of a payload that is small.
+const SMALL_PAYLOAD: usize = 64;
+
 // The words that are lent for events: four for each that has room.
 fn slot_words(bytes: usize) -> usize
-    ensures { λ r. ⌜ (r ≡ slotWords bytes) × (r ≤ 8192) × (4 * r ≤ bytes) ⌝ }
+    ensures { λ r. ⌜ (r ≡ slotWords bytes) × (r ≤ mostEventWords) × (4 * r ≤ bytes) ⌝ }
 {
-    let n = bytes / 16;
-    if n < 2048 {
+    let n = bytes / limit::EVENT;
+    if n < limit::MOST_EVENTS {
         return 4 * n;
     }
-    8192
+    limit::MOST_EVENT_WORDS
 }
 
 // The reading of words, into words lent for events; these then as bytes.
@@ -56,10 +67,10 @@ fn read_many(
     events: &mut [u8],
     texts: &mut [u8],
 ) -> Answer
-    requires { ⌜ (m ≤ 8192) × (4 * m ≤ length (now events)) ⌝ }
+    requires { ⌜ (m ≤ mostEventWords) × (4 * m ≤ length (now events)) ⌝ }
     ensures { λ r. ⌜ ReadBack (reading (now (words .entry)) «root_name» «root_type» (now (payload .entry)) m (length (now (texts .entry)))) (length (now (events .entry))) (length (now (texts .entry))) (answerIs r) (now (events .exit)) (now (texts .exit)) ⌝ }
 {
-    let mut list = [0u32; 8192];
+    let mut list = [0u32; limit::MOST_EVENT_WORDS];
     read_words(
         words,
         root_name,
@@ -71,7 +82,7 @@ fn read_many(
     )
 }
 
-// The reading of words, with room for 128 events, of which a small payload seldom has more; and again where they do not suffice.
+// The reading of words, with room for the few events of which a small payload seldom has more; and again where they do not suffice.
 fn read_few(
     words: &[u32],
     root_name: u32,
@@ -81,10 +92,10 @@ fn read_few(
     events: &mut [u8],
     texts: &mut [u8],
 ) -> Answer
-    requires { ⌜ (512 ≤ m) × (m ≤ 8192) × (4 * m ≤ length (now events)) ⌝ }
+    requires { ⌜ (512 ≤ m) × (m ≤ mostEventWords) × (4 * m ≤ length (now events)) ⌝ }
     ensures { λ r. ⌜ ReadBack (reading (now (words .entry)) «root_name» «root_type» (now (payload .entry)) m (length (now (texts .entry)))) (length (now (events .entry))) (length (now (texts .entry))) (answerIs r) (now (events .exit)) (now (texts .exit)) ⌝ }
 {
-    let mut few = [0u32; 512];
+    let mut few = [0u32; FEW_EVENT_WORDS];
     let a = read_words(
         words,
         root_name,
@@ -94,7 +105,7 @@ fn read_few(
         events,
         texts,
     );
-    if a.number != 7 {
+    if a.number != refusal::EVENT_ROOM {
         return a;
     }
     read_many(words, root_name, root_type, payload, m, events, texts)
@@ -112,8 +123,8 @@ fn read_list(
     ensures { λ r. ⌜ ReadBack (reading (now (words .entry)) «root_name» «root_type» (now (payload .entry)) (slotWords (length (now (events .entry)))) (length (now (texts .entry)))) (length (now (events .entry))) (length (now (texts .entry))) (answerIs r) (now (events .exit)) (now (texts .exit)) ⌝ }
 {
     let m = slot_words(events.len());
-    if m < 512 {
-        let mut few = [0u32; 512];
+    if m < FEW_EVENT_WORDS {
+        let mut few = [0u32; FEW_EVENT_WORDS];
         return read_words(
             words,
             root_name,
@@ -124,7 +135,7 @@ fn read_list(
             texts,
         );
     }
-    if payload.len() <= 64 {
+    if payload.len() <= SMALL_PAYLOAD {
         return read_few(words, root_name, root_type, payload, m, events, texts);
     }
     read_many(words, root_name, root_type, payload, m, events, texts)
@@ -163,8 +174,8 @@ pub fn read_bytes(
     ensures { λ r. ⌜ ReadBack (readBytes (now (table .entry)) «root_name» «root_type» (now (payload .entry)) (length (now (events .entry))) (length (now (texts .entry)))) (length (now (events .entry))) (length (now (texts .entry))) (answerIs r) (now (events .exit)) (now (texts .exit)) ⌝ }
 {
     let n = words_lent(table.len());
-    if n <= 128 {
-        let mut few = [0u32; 128];
+    if n <= FEW_WORDS {
+        let mut few = [0u32; FEW_WORDS];
         return read_in(
             table,
             n,
@@ -176,8 +187,8 @@ pub fn read_bytes(
             texts,
         );
     }
-    if n <= 1024 {
-        let mut some = [0u32; 1024];
+    if n <= SOME_WORDS {
+        let mut some = [0u32; SOME_WORDS];
         return read_in(
             table,
             n,
@@ -189,7 +200,7 @@ pub fn read_bytes(
             texts,
         );
     }
-    let mut all = [0u32; 8964];
+    let mut all = [0u32; limit::MOST_TABLE_WORDS];
     read_in(
         table,
         n,

@@ -1,22 +1,29 @@
 // A table's bytes, judged as words.
+use numbers::limit;
 use table::Verdict;
 use table::check;
 use words::load;
 ghost use mathlib.Core.Path.{_≡_};
 ghost use Prim.Native.Nat.{_/_, _≤_};
 ghost use lib.ListN.{length};
+ghost use Rattle.numbers.specs.Limit.{mostTableWords};
 ghost use Rattle.table.specs.Views.{verdictIs};
 ghost use Rattle.host.specs.Calls.{tableVerdict};
 ghost use Rattle.host.specs.TableLaws as laws;
 
+// Words of a table that is small, and of one that is middling: less room is lent for it, as room is zeroed whole before it is used.
+pub const FEW_WORDS: usize = 128;
+
+pub const SOME_WORDS: usize = 1024;
+
 // How many words of so many bytes are looked at: all, or four at most where no table has that length.
 pub fn words_lent(bytes: usize) -> usize
-    ensures { λ r. ⌜ (r ≡ laws.wordsLent bytes) × (r ≤ bytes / 4) × (r ≤ 8964) ⌝ }
+    ensures { λ r. ⌜ (r ≡ laws.wordsLent bytes) × (r ≤ bytes / 4) × (r ≤ mostTableWords) ⌝ }
 {
     let n = bytes / 4;
     let over = bytes % 4;
     if over == 0 {
-        if n <= 8964 {
+        if n <= limit::MOST_TABLE_WORDS {
             return n;
         }
         return 4;
@@ -49,19 +56,19 @@ fn check_in(t: &[u8], n: usize, words: &mut [u32]) -> Verdict
     }
 }
 
-// The check of a table's bytes. A small table has small room: room is zeroed whole before it is used.
+// The check of a table's bytes.
 pub fn check_bytes(t: &[u8]) -> Verdict
     ensures { λ r. ⌜ verdictIs r ≡ tableVerdict (now (t .entry)) ⌝ }
 {
     let n = words_lent(t.len());
-    if n <= 128 {
-        let mut few = [0u32; 128];
+    if n <= FEW_WORDS {
+        let mut few = [0u32; FEW_WORDS];
         return check_in(t, n, &mut few);
     }
-    if n <= 1024 {
-        let mut some = [0u32; 1024];
+    if n <= SOME_WORDS {
+        let mut some = [0u32; SOME_WORDS];
         return check_in(t, n, &mut some);
     }
-    let mut all = [0u32; 8964];
+    let mut all = [0u32; limit::MOST_TABLE_WORDS];
     check_in(t, n, &mut all)
 }

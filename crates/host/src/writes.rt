@@ -1,17 +1,22 @@
 // A list written over bytes.
+use crate::tables::FEW_WORDS;
+use crate::tables::SOME_WORDS;
 use crate::tables::placed;
 use crate::tables::words_lent;
+use numbers::limit;
+use numbers::refusal;
 use words::load;
 use writer::Answer;
 use writer::write;
 ghost use mathlib.Core.Path.{_≡_};
 ghost use Prim.Native.Nat.{_/_, _%_, _≤_};
 ghost use lib.ListN.{length};
+ghost use Rattle.numbers.specs.Limit as limit;
 ghost use Rattle.writer.specs.Answers.{Writes};
 ghost use Rattle.host.specs.Calls.{unlisted, writeList, writeBytes};
 ghost use Rattle.host.specs.TableLaws.{wordsLent};
 
-// Bytes that are no list: one word is none either, and is refused where they are. The place of 18 is n.
+// Bytes that are no list: one word is none either, and is refused where they are. The place of NO_READING is n.
 fn write_none(
     words: &[u32],
     root_name: u32,
@@ -25,7 +30,7 @@ fn write_none(
 {
     let none = [0u32; 1];
     let mut a = write(words, root_name, root_type, mode, &none, texts, payload);
-    if a.number == 18 {
+    if a.number == refusal::NO_READING {
         a.place = n;
         return a;
     }
@@ -43,8 +48,8 @@ fn write_words(
     texts: &[u8],
     payload: &mut [u8],
 ) -> Answer
-    requires { ⌜ (length (now events) % 16 ≡ 0) × (length (now events) / 4 ≤ length (now list)) ⌝ }
-    ensures { λ r. ⌜ Writes (writeList (now (words .entry)) «root_name» «root_type» mode (now (events .entry)) (now (texts .entry)) (length (now (payload .entry)))) mode (length (now (events .entry)) / 16) (length (now (texts .entry))) (length (now (payload .entry))) r (now (payload .exit)) ⌝ }
+    requires { ⌜ (length (now events) % limit.event ≡ 0) × (length (now events) / 4 ≤ length (now list)) ⌝ }
+    ensures { λ r. ⌜ Writes (writeList (now (words .entry)) «root_name» «root_type» mode (now (events .entry)) (now (texts .entry)) (length (now (payload .entry)))) mode (length (now (events .entry)) / limit.event) (length (now (texts .entry))) (length (now (payload .entry))) r (now (payload .exit)) ⌝ }
 {
     let k = events.len() / 4;
     load(events, list, k);
@@ -59,6 +64,9 @@ fn write_words(
     )
 }
 
+// The events of a list that is short.
+const FEW_EVENTS: usize = 128;
+
 // A list's bytes, by a table's words.
 fn write_list(
     words: &[u32],
@@ -69,19 +77,19 @@ fn write_list(
     texts: &[u8],
     payload: &mut [u8],
 ) -> Answer
-    ensures { λ r. ⌜ Writes (writeList (now (words .entry)) «root_name» «root_type» mode (now (events .entry)) (now (texts .entry)) (length (now (payload .entry)))) mode (length (now (events .entry)) / 16) (length (now (texts .entry))) (length (now (payload .entry))) r (now (payload .exit)) ⌝ }
+    ensures { λ r. ⌜ Writes (writeList (now (words .entry)) «root_name» «root_type» mode (now (events .entry)) (now (texts .entry)) (length (now (payload .entry)))) mode (length (now (events .entry)) / limit.event) (length (now (texts .entry))) (length (now (payload .entry))) r (now (payload .exit)) ⌝ }
 {
     let size = events.len();
-    let over = size % 16;
-    let n = size / 16;
+    let over = size % limit::EVENT;
+    let n = size / limit::EVENT;
     if over != 0 {
         return write_none(words, root_name, root_type, mode, n, texts, payload);
     }
-    if 2048 < n {
+    if limit::MOST_EVENTS < n {
         return write_none(words, root_name, root_type, mode, n, texts, payload);
     }
-    if n <= 128 {
-        let mut few = [0u32; 512];
+    if n <= FEW_EVENTS {
+        let mut few = [0u32; 4 * FEW_EVENTS];
         return write_words(
             words,
             root_name,
@@ -93,7 +101,7 @@ fn write_list(
             payload,
         );
     }
-    let mut list = [0u32; 8192];
+    let mut list = [0u32; limit::MOST_EVENT_WORDS];
     write_words(
         words,
         root_name,
@@ -119,7 +127,7 @@ fn write_in(
     payload: &mut [u8],
 ) -> Answer
     requires { ⌜ (n ≡ wordsLent (length (now table))) × (n ≤ length (now table) / 4) × (n ≤ length (now words)) ⌝ }
-    ensures { λ r. ⌜ Writes (writeBytes (now (table .entry)) «root_name» «root_type» mode (now (events .entry)) (now (texts .entry)) (length (now (payload .entry)))) mode (length (now (events .entry)) / 16) (length (now (texts .entry))) (length (now (payload .entry))) r (now (payload .exit)) ⌝ }
+    ensures { λ r. ⌜ Writes (writeBytes (now (table .entry)) «root_name» «root_type» mode (now (events .entry)) (now (texts .entry)) (length (now (payload .entry)))) mode (length (now (events .entry)) / limit.event) (length (now (texts .entry))) (length (now (payload .entry))) r (now (payload .exit)) ⌝ }
 {
     load(table, words, n);
     let mut a = write_list(
@@ -146,11 +154,11 @@ pub fn write_bytes(
     texts: &[u8],
     payload: &mut [u8],
 ) -> Answer
-    ensures { λ r. ⌜ Writes (writeBytes (now (table .entry)) «root_name» «root_type» mode (now (events .entry)) (now (texts .entry)) (length (now (payload .entry)))) mode (length (now (events .entry)) / 16) (length (now (texts .entry))) (length (now (payload .entry))) r (now (payload .exit)) ⌝ }
+    ensures { λ r. ⌜ Writes (writeBytes (now (table .entry)) «root_name» «root_type» mode (now (events .entry)) (now (texts .entry)) (length (now (payload .entry)))) mode (length (now (events .entry)) / limit.event) (length (now (texts .entry))) (length (now (payload .entry))) r (now (payload .exit)) ⌝ }
 {
     let n = words_lent(table.len());
-    if n <= 128 {
-        let mut few = [0u32; 128];
+    if n <= FEW_WORDS {
+        let mut few = [0u32; FEW_WORDS];
         return write_in(
             table,
             n,
@@ -163,8 +171,8 @@ pub fn write_bytes(
             payload,
         );
     }
-    if n <= 1024 {
-        let mut some = [0u32; 1024];
+    if n <= SOME_WORDS {
+        let mut some = [0u32; SOME_WORDS];
         return write_in(
             table,
             n,
@@ -177,7 +185,7 @@ pub fn write_bytes(
             payload,
         );
     }
-    let mut all = [0u32; 8964];
+    let mut all = [0u32; limit::MOST_TABLE_WORDS];
     write_in(
         table,
         n,

@@ -2,6 +2,7 @@
 use Prim.Native.Nat.{ℕ, _-_, _*_, min}
 use mathlib.Core.List.{List}
 use lib.ListN.{length}
+use Rattle.numbers.specs.Limit.{mostWord}
 use Rattle.wire.specs.Res.{Res, got, fault}
 use Rattle.wire.specs.Bits.{bitAt}
 use Rattle.wire.specs.Number.{read5, read8}
@@ -12,7 +13,7 @@ use Rattle.lent.specs.declared.codes.Answer.{Answer}
 
 -- the first bit that is not fetched: the end of the slice, or 2^32 - 1, where places stop
 abbrev pub wallOf : List ℕ → ℕ
-wallOf s = min (8 * length s) 4294967295
+wallOf s = min (8 * length s) mostWord
 
 -- the bits from a place on; none past the wall
 abbrev pub leftAt : List ℕ → ℕ → ℕ
@@ -28,7 +29,7 @@ pub record Told : Type 0 where
 abbrev pub answerIs : Answer → Told
 answerIs a = record { number = a .number; value = a .value; place = a .place .0; left = a .left .0 }
 
--- a code's value and the place past it, or 5, 12, 13
+-- a code's value and the place past it, or a refusal
 unfoldable pub coded : Coding → (ℕ → ℕ) → ℕ → ℕ → Res (ℕ × ℕ)
 coded (Fixed w) b end at = fixed32 b end at w
 coded Five b end at = read5 b end at

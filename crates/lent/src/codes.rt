@@ -1,4 +1,6 @@
 // One code of a slice, from a place on, below the slice's end.
+use numbers::limit;
+use numbers::refusal;
 use wire::Bits;
 use wire::Read;
 use wire::reading::fixed;
@@ -34,7 +36,7 @@ pub fn wall(src: &[u8]) -> Bits
     if n < 536870912 {
         return Bits(8 * (n as u32));
     }
-    Bits(4294967295)
+    Bits(limit::MOST_WORD)
 }
 
 // How many bits there are from a place on.
@@ -79,7 +81,7 @@ pub fn code_at(src: &[u8], at: Bits, coding: Coding) -> Answer
         Read::Value(value, place) => {
             let left = left_at(src, place);
             Answer {
-                number: 0,
+                number: refusal::ACCEPTED,
                 value,
                 place,
                 left,

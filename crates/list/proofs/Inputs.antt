@@ -8,6 +8,8 @@ use borrow.Author.Tests.{le-leb, lt-leb}
 use lib.Dec.{leb}
 use lib.ListN.{length, take, drop, length-take, length-drop}
 use lib.Seq.{take-all}
+use Rattle.numbers.specs.Refusal as refusal
+use Rattle.numbers.specs.Limit.{mostTableWords}
 use Rattle.signed.specs.Laws.{ordered}
 use Rattle.table.specs.First.{first, judge, _then_}
 use Rattle.table.specs.Valid.{given, headerWords, verdict, verdictFrom}
@@ -21,11 +23,11 @@ use Rattle.list.specs.Listing.{countIn, nameAt, typeAt, payloadAt, table
 
 module _ (W B : ℕ) (r : Answer) (E T : List ℕ) where
   -- no words at all
-  none-is : (name type : ℕ) (s : List ℕ) → reading [] name type s W B ≡ declined 1 0 []
+  none-is : (name type : ℕ) (s : List ℕ) → reading [] name type s W B ≡ declined refusal.table 0 []
   unfolding reading afterVerdict verdict verdictFrom first judge _then_ headerWords given
   none-is name type s = refl
 
-  pub none-read : (name type : ℕ) (s : List ℕ) → Replies (reading [] name type s W B) W B r E T → Replies (declined 1 0 []) W B r E T
+  pub none-read : (name type : ℕ) (s : List ℕ) → Replies (reading [] name type s W B) W B r E T → Replies (declined refusal.table 0 []) W B r E T
   none-read name type s h = subst (λ (R : Reply). Replies R W B r E T) (none-is name type s) h
 
   -- the parts behind n words
@@ -64,18 +66,18 @@ module _ (W B : ℕ) (r : Answer) (E T : List ℕ) where
     being : (R : Reply) → R ≡ listing s W B → Replies R W B r E T → Listed
     being R e h = subst (λ (x : Reply). Replies x W B r E T) e h
 
-    pub too-short : length s < payloadAt (countIn s) → Replies (declined 1 0 []) W B r E T → Listed
+    pub too-short : length s < payloadAt (countIn s) → Replies (declined refusal.table 0 []) W B r E T → Listed
     unfolding listing
-    too-short h k = being _ (sym (either (leb (countIn s) 8964))) k
+    too-short h k = being _ (sym (either (leb (countIn s) mostTableWords))) k
       where
-        either : (x : Bool) → cond x (cond (leb (payloadAt (countIn s)) (length s)) (listed s (countIn s) W B) (declined 1 0 [])) (declined 1 0 []) ≡ declined 1 0 []
+        either : (x : Bool) → cond x (cond (leb (payloadAt (countIn s)) (length s)) (listed s (countIn s) W B) (declined refusal.table 0 [])) (declined refusal.table 0 []) ≡ declined refusal.table 0 []
         either true = rw (lt-leb (payloadAt (countIn s)) (length s) h)
         either false = refl
 
-    pub too-many : 8964 < countIn s → Replies (declined 1 0 []) W B r E T → Listed
+    pub too-many : mostTableWords < countIn s → Replies (declined refusal.table 0 []) W B r E T → Listed
     unfolding listing
-    too-many h k = being _ (sym (rw (lt-leb (countIn s) 8964 h))) k
+    too-many h k = being _ (sym (rw (lt-leb (countIn s) mostTableWords h))) k
 
-    pub all-there : (n : ℕ) → n ≡ countIn s → n ≤ 8964 → payloadAt n ≤ length s → Replies (listed s n W B) W B r E T → Listed
+    pub all-there : (n : ℕ) → n ≡ countIn s → n ≤ mostTableWords → payloadAt n ≤ length s → Replies (listed s n W B) W B r E T → Listed
     unfolding listing
-    all-there n e h g k = being _ (sym (rw (← e, le-leb n 8964 h, le-leb (payloadAt n) (length s) g))) k
+    all-there n e h g k = being _ (sym (rw (← e, le-leb n mostTableWords h, le-leb (payloadAt n) (length s) g))) k

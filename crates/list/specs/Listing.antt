@@ -4,6 +4,8 @@ use mathlib.Core.Bool.{cond}
 use mathlib.Core.List.{List, []}
 use lib.Dec.{leb}
 use lib.ListN.{length, take, drop}
+use Rattle.numbers.specs.Refusal as refusal
+use Rattle.numbers.specs.Limit.{mostTableWords}
 use Rattle.model.specs.Whole.{Reply, reading}
 use Rattle.model.specs.Whole.Reply.{declined}
 use Rattle.words.specs.Bytes.{wordFrom, halfFrom, wordsOf}
@@ -21,7 +23,7 @@ typeAt n = 6 + 4 * n
 abbrev pub payloadAt : ℕ → ℕ
 payloadAt n = 8 + 4 * n
 
--- one payload byte more than is allowed is looked at, so that 3 shows
+-- one payload byte more than is allowed is looked at, so that payloadSize shows
 abbrev pub tableIn : List ℕ → ℕ → List ℕ
 tableIn s n = wordsOf (take (4 * n) (drop 4 s))
 
@@ -31,7 +33,7 @@ payloadIn s n = take 8193 (drop (payloadAt n) s)
 unfoldable pub listed : List ℕ → ℕ → ℕ → ℕ → Reply
 listed s n words bytes = reading (tableIn s n) (halfFrom s (nameAt n)) (halfFrom s (typeAt n)) (payloadIn s n) words bytes
 
--- an input that ends before its root type is whole, or a word count over 8,964, is refused 1 at 0
+-- an input that ends before its root type is whole, or a word count over mostTableWords, is refused as a table of no words is
 unfoldable pub listing : List ℕ → ℕ → ℕ → Reply
 listing s words bytes =
-    cond (leb (countIn s) 8964) (cond (leb (payloadAt (countIn s)) (length s)) (listed s (countIn s) words bytes) (declined 1 0 [])) (declined 1 0 [])
+    cond (leb (countIn s) mostTableWords) (cond (leb (payloadAt (countIn s)) (length s)) (listed s (countIn s) words bytes) (declined refusal.table 0 [])) (declined refusal.table 0 [])

@@ -1,4 +1,5 @@
 // The input taken apart, and read.
+use numbers::limit;
 use reader::Answer;
 use reader::read;
 use words::half;
@@ -8,38 +9,43 @@ ghost use mathlib.Core.Path.{_≡_};
 ghost use mathlib.Core.List.{[]};
 ghost use Prim.Native.Nat.{_+_, _≤_, min};
 ghost use lib.ListN.{length};
+ghost use Rattle.numbers.specs.Refusal as refusal;
+ghost use Rattle.numbers.specs.Limit.{mostTableWords};
 ghost use Rattle.model.specs.Whole.Reply.{declined};
 ghost use Rattle.reader.specs.Answers.{Replies};
 ghost use Rattle.list.specs.Listing as meaning;
 
-// A table of no words: 1 at 0.
+// A table of no words.
 fn unread(input: &[u8], events: &mut [u32], texts: &mut [u8]) -> Answer
-    ensures { λ r. ⌜ Replies (declined 1 0 []) (length (now (events .entry))) (length (now (texts .entry))) r (now (events .exit)) (now (texts .exit)) ⌝ }
+    ensures { λ r. ⌜ Replies (declined refusal.table 0 []) (length (now (events .entry))) (length (now (texts .entry))) r (now (events .exit)) (now (texts .exit)) ⌝ }
 {
     let words = [0u32; 4];
     read(&words[..0], 0, 0, input, events, texts)
 }
+
+// One payload byte more than is allowed is looked at, so that PAYLOAD_SIZE shows.
+const LOOKED_AT: usize = limit::MOST_PAYLOAD + 1;
 
 // Where the payload ends, as far as it is looked at.
 fn payload_end(from: usize, size: usize) -> usize
     requires { ⌜ from ≤ size ⌝ }
     ensures { λ r. ⌜ r ≡ min size (from + 8193) ⌝ }
 {
-    if size - from < 8193 {
+    if size - from < LOOKED_AT {
         return size;
     }
-    from + 8193
+    from + LOOKED_AT
 }
 
 // The parts behind a count of n words.
 fn read_parts(input: &[u8], n: usize, events: &mut [u32], texts: &mut [u8]) -> Answer
-    requires { ⌜ (n ≤ 8964) × (meaning.payloadAt n ≤ length (now input)) ⌝ }
+    requires { ⌜ (n ≤ mostTableWords) × (meaning.payloadAt n ≤ length (now input)) ⌝ }
     ensures { λ r. ⌜ Replies (meaning.listed (now (input .entry)) n (length (now (events .entry))) (length (now (texts .entry)))) (length (now (events .entry))) (length (now (texts .entry))) r (now (events .exit)) (now (texts .exit)) ⌝ }
 {
     let at = 4 + 4 * n;
     let root_name = half(input, at);
     let root_type = half(input, at + 2);
-    let mut words = [0u32; 8964];
+    let mut words = [0u32; limit::MOST_TABLE_WORDS];
     load(&input[4..at], &mut words, n);
     let from = at + 4;
     let to = payload_end(from, input.len());
@@ -62,7 +68,7 @@ pub fn read_input(input: &[u8], events: &mut [u32], texts: &mut [u8]) -> Answer
         return unread(input, events, texts);
     }
     let n = word(input, 0) as usize;
-    if 8964 < n {
+    if limit::MOST_TABLE_WORDS < n {
         return unread(input, events, texts);
     }
     if size < 8 + 4 * n {

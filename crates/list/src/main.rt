@@ -3,6 +3,8 @@ mod listing; // listing.rt: the input taken apart, and read
 mod text; // text.rt: the lines
 
 use listing::read_input;
+use numbers::limit;
+use numbers::refusal;
 use reader::Answer;
 use text::event_line;
 use text::heading;
@@ -43,10 +45,10 @@ fn print_heading(events: u32, text: u32, bits: u32) {
 fn main() {
     let mut input = io::large_buffer();
     let n = io::read_full(0, &mut input);
-    let mut events = [0u32; 8192];
-    let mut texts = [0u8; 8192];
+    let mut events = [0u32; limit::MOST_EVENT_WORDS];
+    let mut texts = [0u8; limit::MOST_PAYLOAD];
     let a = read_input(&input[..n], &mut events, &mut texts);
-    if a.number != 0 {
+    if a.number != refusal::ACCEPTED {
         print_refusal(a.number, a.place);
         return;
     }

@@ -6,6 +6,8 @@ use mathlib.Core.List.{List, []}
 use native.Mathlib.Omega.{arith}
 use lib.ListN.{length, length-append}
 use Rattle.wire.specs.Res.{got}
+use Rattle.numbers.specs.Refusal.{notHeld}
+use Rattle.numbers.specs.Kind as kinds
 use Rattle.model.specs.Model.{event, Nodes, Path, Plan}
 use Rattle.model.specs.Model.Plan.{element}
 use Rattle.model.specs.Model.Nodes.{none, leaf, node}
@@ -31,7 +33,7 @@ is-exact (a-blank w h z u j) = (λ e. z, is-exact j)
 -- where an element may come there stands one that is held, with what its head says; or a Blank, whose head has a length, of all its bits
 pub data Shown (mode : Mode) (held : ℕ → Bool) (name type at : ℕ) : Nodes → Type 0 where
   as-element : {h : Length} {s : List ℕ} {i r : Nodes} → held type ≡ true → HeadIs mode type type h s → Shown mode held name type at (node (opens name type h at (length s)) i r)
-  as-blank : {n : ℕ} {s : List ℕ} {r : Nodes} → held type ≡ false → HeadIs mode type type (long n) s → Shown mode held name type at (leaf at (event 7 name type (length s + n)) [] r)
+  as-blank : {n : ℕ} {s : List ℕ} {r : Nodes} → held type ≡ false → HeadIs mode type type (long n) s → Shown mode held name type at (leaf at (event kinds.blank name type (length s + n)) [] r)
 
 pub element-shown : {mode : Mode} {held : ℕ → Bool} {name type : ℕ} {f : ℕ → Plan} {P : Plan} {at : ℕ} {ns : Nodes} {w : List ℕ} → Is mode held (element name type f P) at ns w → Shown mode held name type at ns
 element-shown (an-element {h} {s} x z g m j) = let e = same-type x in rw (← e) (as-element (rw (← e) at z) (rw (← e) at x))
@@ -50,10 +52,10 @@ never-plain (a-blank w h z u j) = absurd (no-length h refl)
 -- in the reading: by the head that was read and the type's mark
 module _ (b : ℕ → ℕ) (mode : Mode) (held : ℕ → Bool) (f : Into) (name type : ℕ) (r : Room) (π : Path) (wall at : ℕ) where
   pub blank-where : (t body end : ℕ) → headAt mode b type wall at ≡ got (Head.sized t body end) → held t ≡ false
-      → elementAt b mode held f name type r π wall at ≡ stored r π at (event 7 name t (end - at)) [] end
+      → elementAt b mode held f name type r π wall at ≡ stored r π at (event kinds.blank name t (end - at)) [] end
   unfolding elementAt code opened sized
   blank-where t body end e z = rw (e, z)
 
-  pub nine-where : (t body : ℕ) → headAt mode b type wall at ≡ got (Head.bare t body) → held t ≡ false → elementAt b mode held f name type r π wall at ≡ refused 9 at π
+  pub nine-where : (t body : ℕ) → headAt mode b type wall at ≡ got (Head.bare t body) → held t ≡ false → elementAt b mode held f name type r π wall at ≡ refused notHeld at π
   unfolding elementAt code opened bare
   nine-where t body e z = rw (e, z)

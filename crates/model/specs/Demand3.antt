@@ -9,6 +9,7 @@ use native.Mathlib.Omega.{arith}
 use native.Mathlib.Decide.{decLt}
 use lib.Dec.{eqb}
 use lib.ListN.{length}
+use Rattle.numbers.specs.Refusal.{notHeld}
 use Rattle.wire.specs.Bits.{bitAt}
 use Rattle.wire.specs.BitLaws.{bit-lt}
 use Rattle.table.specs.Words.{typeAt, wordAt}
@@ -44,7 +45,7 @@ newOf l l′ t = newly (heldOf l) (heldOf l′) t
 -- them replaced by one Blank of the same bit count, and the same bits used
 unfoldable pub saysLess : Mode → Option (Mark × Path) → Nodes → ℕ → Reply
 saysLess mode none ns q = accepted mode ns q
-saysLess mode (some (m, π)) ns q = declined 9 (m .at) (reverse π)
+saysLess mode (some (m, π)) ns q = declined notHeld (m .at) (reverse π)
 
 module _ (l l′ : List ℕ) (pair : Pair l l′) where
   -- a number that is no type has no mark

@@ -8,6 +8,9 @@ use native.Mathlib.Omega.{arith}
 use borrow.Author.Tests.{le-leb, leb-true, eq-eqb, eqb-true}
 use lib.Dec.{eqb, leb}
 use lib.ListN.{length, getD}
+use Rattle.numbers.specs.Refusal as refusal
+use Rattle.numbers.specs.Refusal.{noReading, payloadRoom}
+use Rattle.numbers.specs.Limit.{mostEvents, mostName, mostPayload}
 use Rattle.wire.specs.Res.{Res, got, fault, guard, atMost, Ensures, gives, stops, under, under-then}
 use Rattle.table.specs.First.{Verdict}
 use Rattle.table.specs.First.Verdict.{right, wrong}
@@ -19,11 +22,11 @@ use Rattle.model.specs.Write.{Bare, bare, Out, write}
 use Rattle.model.specs.Pack.{pack}
 use Rattle.model.specs.Whole.{modeByte, modeNumber, accepted, payload, asked, roomOf, afterAsked, afterVerdict, reading, eventWords, Made, made, unmade, eventAt, eventsFrom, roomed, spent, modeAsked, shaped, written, orUnmade, verdictMade, writing}
 
--- 1 and 2 do not apply
+-- table and root are right
 pub record Entered (l : List ℕ) (name type : ℕ) : Type 0 where
   pub table-right : verdict l ≡ right
   pub type-known : type < tableOf l .types
-  pub name-small : name ≤ 65535
+  pub name-small : name ≤ mostName
 
 guarded : (t : Bool) (e : ℕ) → Ensures (guard t e) (λ u. t ≡ true)
 unfolding guard
@@ -38,13 +41,13 @@ at-most-then : (a b e : ℕ) → a ≤ b → atMost a b e ≡ got tt
 unfolding atMost guard
 at-most-then a b e h = rw (le-leb a b h)
 
-asked-found : (types name type : ℕ) → Ensures (asked types name type) (λ u. (type < types) × (name ≤ 65535))
+asked-found : (types name type : ℕ) → Ensures (asked types name type) (λ u. (type < types) × (name ≤ mostName))
 unfolding asked
-asked-found types name type = under 2 λ h. record { says = λ u e. (h, at-most name 65535 2 .says u e) }
+asked-found types name type = under refusal.root λ h. record { says = λ u e. (h, at-most name mostName refusal.root .says u e) }
 
-pub asked-then : (types name type : ℕ) → type < types → name ≤ 65535 → asked types name type ≡ got tt
+pub asked-then : (types name type : ℕ) → type < types → name ≤ mostName → asked types name type ≡ got tt
 unfolding asked
-asked-then types name type h k = under-then 2 h (at-most-then name 65535 2 k)
+asked-then types name type h k = under-then refusal.root h (at-most-then name mostName refusal.root k)
 
 module _ (l : List ℕ) (name type : ℕ) where
   abbrev pub planOf : Plan
@@ -64,16 +67,16 @@ module _ (l : List ℕ) (name type : ℕ) where
     unfolding reading afterVerdict afterAsked
     reading-found mode ns q e = go (verdict l) (asked (tableOf l .types) name type) refl (asked-found (tableOf l .types) name type) e
       where
-        go : (v : Verdict) (a : Res Unit) → verdict l ≡ v → Ensures a (λ u. (type < tableOf l .types) × (name ≤ 65535))
+        go : (v : Verdict) (a : Res Unit) → verdict l ≡ v → Ensures a (λ u. (type < tableOf l .types) × (name ≤ mostName))
             → afterVerdict v (afterAsked a (payload (heldOf l) planOf s (roomOf words bytes))) ≡ accepted mode ns q → Accepted mode ns q
         go right (got u) r h e = let k = h .says u refl in record { enters = record { table-right = r; type-known = k .0; name-small = k .1 }; reads = e }
         go right (fault n) r h e = absurd (let z : _≡_ {A = ℕ} 0 1 = cc in omega arith)
         go (wrong i) a r h e = absurd (let z : _≡_ {A = ℕ} 0 1 = cc in omega arith)
 
--- whole events, at most 2,048 of them
+-- whole events, at most mostEvents of them
 pub record Shaped (L : List ℕ) : Type 0 where
   pub whole : length L % 4 ≡ 0
-  pub few : length L / 4 ≤ 2048
+  pub few : length L / 4 ≤ mostEvents
 
 abbrev pub listOf : List ℕ → List Bare
 listOf L = eventsFrom L 0 (length L / 4)
@@ -93,15 +96,15 @@ asked-mode (suc (suc (suc k))) = stops
 
 shaped-then : (L : List ℕ) (m : Made) → Shaped L → shaped L m ≡ m
 unfolding shaped
-shaped-then L m h = rw (eq-eqb (length L % 4) 0 (h .whole), le-leb (length L / 4) 2048 (h .few))
+shaped-then L m h = rw (eq-eqb (length L % 4) 0 (h .whole), le-leb (length L / 4) mostEvents (h .few))
 
 shaped-found : (L : List ℕ) (m : Made) (s : List ℕ) (n : ℕ) → shaped L m ≡ made s n → Shaped L × (m ≡ made s n)
 unfolding shaped
-shaped-found L m s n e = go (eqb (length L % 4) 0) (leb (length L / 4) 2048) refl refl e
+shaped-found L m s n e = go (eqb (length L % 4) 0) (leb (length L / 4) mostEvents) refl refl e
   where
-    go : (t u : Bool) → eqb (length L % 4) 0 ≡ t → leb (length L / 4) 2048 ≡ u
-        → cond t (cond u m (unmade 18 (length L / 4))) (unmade 18 (length L / 4)) ≡ made s n → Shaped L × (m ≡ made s n)
-    go true true x y e = (record { whole = eqb-true (length L % 4) 0 x; few = leb-true (length L / 4) 2048 y }, e)
+    go : (t u : Bool) → eqb (length L % 4) 0 ≡ t → leb (length L / 4) mostEvents ≡ u
+        → cond t (cond u m (unmade noReading (length L / 4))) (unmade noReading (length L / 4)) ≡ made s n → Shaped L × (m ≡ made s n)
+    go true true x y e = (record { whole = eqb-true (length L % 4) 0 x; few = leb-true (length L / 4) mostEvents y }, e)
     go true false x y e = absurd (let z : _≡_ {A = ℕ} 0 1 = cc in omega arith)
     go false u x y e = absurd (let z : _≡_ {A = ℕ} 0 1 = cc in omega arith)
 
@@ -112,19 +115,19 @@ module _ (held : ℕ → Bool) (P : Plan) (mode : Mode) (M : List Bare) (T : Lis
     pub writes : write mode held P M T ≡ Out.wrote bits [] []
     pub bytes : s ≡ modeByte mode ∷ pack bits
     pub used : n ≡ 8 + length bits
-    pub fits : 1 + (length bits + 7) / 8 ≤ min room 8192
+    pub fits : 1 + (length bits + 7) / 8 ≤ min room mostPayload
 
   pub written-found : (s : List ℕ) (n : ℕ) → written held P mode M T room ≡ made s n → Writing s n
   unfolding written spent roomed
   written-found s n e = go (write mode held P M T) refl e
     where
-      roomy : (w : List ℕ) (t : Bool) → write mode held P M T ≡ Out.wrote w [] [] → leb (1 + (length w + 7) / 8) (min room 8192) ≡ t
-          → cond t (made (modeByte mode ∷ pack w) (8 + length w)) (unmade 21 0) ≡ made s n → Writing s n
+      roomy : (w : List ℕ) (t : Bool) → write mode held P M T ≡ Out.wrote w [] [] → leb (1 + (length w + 7) / 8) (min room mostPayload) ≡ t
+          → cond t (made (modeByte mode ∷ pack w) (8 + length w)) (unmade payloadRoom 0) ≡ made s n → Writing s n
       roomy w true h x e = record { bits = w; writes = h; bytes = cc; used = cc; fits = leb-true _ _ x }
       roomy w false h x e = absurd (let z : _≡_ {A = ℕ} 0 1 = cc in omega arith)
 
       go : (o : Out) → write mode held P M T ≡ o → spent (length M) o (roomed room mode) ≡ made s n → Writing s n
-      go (Out.wrote w [] []) h e = roomy w (leb (1 + (length w + 7) / 8) (min room 8192)) h refl e
+      go (Out.wrote w [] []) h e = roomy w (leb (1 + (length w + 7) / 8) (min room mostPayload)) h refl e
       go (Out.wrote w [] (x ∷ U)) h e = absurd (let z : _≡_ {A = ℕ} 0 1 = cc in omega arith)
       go (Out.wrote w (x ∷ N) U) h e = absurd (let z : _≡_ {A = ℕ} 0 1 = cc in omega arith)
       go (Out.refused k left) h e = absurd (let z : _≡_ {A = ℕ} 0 1 = cc in omega arith)
@@ -149,7 +152,7 @@ module _ (l : List ℕ) (name type mode : ℕ) (L X : List ℕ) (room : ℕ) whe
   unfolding writing verdictMade orUnmade
   writing-found s n e = go (verdict l) (asked (tableOf l .types) name type) (modeAsked mode) refl (asked-found (tableOf l .types) name type) refl e
     where
-      go : (v : Verdict) (a : Res Unit) (m : Res Mode) → verdict l ≡ v → Ensures a (λ u. (type < tableOf l .types) × (name ≤ 65535)) → modeAsked mode ≡ m
+      go : (v : Verdict) (a : Res Unit) (m : Res Mode) → verdict l ≡ v → Ensures a (λ u. (type < tableOf l .types) × (name ≤ mostName)) → modeAsked mode ≡ m
           → verdictMade v (orUnmade a (λ u. orUnmade m (λ m. shaped L (written (heldOf l) (planOf l name type) m (listOf L) X room)))) ≡ made s n → Wrote s n
       go right (got u) (got m) r h y e =
           let k = h .says u refl in

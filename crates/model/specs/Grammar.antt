@@ -5,6 +5,7 @@ use mathlib.Core.Path.{_≡_}
 use mathlib.Core.Bool.{Bool, true, false}
 use mathlib.Core.List.{List, [], _∷_, _++_}
 use lib.ListN.{length}
+use Rattle.numbers.specs.Kind as kinds
 use Rattle.model.specs.Model.{event, Item, eventOf, Plan, Mark, Nodes}
 use Rattle.model.specs.Model.Plan.{done, item, element}
 use Rattle.model.specs.Model.Nodes.{none, leaf, node}
@@ -33,4 +34,4 @@ pub data Is (mode : Mode) (held : ℕ → Bool) : Plan → ℕ → Nodes → Lis
   -- document 01's Blank, of a type that is not held: the same head, with TheLength, and so many bits that nobody looks into; then the rest
   a-blank : {name type t : ℕ} {f : ℕ → Plan} {P : Plan} {at : ℕ} {s x : List ℕ} {r : Nodes} (w : List ℕ)
       → HeadIs mode type t (long (length w)) s → held t ≡ false → Bits w → Is mode held P (at + length (s ++ w)) r x
-      → Is mode held (element name type f P) at (leaf at (event 7 name t (length (s ++ w))) [] r) ((s ++ w) ++ x)
+      → Is mode held (element name type f P) at (leaf at (event kinds.blank name t (length (s ++ w))) [] r) ((s ++ w) ++ x)

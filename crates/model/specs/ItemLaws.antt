@@ -4,6 +4,7 @@ use mathlib.Core.Path.{_≡_, refl}
 use mathlib.Core.List.{List, [], _++_}
 use native.Mathlib.Omega.{arith}
 use lib.ListN.{length-append}
+use Rattle.numbers.specs.Refusal as refusal
 use Rattle.wire.specs.Res.{got, Ensures, gives, bind, under, then, under-then}
 use Rattle.wire.specs.BitLaws.{At, at-none, at-both, at-left, at-right}
 use Rattle.wire.specs.Lawful.{Binary}
@@ -47,7 +48,7 @@ module _ (b : ℕ → ℕ) (bit : Binary b) where
       → Ensures (lengthAt 1 b t wall p) (FindsHead b mode t wall at)
   unfolding lengthAt
   length-found mode t wall at p o is st =
-      bind (code-lawful lengths .found b bit wall p) λ r f. under 10 λ h.
+      bind (code-lawful lengths .found b bit wall p) λ r f. under refusal.length λ h.
       let z : r .1 + r .0 - r .1 ≡ r .0 = omega arith in
       gives (rw z (record { bits = o ++ bitsOf lengths (r .0); is = is (r .0) (f .fits); stands = at-both st (f .stands); within = λ k. f .within }), omega arith, h)
 
@@ -102,7 +103,7 @@ module _ (b : ℕ → ℕ) where
 
   length-reads : (t n wall at p : ℕ) → Fits lengths n → At b at (bitsOf lengths n) p → p + n ≤ wall → lengthAt 1 b t wall at ≡ got (Head.sized t p (p + n))
   unfolding lengthAt
-  length-reads t n wall at p h f k = then _ (code-lawful lengths .reads b wall at n p h f (omega arith)) (under-then 10 k refl)
+  length-reads t n wall at p h f k = then _ (code-lawful lengths .reads b wall at n p h f (omega arith)) (under-then refusal.length k refl)
 
   pub head-reads : {mode : Mode} {declared t : ℕ} {h : Length} {w : List ℕ} (wall : ℕ) {at p : ℕ} → HeadIs mode declared t h w → At b at w p → p ≤ wall → stopOf h p wall ≤ wall
       → headAt mode b declared wall at ≡ got (headOf h t p)

@@ -5,6 +5,7 @@ use mathlib.Core.List.{List, [], _++_}
 use native.Mathlib.Omega.{arith}
 use lib.ListN.{length, take, drop, length-append, length-take, take-append-drop}
 use lib.Seq.{take-at, drop-at}
+use Rattle.numbers.specs.Refusal.{outsideRow, textBytes}
 use Rattle.wire.specs.Res.{got, Ensures, gives, bind, tested, under, then, tested-then, under-then}
 use Rattle.value.specs.Code.{Code, choice, Fits, bitsOf, fits, codeOut}
 use Rattle.value.specs.CodeLaws.{fits-true, true-fits}
@@ -35,7 +36,7 @@ simple-written : (s : Simple) (v : ℕ) (T : List ℕ) → Ensures (simpleOut s 
 unfolding simpleOut
 simple-written (plain c) v T = bind (code-written c v) λ w f. gives (record { texts = []; is = rw (f .0) (a-code (f .1)); text = refl })
 simple-written text v T =
-    bind (code-written count v) λ w f. under 23 λ h. passes _ λ z.
+    bind (code-written count v) λ w f. under textBytes λ h. passes _ λ z.
     let X = take v T in
     let n : length X ≡ v = length-take v T ∙ omega arith in
     gives (record {
@@ -68,7 +69,7 @@ item-written i e T = record {
 -- and what may stand is written
 code-out : (c : Code) (v : ℕ) → Fits c v → codeOut c v ≡ got (bitsOf c v)
 unfolding codeOut
-code-out c v h = tested-then 20 (true-fits c v h) refl
+code-out c v h = tested-then outsideRow (true-fits c v h) refl
 
 simple-out : {s : Simple} {v : ℕ} {T w : List ℕ} (U : List ℕ) → SimpleIs s v T w → simpleOut s v (T ++ U) ≡ got (w, U)
 unfolding simpleOut
@@ -77,7 +78,7 @@ simple-out U (a-text {l} h k z) =
     let n = length-append l U in
     let x : take (length l) (l ++ U) ≡ l = take-at l U (length l) refl in
     let y : drop (length l) (l ++ U) ≡ U = drop-at l U (length l) refl in
-    then _ (code-out count (length l) h) (under-then 23 (omega arith) (rw (x, y) (passes-then z refl)))
+    then _ (code-out count (length l) h) (under-then textBytes (omega arith) (rw (x, y) (passes-then z refl)))
 
 form-out : {f : Form} {v : ℕ} {T w : List ℕ} (U : List ℕ) → FormIs f v T w → formOut f v (T ++ U) ≡ got (w, U)
 unfolding formOut

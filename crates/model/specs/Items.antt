@@ -4,6 +4,7 @@ use Prim.Native.Nat.{ℕ, zero, suc, _+_, _-_, _^_}
 use mathlib.Core.Path.{_≡_}
 use mathlib.Core.Bool.{Bool, true, false}
 use mathlib.Core.List.{List, [], _++_}
+use Rattle.numbers.specs.Refusal as refusal
 use Rattle.wire.specs.Res.{Res, got, _>>=_, _>>_, atMost}
 use Rattle.value.specs.Code.{Code, choice, five, Fits, bitsOf, codeAt}
 use Rattle.value.specs.Simple.{Simple, plain, timesCode, simpleOf, simpleAt, SimpleIs}
@@ -73,12 +74,12 @@ pub data Head : Type 0 where
   bare : (type body : ℕ) → Head
   sized : (type body end : ℕ) → Head
 
--- after the flag, where there is one: TheLength, which counts the bits after itself (001, 8.4.2.2); 10 where it passes the wall
+-- after the flag, where there is one: TheLength, which counts the bits after itself (001, 8.4.2.2) and does not pass the wall
 unfoldable pub lengthAt : ℕ → (ℕ → ℕ) → ℕ → ℕ → ℕ → Res Head
 lengthAt zero b type wall at = got (bare type at)
 lengthAt (suc k) b type wall at = do
   (n, p) ← codeAt lengths b wall at
-  atMost (p + n) wall 10
+  atMost (p + n) wall refusal.length
   got (sized type p (p + n))
 
 unfoldable pub headAt : Mode → (ℕ → ℕ) → ℕ → ℕ → ℕ → Res Head

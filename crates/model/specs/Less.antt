@@ -4,6 +4,8 @@ use Prim.Native.Nat.{ℕ, _+_}
 use mathlib.Core.List.{List, [], _∷_, _++_}
 use mathlib.Core.Bool.{Bool, false, cond}
 use mathlib.Core.Option.{Option, none, some}
+use Rattle.numbers.specs.Refusal.{notHeld}
+use Rattle.numbers.specs.Kind as kinds
 use Rattle.model.specs.Model.{event, Mark, Nodes, Path, Answer, bitsOf}
 use Rattle.model.specs.Model.Nodes.{leaf, node}
 use Rattle.model.specs.Model.Answer.{given, refused}
@@ -24,7 +26,7 @@ module _ (new : ℕ → Bool) where
   replaced Nodes.none = Nodes.none
   replaced (leaf at e ts r) = leaf at e ts (replaced r)
   replaced (node m i r) =
-      cond (new (m .type)) (leaf (m .at) (event 7 (m .name) (m .type) (m .bits + bitsOf i)) [] (replaced r)) (node m (replaced i) (replaced r))
+      cond (new (m .type)) (leaf (m .at) (event kinds.blank (m .name) (m .type) (m .bits + bitsOf i)) [] (replaced r)) (node m (replaced i) (replaced r))
 
 -- the first of some elements that has no length
 unfoldable pub firstBare : List (Mark × Path) → Option (Mark × Path)
@@ -34,4 +36,4 @@ firstBare ((m, π) ∷ l) = cond (m .coded) (firstBare l) (some (m, π))
 -- 9 at that one; else the tree with all of them replaced
 unfoldable pub said : Option (Mark × Path) → Nodes → ℕ → Answer
 said none ns q = given ns q
-said (some (m, π)) ns q = refused 9 (m .at) π
+said (some (m, π)) ns q = refused notHeld (m .at) π

@@ -4,6 +4,7 @@ use mathlib.Core.Path.{_≡_, refl, sym, ap, ap₂, _∙_}
 use mathlib.Core.List.{List, [], _∷_, _++_, map, append-nil, append-assoc, map-append}
 use native.Mathlib.Omega.{arith}
 use lib.ListN.{length, length-append}
+use Rattle.numbers.specs.Kind as kinds
 use Rattle.model.specs.Model.{event, end, Nodes, events, texts, slotsOf, bytesOf, flagOf}
 use Rattle.model.specs.Model.Nodes.{none, leaf, node}
 use Rattle.model.specs.Write.{Bare, bare}
@@ -11,7 +12,7 @@ use Rattle.model.specs.Write.{Bare, bare}
 unfoldable pub lists : Nodes → List Bare → List Bare
 lists none M = M
 lists (leaf at e ts r) M = bare e ∷ lists r M
-lists (node m i r) M = bare (event 1 (m .name) (flagOf (m .coded)) 0) ∷ lists i (bare end ∷ lists r M)
+lists (node m i r) M = bare (event kinds.start (m .name) (flagOf (m .coded)) 0) ∷ lists i (bare end ∷ lists r M)
 
 unfoldable pub spells : Nodes → List ℕ → List ℕ
 spells none U = U

@@ -4,10 +4,12 @@ use Prim.Native.Nat.{ℕ, zero, suc, _+_}
 use mathlib.Core.List.{List, [], _∷_, _++_}
 use mathlib.Core.Bool.{Bool, true, false}
 use lib.ListN.{length}
+use Rattle.numbers.specs.Kind as kinds
+use Rattle.numbers.specs.Limit.{mostOpen}
 use Rattle.table.specs.Rows.{Row, Content, Attribute, Table}
 use Rattle.table.specs.Rows.Content.{empty, simple, particles}
 
--- document 01's four words: kind (1 Start, 2 Attribute, 3 Value, 4 Pick, 5 Times, 6 End, 7 Blank), p, q, bits taken
+-- document 01's four words: kind (crate numbers has their names), p, q, bits taken
 pub record Event : Type 0 where
   pub kind : ℕ
   pub p : ℕ
@@ -18,7 +20,7 @@ abbrev pub event : ℕ → ℕ → ℕ → ℕ → Event
 event k p q n = record { kind = k; p = p; q = q; bits = n }
 
 abbrev pub end : Event
-end = event 6 0 0 0
+end = event kinds.end 0 0 0
 
 -- one code that gives one event: a required attribute (no bits) and an optional one's flag (001, 8.5.3), a value (8.5.4), a branch, which is a
 -- code transition (8.5.2.4.1), a count, which is a loop's (8.5.2.4.3)
@@ -31,11 +33,11 @@ pub data Item : Type 0 where
 
 -- an item's event, by its value and its bits
 unfoldable pub eventOf : Item → ℕ → ℕ → Event
-eventOf (required name) v n = event 2 name 1 n
-eventOf (optional name) v n = event 2 name v n
-eventOf (valued kind b c) v n = event 3 v 0 n
-eventOf (picked count) v n = event 4 v 0 n
-eventOf (counted least most) v n = event 5 v 0 n
+eventOf (required name) v n = event kinds.attribute name 1 n
+eventOf (optional name) v n = event kinds.attribute name v n
+eventOf (valued kind b c) v n = event kinds.value v 0 n
+eventOf (picked count) v n = event kinds.pick v 0 n
+eventOf (counted least most) v n = event kinds.times v 0 n
 
 -- nothing more; a row too many (document 01's limit of 64); an item and, by its value, the rest; an element (a type state, 001, 8.5.2.4.2), what
 -- its type lets come inside it, the rest
@@ -88,9 +90,9 @@ module _ (T : Table) where
   plan zero row rest = deep
   plan (suc d) row rest = due (plan d) row rest
 
-  -- the root, which is itself the first of at most 64 open rows
+  -- the root, which is itself the first of at most mostOpen open rows
   abbrev pub rooted : ℕ → ℕ → Plan
-  rooted name type = plan 64 (Row.element name type) done
+  rooted name type = plan mostOpen (Row.element name type) done
 
 -- an element that was opened: what its Start says, its type and its place
 pub record Mark : Type 0 where
@@ -117,7 +119,7 @@ flagOf true = 1
 flagOf false = 0
 
 abbrev pub start : Mark → Event
-start m = event 1 (m .name) (flagOf (m .coded)) (m .bits)
+start m = event kinds.start (m .name) (flagOf (m .coded)) (m .bits)
 
 -- the list of events; the texts one after another
 unfoldable pub events : Nodes → List Event

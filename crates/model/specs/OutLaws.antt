@@ -8,6 +8,9 @@ use native.Mathlib.Omega.{arith}
 use borrow.Author.Tests.{eqb-true, eq-eqb}
 use lib.Dec.{eqb}
 use lib.ListN.{length}
+use Rattle.numbers.specs.Refusal as refusal
+use Rattle.numbers.specs.Refusal.{noReading}
+use Rattle.numbers.specs.Kind as kinds
 use Rattle.wire.specs.Res.{Res, got, fault, Ensures}
 use Rattle.model.specs.Model.{end}
 use Rattle.model.specs.Items.{Mode}
@@ -38,7 +41,7 @@ unfolding unlike
 unlike-none f e h = go (eqb (f .kind) (e .kind)) (eqb (f .p) (e .p)) (eqb (f .q) (e .q)) refl refl refl h
   where
     go : (a c d : Bool) → eqb (f .kind) (e .kind) ≡ a → eqb (f .p) (e .p) ≡ c → eqb (f .q) (e .q) ≡ d
-        → _≡_ {A = ℕ} (cond a (cond c (cond d 0 18) 18) (cond (eqb (e .kind) 7) 19 18)) 0 → f ≡ e
+        → _≡_ {A = ℕ} (cond a (cond c (cond d 0 noReading) noReading) (cond (eqb (e .kind) kinds.blank) refusal.blank noReading)) 0 → f ≡ e
     go true true true x y z h =
         let k = eqb-true (f .kind) (e .kind) x in
         let p = eqb-true (f .p) (e .p) y in
@@ -46,9 +49,9 @@ unlike-none f e h = go (eqb (f .kind) (e .kind)) (eqb (f .p) (e .p)) (eqb (f .q)
         λ i. record { kind = k i; p = p i; q = q i }
     go true true false x y z h = absurd (omega arith)
     go true false d x y z h = absurd (omega arith)
-    go false c d x y z h = absurd (ill (eqb (e .kind) 7) h)
+    go false c d x y z h = absurd (ill (eqb (e .kind) kinds.blank) h)
       where
-        ill : (b : Bool) → _≡_ {A = ℕ} (cond b 19 18) 0 → ⊥
+        ill : (b : Bool) → _≡_ {A = ℕ} (cond b refusal.blank noReading) 0 → ⊥
         ill true h = omega arith
         ill false h = omega arith
 

@@ -5,6 +5,7 @@ use mathlib.Core.Bool.{Bool}
 use mathlib.Core.List.{List, _∷_}
 use native.Mathlib.Omega.{arith}
 use lib.ListN.{length}
+use Rattle.numbers.specs.Kind as kinds
 use Rattle.wire.specs.Bits.{source}
 use Rattle.wire.specs.BitLaws.{At}
 use Rattle.table.specs.Rows.{Attribute, Table}
@@ -34,5 +35,5 @@ item-own i w {v} {v′} {ts} {ts′} h k =
 
 -- an absent attribute has no Value: after its event come the events of the attributes after it, with all the texts
 pub absent-no-value : {T : Table} {mode : Mode} {held : ℕ → Bool} {d : ℕ} {a : Attribute} {l : List Attribute} {L : List Bare} {X : List ℕ}
-    → Model T mode held d (attributes (a ∷ l)) (word 2 (a .name) 0 ∷ L) X → Model T mode held d (attributes l) L X
+    → Model T mode held d (attributes (a ∷ l)) (word kinds.attribute (a .name) 0 ∷ L) X → Model T mode held d (attributes l) L X
 absent-no-value (Model.absent e m) = m

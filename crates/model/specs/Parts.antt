@@ -5,6 +5,7 @@ use mathlib.Core.Bool.{Bool}
 use mathlib.Core.List.{List, [], _++_, append-assoc}
 use native.Mathlib.Omega.{arith}
 use lib.ListN.{length, length-append}
+use Rattle.numbers.specs.Kind as kinds
 use Rattle.model.specs.Model.{event, eventOf, Plan, Nodes, _then_}
 use Rattle.model.specs.Model.Plan.{done, deep, item, element}
 use Rattle.model.specs.Model.Nodes.{none, leaf, node}
@@ -64,13 +65,13 @@ module _ (mode : Mode) (held : ℕ → Bool) where
   is-split (element name type f P) {at} (a-blank {t} {s = o} {r} w h z u j) =
       let s = is-split P j in
       record {
-        ns = leaf at (event 7 name t (length (o ++ w))) [] (s .ns);
+        ns = leaf at (event kinds.blank name t (length (o ++ w))) [] (s .ns);
         ms = s .ms;
         w = (o ++ w) ++ s .w;
         x = s .x;
         first = a-blank w h z u (s .first);
         second = moved (omega (arith, length-append (o ++ w) (s .w))) (s .second);
-        tree = ap (leaf at (event 7 name t (length (o ++ w))) []) (s .tree);
+        tree = ap (leaf at (event kinds.blank name t (length (o ++ w))) []) (s .tree);
         bits = ap (λ (l : List ℕ). (o ++ w) ++ l) (s .bits) ∙ sym (append-assoc (o ++ w) (s .w) (s .x));
       }
 

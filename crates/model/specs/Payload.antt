@@ -8,6 +8,8 @@ use native.Mathlib.Decide.{decLt, ℕ-discrete}
 use borrow.Author.Tests.{eq-eqb, ne-eqb, eqb-true, ltb-true, lt-ltb}
 use lib.Dec.{eqb, ltb}
 use lib.ListN.{length, getD}
+use Rattle.numbers.specs.Refusal.{payloadSize}
+use Rattle.numbers.specs.Limit.{mostPayload}
 use Rattle.wire.specs.Res.{Res, got, fault, Ensures, gives, stops, under, under-then}
 use Rattle.wire.specs.Bits.{bitAt, source}
 use Rattle.wire.specs.BitLaws.{bit-lt}
@@ -28,7 +30,7 @@ use Rattle.model.specs.Whole.{modeByte, modeAt, modeOf, zeros, padding, 
 -- the mode byte
 pub record Moded (s : List ℕ) (mode : Mode) : Type 0 where
   pub filled : 1 ≤ length s
-  pub few : length s ≤ 8192
+  pub few : length s ≤ mostPayload
   pub byte : getD s 0 0 ≡ modeByte mode
 
 mode-found : (x : ℕ) → Ensures (modeAt x) (λ m. x ≡ modeByte m)
@@ -49,11 +51,11 @@ mode-reads Mode.always = refl
 
 pub moded : (s : List ℕ) → Ensures (modeOf s) (Moded s)
 unfolding modeOf
-moded s = under 3 λ a. under 3 λ c. record { says = λ m e. record { filled = a; few = c; byte = mode-found (getD s 0 0) .says m e } }
+moded s = under payloadSize λ a. under payloadSize λ c. record { says = λ m e. record { filled = a; few = c; byte = mode-found (getD s 0 0) .says m e } }
 
 pub moded-then : (s : List ℕ) (mode : Mode) → Moded s mode → modeOf s ≡ got mode
 unfolding modeOf
-moded-then s mode h = under-then 3 (h .filled) (under-then 3 (h .few) (rw (h .byte) (mode-reads mode)))
+moded-then s mode h = under-then payloadSize (h .filled) (under-then payloadSize (h .few) (rw (h .byte) (mode-reads mode)))
 
 -- the padding
 abbrev pub Zeros : (ℕ → ℕ) → ℕ → ℕ → Type 0
@@ -157,7 +159,7 @@ module _ (held : ℕ → Bool) (P : Plan) where
       ∙ bytes-back s (c .1))))
 
   -- and bits that are so make such a payload
-  pub packed-is : (mode : Mode) (w : List ℕ) (ns : Nodes) (r : Room) → Is mode held P 8 ns w → 1 + (length w + 7) / 8 ≤ 8192 → slotsOf ns ≤ r .slots → bytesOf ns ≤ r .bytes
+  pub packed-is : (mode : Mode) (w : List ℕ) (ns : Nodes) (r : Room) → Is mode held P 8 ns w → 1 + (length w + 7) / 8 ≤ mostPayload → slotsOf ns ≤ r .slots → bytesOf ns ≤ r .bytes
       → PayloadIs (modeByte mode ∷ pack w) r mode ns (8 + length w)
   unfolding pack
   packed-is mode w ns r i few h k =

@@ -4,6 +4,9 @@ use mathlib.Core.List.{List, [], _∷_}
 use mathlib.Core.Bool.{Bool, true, false}
 use lib.Dec.{ltb, leb, eqb}
 use lib.ListN.{length}
+use Rattle.numbers.specs.Refusal as refusal
+use Rattle.numbers.specs.Refusal.{eventRoom, textRoom, notHeld, contentShort}
+use Rattle.numbers.specs.Kind as kinds
 use Rattle.wire.specs.Res.{Res, got, fault}
 use Rattle.model.specs.Model.{Event, event, eventOf, Plan, Mark, Nodes, _then_, slotsOf, bytesOf, Path, Answer}
 use Rattle.model.specs.Model.Plan.{done, deep, item, element}
@@ -36,24 +39,24 @@ unfoldable pub code : {A : Type 0} → Res A → Path → ℕ → (A → Answer)
 code (got a) π at k = k a
 code (fault n) π at k = refused n at π
 
--- an event is stored: 8, then 7
+-- an event is stored: room for its text comes before its own
 unfoldable pub kept : Bool → Bool → Path → ℕ → Event → List ℕ → ℕ → Answer
 kept true true π at e ts q = given (leaf at e ts none) q
-kept true false π at e ts q = refused 7 at π
-kept false u π at e ts q = refused 8 at π
+kept true false π at e ts q = refused eventRoom at π
+kept false u π at e ts q = refused textRoom at π
 
 unfoldable pub stored : Room → Path → ℕ → Event → List ℕ → ℕ → Answer
 stored r π at e ts q = kept (leb (length ts) (r .bytes)) (ltb 0 (r .slots)) π at e ts q
 
--- the end of an element: 11 where its declared end is not met, then room for End, with the element still in the path
+-- the end of an element: its declared end is met, then room for End, with the element still in the path
 unfoldable pub met : Bool → ℕ → ℕ → Bool
 met true q wall = eqb q wall
 met false q wall = true
 
 unfoldable pub ended : Bool → Bool → Mark → Path → ℕ → Nodes → ℕ → Answer
 ended true true m π body ns q = given (node m ns none) q
-ended true false m π body ns q = refused 7 q (m .name ∷ π)
-ended false u m π body ns q = refused 11 body (m .name ∷ π)
+ended true false m π body ns q = refused eventRoom q (m .name ∷ π)
+ended false u m π body ns q = refused contentShort body (m .name ∷ π)
 
 unfoldable pub closed : Room → Mark → Path → ℕ → ℕ → Answer → Answer
 closed r m π wall body (given ns q) = ended (met (m .coded) q wall) (ltb 0 (r .slots - slotsOf ns)) m π body ns q
@@ -66,20 +69,20 @@ Into = ℕ → Room → Path → ℕ → ℕ → Answer
 -- an element that is held: room for Start, what is inside, the end
 unfoldable pub entered : Bool → Into → Mark → Room → Path → ℕ → ℕ → Answer
 entered true f m r π wall body = closed (lessOne r) m π wall body (f (m .type) (lessOne r) (m .name ∷ π) wall body)
-entered false f m r π wall body = refused 7 (m .at) π
+entered false f m r π wall body = refused eventRoom (m .at) π
 
 abbrev pub mark : ℕ → ℕ → Bool → ℕ → ℕ → Mark
 mark name type coded at body = record { name = name; type = type; coded = coded; at = at; bits = body - at }
 
--- without a length: held, or 9
+-- without a length: held, or notHeld
 unfoldable pub bare : Bool → Into → Mark → Room → Path → ℕ → ℕ → Answer
 bare true f m r π wall body = entered (ltb 0 (r .slots)) f m r π wall body
-bare false f m r π wall body = refused 9 (m .at) π
+bare false f m r π wall body = refused notHeld (m .at) π
 
 -- with a length: held, or a Blank
 unfoldable pub sized : Bool → Into → Mark → Room → Path → ℕ → ℕ → Answer
 sized true f m r π end body = entered (ltb 0 (r .slots)) f m r π end body
-sized false f m r π end body = stored r π (m .at) (event 7 (m .name) (m .type) (end - m .at)) [] end
+sized false f m r π end body = stored r π (m .at) (event kinds.blank (m .name) (m .type) (end - m .at)) [] end
 
 unfoldable pub opened : (ℕ → Bool) → Into → ℕ → Room → Path → ℕ → ℕ → Head → Answer
 opened held f name r π wall at (Head.bare type body) = bare (held type) f (mark name type false at body) r π wall body
@@ -92,7 +95,7 @@ module _ (b : ℕ → ℕ) (mode : Mode) (held : ℕ → Bool) where
 
   unfoldable pub read : Plan → Room → Path → ℕ → ℕ → Answer
   read done r π wall at = given none at
-  read deep r π wall at = refused 6 at π
+  read deep r π wall at = refused refusal.depth at π
   read (item i k) r π wall at =
       code (itemAt i b wall at) π at
       (λ (v, ts, q). after r (stored r π at (eventOf i v (q - at)) ts q) (λ s p. read (k v) s π wall p))

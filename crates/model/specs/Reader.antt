@@ -5,6 +5,7 @@ use mathlib.Core.Path.{_≡_, _∙_}
 use mathlib.Core.List.{List, map}
 use native.Mathlib.Omega.{arith}
 use lib.ListN.{length}
+use Rattle.numbers.specs.Limit.{mostEvents, mostOpen}
 use Rattle.table.specs.Rows.{Row, tableOf, heldOf}
 use Rattle.model.specs.Model.{Nodes, events, texts}
 use Rattle.model.specs.Items.{Mode}
@@ -35,8 +36,8 @@ module _ (l : List ℕ) (name type : ℕ) (s : List ℕ) (words bytes : ℕ) (mo
 
   module _ (e : reading l name type s words bytes ≡ accepted mode ns used) where
     -- content models and occurrence bounds, values of their kinds, held marks, flags, at most 64 rows open
-    pub list-follows : Model (tableOf l) mode (heldOf l) 64 (row (Row.element name type)) (map bare (events ns)) (texts ns)
-    list-follows = let f = reading-sound e .is .found in row-model mode (heldOf l) (tableOf l) 64 (Row.element name type) 8 ns (f .bits) (f .is)
+    pub list-follows : Model (tableOf l) mode (heldOf l) mostOpen (row (Row.element name type)) (map bare (events ns)) (texts ns)
+    list-follows = let f = reading-sound e .is .found in row-model mode (heldOf l) (tableOf l) mostOpen (Row.element name type) 8 ns (f .bits) (f .is)
 
     -- a Blank only of a type that is not held, an opened element only of one that is
     pub blanks-exact : Exact (heldOf l) ns
@@ -47,7 +48,7 @@ module _ (l : List ℕ) (name type : ℕ) (s : List ℕ) (words bytes : ℕ) (mo
 
     -- what is given fits the lent buffers, and what is used the payload
     pub record Fitting : Type 0 where
-      pub few : length (events ns) ≤ 2048
+      pub few : length (events ns) ≤ mostEvents
       pub words-suffice : 4 * length (events ns) ≤ words
       pub bytes-suffice : length (texts ns) ≤ bytes
       pub payload-suffices : used ≤ 8 * length s

@@ -5,6 +5,8 @@ use mathlib.Core.Path.{_≡_, refl, _∙_}
 use mathlib.Core.List.{List, [], _∷_}
 use mathlib.Core.Bool.{Bool, true, false}
 use native.Mathlib.Omega.{arith}
+use Rattle.numbers.specs.Refusal as refusal
+use Rattle.numbers.specs.Kind as kinds
 use Rattle.table.specs.Rows.{Row, Content, Attribute, Table, attributeOf, attributesFrom}
 use Rattle.table.specs.Rows.Content.{empty, simple, particles}
 use Rattle.value.specs.Simple.{simpleOf, timesCode, simpleAt, plain}
@@ -67,7 +69,7 @@ module _ (b : ℕ → ℕ) (mode : Mode) (held : ℕ → Bool) (T : Table) where
   insideAt d t r π wall at = read b mode held (within T (plan T d) t) r π wall at
 
   module _ (r : Room) (π : Path) (wall at : ℕ) where
-    pub particle-deep : (row : Row) → particleAt zero row r π wall at ≡ refused 6 at π
+    pub particle-deep : (row : Row) → particleAt zero row r π wall at ≡ refused refusal.depth at π
     unfolding plan read
     particle-deep row = refl
 
@@ -82,13 +84,13 @@ module _ (b : ℕ → ℕ) (mode : Mode) (held : ℕ → Bool) (T : Table) where
 
     pub particle-choice : (d first count : ℕ) → particleAt (suc d) (Row.choice first count) r π wall at
         ≡ code (itemAt (picked count) b wall at) π at
-        (λ (v, ts, q). after r (stored r π at (event 4 v 0 (q - at)) ts q) (λ s p. particleAt d (T .row (first + v)) s π wall p))
+        (λ (v, ts, q). after r (stored r π at (event kinds.pick v 0 (q - at)) ts q) (λ s p. particleAt d (T .row (first + v)) s π wall p))
     unfolding plan due read eventOf
     particle-choice d first count = refl
 
     pub particle-occurs : (d child least most : ℕ) → particleAt (suc d) (Row.occurs child least most) r π wall at
         ≡ code (itemAt (counted least most) b wall at) π at
-        (λ (v, ts, q). after r (stored r π at (event 5 v 0 (q - at)) ts q) (λ s p. repeatsAt d v child s π wall p))
+        (λ (v, ts, q). after r (stored r π at (event kinds.times v 0 (q - at)) ts q) (λ s p. repeatsAt d v child s π wall p))
     unfolding plan due read eventOf
     particle-occurs d child least most = refl
 
@@ -115,20 +117,20 @@ module _ (b : ℕ → ℕ) (mode : Mode) (held : ℕ → Bool) (T : Table) where
         ≡ after r (particleAt d (T .row child) r π wall at) (λ s p. repeatsAt d n child s π wall p)
     repeats-more d n child = rounds-more d n (λ i. T .row child)
 
-    pub value-is : (k x y : ℕ) → valueAt k x y r π wall at ≡ code (itemAt (valued k x y) b wall at) π at (λ (v, ts, q). stored r π at (event 3 v 0 (q - at)) ts q)
+    pub value-is : (k x y : ℕ) → valueAt k x y r π wall at ≡ code (itemAt (valued k x y) b wall at) π at (λ (v, ts, q). stored r π at (event kinds.value v 0 (q - at)) ts q)
     unfolding value read eventOf
-    value-is k x y = λ j. code (itemAt (valued k x y) b wall at) π at (λ z. after-done r (stored r π at (event 3 (z .0) 0 (z .2 - at)) (z .1) (z .2)) j)
+    value-is k x y = λ j. code (itemAt (valued k x y) b wall at) π at (λ z. after-done r (stored r π at (event kinds.value (z .0) 0 (z .2 - at)) (z .1) (z .2)) j)
 
     -- an attribute that must be there: its event, of no bits, then its value
     pub attribute-required : (a : Attribute) → a .must ≡ true
-        → attributeAt a r π wall at ≡ after r (stored r π at (event 2 (a .name) 1 (at - at)) [] at) (λ s p. valueAt (a .kind) (a .b) (a .c) s π wall p)
+        → attributeAt a r π wall at ≡ after r (stored r π at (event kinds.attribute (a .name) 1 (at - at)) [] at) (λ s p. valueAt (a .kind) (a .b) (a .c) s π wall p)
     unfolding attribute read eventOf code itemAt formOf formAt
     attribute-required a e = rw e
 
     -- one that may be absent: its flag, and its value where that is not 0
     pub attribute-optional : (a : Attribute) → a .must ≡ false → attributeAt a r π wall at
         ≡ code (itemAt (optional (a .name)) b wall at) π at
-        (λ (v, ts, q). after r (stored r π at (event 2 (a .name) v (q - at)) ts q) (λ s p. read b mode held (maybe v (value (a .kind) (a .b) (a .c) done) done) s π wall p))
+        (λ (v, ts, q). after r (stored r π at (event kinds.attribute (a .name) v (q - at)) ts q) (λ s p. read b mode held (maybe v (value (a .kind) (a .b) (a .c) done) done) s π wall p))
     unfolding attribute read eventOf
     attribute-optional a e = rw e
 

@@ -5,6 +5,7 @@ use mathlib.Core.Bool.{Bool, true, false}
 use mathlib.Core.List.{List, [], _++_}
 use native.Mathlib.Omega.{arith}
 use lib.ListN.{length, length-append}
+use Rattle.numbers.specs.Kind as kinds
 use Rattle.wire.specs.Res.{Res, got}
 use Rattle.wire.specs.BitLaws.{At, at-both, at-left, at-right, at-same}
 use Rattle.wire.specs.Lawful.{Binary}
@@ -46,7 +47,7 @@ module _ (b : ℕ → ℕ) (mode : Mode) (held : ℕ → Bool) where
   item-leaf n (past z) = z
 
   blank-leaf : {i at body n : ℕ} {name t : ℕ} {r : Nodes} (P : Type 0) → headAt mode b t (at + n) at ≡ got (Head.sized t body (at + n)) → (body ≤ i → i < at + n → P) → (InBlank b mode i r → P)
-      → InBlank b mode i (leaf at (event 7 name t n) [] r) → P
+      → InBlank b mode i (leaf at (event kinds.blank name t n) [] r) → P
   blank-leaf P e f g (here k h x y) = let z = sized-body (sym h ∙ e) in f (omega arith) y
   blank-leaf P e f g (past z) = g z
 
@@ -97,7 +98,7 @@ module _ (b : ℕ → ℕ) (mode : Mode) (held : ℕ → Bool) where
       an-element y z g (rw e at m) (rw size at j)
 
   blank-again : {name type t at : ℕ} {f : ℕ → Plan} {P : Plan} {o x : List ℕ} {r : Nodes} (w v : List ℕ) → HeadIs mode type t (long (length w)) o → held t ≡ false → Bits v → length w ≡ length v
-      → Is mode held P (at + length (o ++ w)) r x → Is mode held (element name type f P) at (leaf at (event 7 name t (length (o ++ w))) [] r) ((o ++ v) ++ x)
+      → Is mode held P (at + length (o ++ w)) r x → Is mode held (element name type f P) at (leaf at (event kinds.blank name t (length (o ++ w))) [] r) ((o ++ v) ++ x)
   blank-again {o = o} w v h z u e j =
       let a = length-append o w in
       let b = length-append o v in

@@ -5,6 +5,8 @@ use mathlib.Core.List.{List, [], _∷_, _++_}
 use mathlib.Core.Bool.{Bool, true, false, cond}
 use mathlib.Core.Option.{Option, none, some}
 use native.Mathlib.Omega.{arith}
+use Rattle.numbers.specs.Refusal.{notHeld}
+use Rattle.numbers.specs.Kind as kinds
 use Rattle.model.specs.Model.{event, Mark, Nodes, Path, Answer, slotsOf, bytesOf, bitsOf, _then_}
 use Rattle.model.specs.Model.Nodes.{leaf, node}
 use Rattle.model.specs.Model.Answer.{given, refused}
@@ -25,7 +27,7 @@ enclosed m (shown ns) = shown (node m ns Nodes.none)
 enclosed m (lacking p π) = lacking p π
 
 abbrev pub blankOf : Mark → Nodes → Nodes
-blankOf m i = leaf (m .at) (event 7 (m .name) (m .type) (m .bits + bitsOf i)) [] Nodes.none
+blankOf m i = leaf (m .at) (event kinds.blank (m .name) (m .type) (m .bits + bitsOf i)) [] Nodes.none
 
 -- an element with what is inside it and the walk over that: kept unless it is newly held, one Blank where it has a length
 unfoldable pub shownAs : Bool → Bool → Mark → Path → Nodes → Walk → Walk
@@ -40,7 +42,7 @@ walk new π (node m i r) = both (shownAs (new (m .type)) (m .coded) m π i (walk
 
 unfoldable pub answer : Walk → ℕ → Answer
 answer (shown ns) q = given ns q
-answer (lacking p π) q = refused 9 p π
+answer (lacking p π) q = refused notHeld p π
 
 -- the walk shows no more than it was given
 abbrev pub Fits : Walk → Nodes → Type 0
@@ -115,7 +117,7 @@ walk-sums new π (node m i r) = ap (both (shownAs (new (m .type)) (m .coded) m �
 
     go : (t : Bool) → walk new (m .name ∷ π) i ≡ sums (firstBare (outermost new (m .name ∷ π) i)) (replaced new i) → both (shownAs t (m .coded) m π i (walk new (m .name ∷ π) i)) (sums (firstBare (outermost new π r)) (replaced new r))
         ≡ sums (firstBare (cond t ((m, π) ∷ []) (outermost new (m .name ∷ π) i) ++ outermost new π r))
-        (cond t (leaf (m .at) (event 7 (m .name) (m .type) (m .bits + bitsOf i)) [] (replaced new r)) (node m (replaced new i) (replaced new r)))
+        (cond t (leaf (m .at) (event kinds.blank (m .name) (m .type) (m .bits + bitsOf i)) [] (replaced new r)) (node m (replaced new i) (replaced new r)))
     go true h =
         ap (λ (w : Walk). both w (sums (firstBare (outermost new π r)) (replaced new r))) (blank (m .coded) refl)
         ∙ sym (first-append ((m, π) ∷ []) (outermost new π r) (blankOf m i) (replaced new r))

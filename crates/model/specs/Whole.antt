@@ -5,6 +5,12 @@ use mathlib.Core.Bool.{Bool, true, false, cond}
 use mathlib.Core.List.{List, [], _∷_, _++_, reverse}
 use lib.ListN.{length, getD, replicate}
 use lib.Dec.{eqb, ltb, leb}
+use Rattle.numbers.specs.Refusal as refusal
+use Rattle.numbers.specs.Refusal.{payloadSize, leftOver, noReading, payloadRoom, writeMode, textBytes}
+use Rattle.numbers.specs.Kind as kinds
+use Rattle.numbers.specs.Limit.{mostEvents, mostName, mostPayload}
+use Rattle.numbers.specs.Mode as modes
+use Rattle.numbers.specs.Mode.{alwaysByte, neverByte, optionalByte}
 use Rattle.wire.specs.Res.{Res, got, fault, _>>=_, _>>_, atMost}
 use Rattle.wire.specs.Bits.{bitAt}
 use Rattle.table.specs.First.{Verdict}
@@ -20,23 +26,23 @@ use Rattle.model.specs.Pack.{pack}
 
 -- the mode byte, and the mode as a number
 unfoldable pub modeByte : Mode → ℕ
-modeByte Mode.never = 0x0F
-modeByte Mode.optional = 0x4F
-modeByte Mode.always = 0x8F
+modeByte Mode.never = neverByte
+modeByte Mode.optional = optionalByte
+modeByte Mode.always = alwaysByte
 
 unfoldable pub modeNumber : Mode → ℕ
-modeNumber Mode.never = 0
-modeNumber Mode.optional = 1
-modeNumber Mode.always = 2
+modeNumber Mode.never = modes.never
+modeNumber Mode.optional = modes.optional
+modeNumber Mode.always = modes.always
 
--- 3, then 4
+-- the mode that a byte is; of a payload how many bytes there are is judged before the first of them
 unfoldable pub modeAt : ℕ → Res Mode
-modeAt x = cond (eqb x 0x0F) (got Mode.never) (cond (eqb x 0x4F) (got Mode.optional) (cond (eqb x 0x8F) (got Mode.always) (fault 4)))
+modeAt x = cond (eqb x neverByte) (got Mode.never) (cond (eqb x optionalByte) (got Mode.optional) (cond (eqb x alwaysByte) (got Mode.always) (fault refusal.modeByte)))
 
 unfoldable pub modeOf : List ℕ → Res Mode
 modeOf s = do
-  atMost 1 (length s) 3
-  atMost (length s) 8192 3
+  atMost 1 (length s) payloadSize
+  atMost (length s) mostPayload payloadSize
   modeAt (getD s 0 0)
 
 -- n bits from at are 0; what is left after the root: fewer than 8 bits, all 0
@@ -52,10 +58,10 @@ pub data Reply : Type 0 where
   accepted : Mode → Nodes → ℕ → Reply
   declined : (number place : ℕ) → Path → Reply
 
--- after the root: 17 where what is left is no padding
+-- after the root: what is left is padding
 unfoldable pub padded : Bool → Mode → Nodes → ℕ → Reply
 padded true mode ns q = accepted mode ns q
-padded false mode ns q = declined 17 q []
+padded false mode ns q = declined leftOver q []
 
 unfoldable pub replied : (ℕ → Bool) → Mode → Answer → Reply
 replied pads mode (given ns q) = padded (pads q) mode ns q
@@ -72,15 +78,15 @@ inMode (fault n) k = declined n 0 []
 unfoldable pub payload : (ℕ → Bool) → Plan → List ℕ → Room → Reply
 payload held P s room = inMode (modeOf s) (rootIn held P s room)
 
--- 1; 2: what every entry asks of table and root
+-- what every entry asks of the root
 unfoldable pub asked : ℕ → ℕ → ℕ → Res Unit
 asked types name type = do
-  atMost (suc type) types 2
-  atMost name 65535 2
+  atMost (suc type) types refusal.root
+  atMost name mostName refusal.root
 
 -- the room that lent event words and text bytes are
 abbrev pub roomOf : ℕ → ℕ → Room
-roomOf words bytes = record { slots = min (words / 4) 2048; bytes = bytes }
+roomOf words bytes = record { slots = min (words / 4) mostEvents; bytes = bytes }
 
 unfoldable pub afterAsked : Res Unit → Reply → Reply
 afterAsked (got u) r = r
@@ -88,7 +94,7 @@ afterAsked (fault n) r = declined n 0 []
 
 unfoldable pub afterVerdict : Verdict → Reply → Reply
 afterVerdict right r = r
-afterVerdict (wrong i) r = declined 1 i []
+afterVerdict (wrong i) r = declined refusal.table i []
 
 -- THE READING: table words, root name, root type, payload bytes, lent event words, lent text bytes (both as numbers)
 unfoldable pub reading : List ℕ → ℕ → ℕ → List ℕ → ℕ → ℕ → Reply
@@ -144,27 +150,27 @@ unfoldable pub eventsFrom : List ℕ → ℕ → ℕ → List Bare
 eventsFrom l i zero = []
 eventsFrom l i (suc n) = eventAt l i ∷ eventsFrom l (i + 1) n
 
--- 21
+-- the room
 unfoldable pub roomed : ℕ → Mode → List ℕ → Made
-roomed room mode w = cond (leb (1 + (length w + 7) / 8) (min room 8192)) (made (modeByte mode ∷ pack w) (8 + length w)) (unmade 21 0)
+roomed room mode w = cond (leb (1 + (length w + 7) / 8) (min room mostPayload)) (made (modeByte mode ∷ pack w) (8 + length w)) (unmade payloadRoom 0)
 
--- of n events: the index of the one at fault; no event may be left over, 19 or 18; then no text, 23
+-- of n events: the index of the one at fault; no event may be left over; then no text
 unfoldable pub spent : ℕ → Out → (List ℕ → Made) → Made
 spent n (Out.wrote w [] []) k = k w
-spent n (Out.wrote w [] (x ∷ U)) k = unmade 23 n
-spent n (Out.wrote w (e ∷ M) U) k = unmade (cond (eqb (e .kind) 7) 19 18) (n - suc (length M))
+spent n (Out.wrote w [] (x ∷ U)) k = unmade textBytes n
+spent n (Out.wrote w (e ∷ M) U) k = unmade (cond (eqb (e .kind) kinds.blank) refusal.blank noReading) (n - suc (length M))
 spent n (Out.refused e left) k = unmade e (n - left)
 
--- 22
+-- the mode that is asked for
 unfoldable pub modeAsked : ℕ → Res Mode
 modeAsked zero = got Mode.never
 modeAsked (suc zero) = got Mode.optional
 modeAsked (suc (suc zero)) = got Mode.always
-modeAsked (suc (suc (suc k))) = fault 22
+modeAsked (suc (suc (suc k))) = fault writeMode
 
--- the list's shape: 18 at the word count / 4, unless whole events and at most 2,048 of them
+-- the list's shape: whole events, at most mostEvents of them
 unfoldable pub shaped : List ℕ → Made → Made
-shaped l m = cond (eqb (length l % 4) 0) (cond (leb (length l / 4) 2048) m (unmade 18 (length l / 4))) (unmade 18 (length l / 4))
+shaped l m = cond (eqb (length l % 4) 0) (cond (leb (length l / 4) mostEvents) m (unmade noReading (length l / 4))) (unmade noReading (length l / 4))
 
 unfoldable pub written : (ℕ → Bool) → Plan → Mode → List Bare → List ℕ → ℕ → Made
 written held P mode M T room = spent (length M) (write mode held P M T) (roomed room mode)
@@ -175,7 +181,7 @@ orUnmade (fault n) k = unmade n 0
 
 unfoldable pub verdictMade : Verdict → Made → Made
 verdictMade right r = r
-verdictMade (wrong i) r = unmade 1 i
+verdictMade (wrong i) r = unmade refusal.table i
 
 -- THE WRITING: table words, root name, root type, mode, event words, text bytes, lent payload bytes (a number)
 unfoldable pub writing : List ℕ → ℕ → ℕ → ℕ → List ℕ → List ℕ → ℕ → Made

@@ -1,11 +1,15 @@
 -- The writing of a plan: from events without their fourth words, and texts, the bits, with the events and the texts left
 -- over. A refusal says how many events were then left, the one at fault among them: the event's index is the number of all less that.
--- Document 01's order: none left is 18, before 6 (`deep`, `taken`); 6 (`deep`); 19, 18 (`taken`); 9 (`elementOut`); 20, 23, 16 (`itemOut`).
+-- Document 01's order: noReading where none is left (`deep`, `taken`); depth (`deep`); blank, noReading (`taken`); notHeld
+-- (`elementOut`); outsideRow, textBytes, notUtf8 (`itemOut`).
 use Prim.Native.Nat.{ℕ, zero, suc, min}
 use mathlib.Core.Bool.{Bool, true, false, cond}
 use mathlib.Core.List.{List, [], _∷_, _++_}
 use lib.ListN.{length, take, drop}
 use lib.Dec.{eqb}
+use Rattle.numbers.specs.Refusal as refusal
+use Rattle.numbers.specs.Refusal.{notHeld, noReading, textBytes}
+use Rattle.numbers.specs.Kind as kinds
 use Rattle.wire.specs.Res.{Res, got, fault, _>>=_, _>>_, atMost}
 use Rattle.value.specs.Code.{bitsOf, codeOut}
 use Rattle.value.specs.Simple.{Simple, plain, text, count, bytes, unless}
@@ -40,7 +44,7 @@ along (refused n i) k = refused n i
 
 -- what is wrong with the event e where f is wanted: nothing (0); it is a Blank; another kind, name, flag or fixed word
 unfoldable pub unlike : Bare → Bare → ℕ
-unlike f e = cond (eqb (f .kind) (e .kind)) (cond (eqb (f .p) (e .p)) (cond (eqb (f .q) (e .q)) 0 18) 18) (cond (eqb (e .kind) 7) 19 18)
+unlike f e = cond (eqb (f .kind) (e .kind)) (cond (eqb (f .p) (e .p)) (cond (eqb (f .q) (e .q)) 0 noReading) noReading) (cond (eqb (e .kind) kinds.blank) refusal.blank noReading)
 
 unfoldable pub matched : ℕ → ℕ → Out → Out
 matched zero i o = o
@@ -48,7 +52,7 @@ matched (suc n) i o = refused (suc n) i
 
 -- the next event, where the one wanted is made from it
 unfoldable pub taken : (Bare → Bare) → List Bare → (Bare → List Bare → Out) → Out
-taken f [] k = refused 18 0
+taken f [] k = refused noReading 0
 taken f (e ∷ M) k = matched (unlike (f e) e) (suc (length M)) (k e M)
 
 -- the value that an item's event gives, and the event that this value has
@@ -69,19 +73,19 @@ flagIn Mode.optional q = min q 1
 flagIn Mode.always q = 1
 
 abbrev pub asStart : Mode → ℕ → Bare → Bare
-asStart mode name e = record { kind = 1; p = name; q = flagIn mode (e .q) }
+asStart mode name e = record { kind = kinds.start; p = name; q = flagIn mode (e .q) }
 
 abbrev pub asEnd : Bare → Bare
 asEnd e = bare end
 
--- a value's bits, and the texts left: 20 for a value that its row does not have; then, for a text, 23 and 16
+-- a value's bits, and the texts left: a value that its row has; then, for a text, enough bytes, and UTF-8
 unfoldable pub simpleOut : Simple → ℕ → List ℕ → Res (List ℕ × List ℕ)
 simpleOut (plain c) v T = do
   w ← codeOut c v
   got (w, T)
 simpleOut text v T = do
   w ← codeOut count v
-  atMost v (length T) 23
+  atMost v (length T) textBytes
   unless (textFault (take v T))
   got (w ++ bytes (take v T), drop v T)
 
@@ -114,17 +118,17 @@ unfoldable pub sealed : Mode → ℕ → Out → Out
 sealed mode q (wrote w M T) = taken asEnd M (λ e N. wrote (headOut mode (lengthOf q (length w)) ++ w) N T)
 sealed mode q (refused n i) = refused n i
 
--- 6, where an event is left
+-- depth, where an event is left
 unfoldable pub tooDeep : List Bare → Out
-tooDeep [] = refused 18 0
-tooDeep (e ∷ M) = refused 6 (suc (length M))
+tooDeep [] = refused noReading 0
+tooDeep (e ∷ M) = refused refusal.depth (suc (length M))
 
 unfoldable pub allowed : Bool → ℕ → Out → Out
 allowed true i o = o
-allowed false i o = refused 9 i
+allowed false i o = refused notHeld i
 
 module _ (mode : Mode) (held : ℕ → Bool) where
-  -- an element, where f writes what is inside it: its Start, 9 where the type is not held
+  -- an element, where f writes what is inside it: its Start, and whether the type is held
   unfoldable pub elementOut : (List Bare → List ℕ → Out) → ℕ → ℕ → List Bare → List ℕ → Out
   elementOut f name type M T = taken (asStart mode name) M (λ e N. allowed (held type) (suc (length N)) (sealed mode (e .q) (f N T)))
 

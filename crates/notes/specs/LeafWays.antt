@@ -12,6 +12,10 @@ use mir.Syntax.{w32, w64}
 use lib.Dec.{ltb, leb, eqb}
 use lib.ListN.{length, getD, take, drop, length-append, length-drop, length-take}
 use lib.Seq.{drop-nil}
+use Rattle.numbers.specs.Refusal as refusal
+use Rattle.numbers.specs.Refusal.{noReading, outsideRow, textBytes}
+use Rattle.numbers.specs.Kind as kinds
+use Rattle.numbers.specs.Limit.{mostEvents, mostText}
 use Rattle.wire.specs.declared.Bits.{Bits}
 use Rattle.wire.specs.Res.{Res, got, fault, _>>=_, _>>_, guard, tested-then, tested-fault, then, then-fault, under-then, under-fault}
 use Rattle.wire.specs.Number.{code5}
@@ -44,26 +48,26 @@ module _ (L : List ℕ) (at kind p q : ℕ) where
   abbrev is : ℕ → Type 0
   is n = n ≡ judged L at (wanted kind p q)
 
-  pub unlike-none : eventsIn L ≤ at → is 18
+  pub unlike-none : eventsIn L ≤ at → is noReading
   unfolding judged
   unlike-none h = rw (le-ltb at (eventsIn L) h)
 
   module _ (h : at < eventsIn L) where
-    pub unlike-blank : (kind ≡ getD L (4 * at) 0 → ⊥) → getD L (4 * at) 0 ≡ 7 → is 19
+    pub unlike-blank : (kind ≡ getD L (4 * at) 0 → ⊥) → getD L (4 * at) 0 ≡ kinds.blank → is refusal.blank
     unfolding judged unlike
-    unlike-blank k e = rw (lt-ltb at (eventsIn L) h, ne-eqb kind (getD L (4 * at) 0) k, eq-eqb (getD L (4 * at) 0) 7 e)
+    unlike-blank k e = rw (lt-ltb at (eventsIn L) h, ne-eqb kind (getD L (4 * at) 0) k, eq-eqb (getD L (4 * at) 0) kinds.blank e)
 
-    pub unlike-kind : (kind ≡ getD L (4 * at) 0 → ⊥) → (getD L (4 * at) 0 ≡ 7 → ⊥) → is 18
+    pub unlike-kind : (kind ≡ getD L (4 * at) 0 → ⊥) → (getD L (4 * at) 0 ≡ kinds.blank → ⊥) → is noReading
     unfolding judged unlike
-    unlike-kind k e = rw (lt-ltb at (eventsIn L) h, ne-eqb kind (getD L (4 * at) 0) k, ne-eqb (getD L (4 * at) 0) 7 e)
+    unlike-kind k e = rw (lt-ltb at (eventsIn L) h, ne-eqb kind (getD L (4 * at) 0) k, ne-eqb (getD L (4 * at) 0) kinds.blank e)
 
     module _ (k : kind ≡ getD L (4 * at) 0) where
-      pub unlike-first : (p ≡ getD L (4 * at + 1) 0 → ⊥) → is 18
+      pub unlike-first : (p ≡ getD L (4 * at + 1) 0 → ⊥) → is noReading
       unfolding judged unlike
       unlike-first e = rw (lt-ltb at (eventsIn L) h, eq-eqb kind (getD L (4 * at) 0) k, ne-eqb p (getD L (4 * at + 1) 0) e)
 
       module _ (f : p ≡ getD L (4 * at + 1) 0) where
-        pub unlike-second : (q ≡ getD L (4 * at + 2) 0 → ⊥) → is 18
+        pub unlike-second : (q ≡ getD L (4 * at + 2) 0 → ⊥) → is noReading
         unfolding judged unlike
         unlike-second e = rw (lt-ltb at (eventsIn L) h, eq-eqb kind (getD L (4 * at) 0) k, eq-eqb p (getD L (4 * at + 1) 0) f, ne-eqb q (getD L (4 * at + 2) 0) e)
 
@@ -78,7 +82,7 @@ none : {b : ℕ} → b ≤ 0 → b ≡ 0
 none h = omega arith
 
 -- an event that was judged is one of the list
-pub judged-few : (L X N : List ℕ) (c : Cursor) (f : Bare) (b : ℕ) → Ready L X N c → b ≡ judged L (c .event) f → b ≤ 0 → c .event < 2048
+pub judged-few : (L X N : List ℕ) (c : Cursor) (f : Bare) (b : ℕ) → Ready L X N c → b ≡ judged L (c .event) f → b ≤ 0 → c .event < mostEvents
 judged-few L X N c f b r e z = let h = judged-in L (c .event) f (sym e ∙ none z) in let g = r .few in omega arith
 
 -- and has room for its note
@@ -107,7 +111,7 @@ module _ (L X : List ℕ) (c : Cursor) (N : List ℕ) (f : Bare) (m : Res (List 
         record { is = record { out = rw (noted-like, e, k); inside = r .inside } }
 
     pub noted-got : (w : List ℕ) (n : Note) (M : List ℕ) (e : Cursor) → m ≡ got (w, textsAt X (e .used)) → noteBits X n ≡ w → M ≡ keeps N (c .event) n
-        → e .event ≡ c .event + 1 → e .bits ≡ c .bits + length w → length w ≤ 40000 → e .used ≤ length X → e .used ≤ c .used + 4095 → Walked L X (noted f m (eventsAt L (c .event))) c N (Go e) M
+        → e .event ≡ c .event + 1 → e .bits ≡ c .bits + length w → length w ≤ 40000 → e .used ≤ length X → e .used ≤ c .used + mostText → Walked L X (noted f m (eventsAt L (c .event))) c N (Go e) M
     unfolding coded
     noted-got w n M e g is k next bits small used short =
         let i = within in
@@ -142,17 +146,17 @@ module _ (c : Code) (v : ℕ) where
   unfolding sizeOut codeOut
   size-got n e = go (fits c v) refl e
     where
-      go : (t : Bool) → fits c v ≡ t → (guard t 20 >> got (length (bitsOf c v))) ≡ got n → ((guard (fits c v) 20 >> got (bitsOf c v)) ≡ got (bitsOf c v)) × (n ≡ length (bitsOf c v))
-      go true f g = (tested-then 20 f refl, let h = tested-then {t = true} 20 {m = got (length (bitsOf c v))} refl refl in cc)
-      go false f g = absurd (let h = tested-fault {t = false} 20 (got (length (bitsOf c v))) refl in let z : _≡_ {A = ℕ} 0 1 = cc in omega arith)
+      go : (t : Bool) → fits c v ≡ t → (guard t outsideRow >> got (length (bitsOf c v))) ≡ got n → ((guard (fits c v) outsideRow >> got (bitsOf c v)) ≡ got (bitsOf c v)) × (n ≡ length (bitsOf c v))
+      go true f g = (tested-then outsideRow f refl, let h = tested-then {t = true} outsideRow {m = got (length (bitsOf c v))} refl refl in cc)
+      go false f g = absurd (let h = tested-fault {t = false} outsideRow (got (length (bitsOf c v))) refl in let z : _≡_ {A = ℕ} 0 1 = cc in omega arith)
 
   size-fault : (n : ℕ) → sizeOut c v ≡ fault n → codeOut c v ≡ fault n
   unfolding sizeOut codeOut
   size-fault n e = go (fits c v) refl e
     where
-      go : (t : Bool) → fits c v ≡ t → (guard t 20 >> got (length (bitsOf c v))) ≡ fault n → (guard (fits c v) 20 >> got (bitsOf c v)) ≡ fault n
-      go true f g = absurd (let h = tested-then {t = true} 20 {m = got (length (bitsOf c v))} refl refl in let z : _≡_ {A = ℕ} 0 1 = cc in omega arith)
-      go false f g = let h = tested-fault {t = false} 20 (got (length (bitsOf c v))) refl in tested-fault 20 (got (bitsOf c v)) f ∙ cc
+      go : (t : Bool) → fits c v ≡ t → (guard t outsideRow >> got (length (bitsOf c v))) ≡ fault n → (guard (fits c v) outsideRow >> got (bitsOf c v)) ≡ fault n
+      go true f g = absurd (let h = tested-then {t = true} outsideRow {m = got (length (bitsOf c v))} refl refl in let z : _≡_ {A = ℕ} 0 1 = cc in omega arith)
+      go false f g = let h = tested-fault {t = false} outsideRow (got (length (bitsOf c v))) refl in tested-fault outsideRow (got (bitsOf c v)) f ∙ cc
 
 module _ (k : codeT.Code) (v : ℕ) (s : sizeT.Size) (e : sizeIs s ≡ sizeOut (codeIs k) v) where
   sized : (n : Bits) → s ≡ sv.Takes n → sizeOut (codeIs k) v ≡ got (n .0)
@@ -185,45 +189,45 @@ pub ruleset coded-ways = (noted-unlike, judged-few, judged-room, coded-fault, co
 
 -- text_fault
 module _ (X : List ℕ) (used v : ℕ) where
-  pub text-long : 4095 < v → 20 ≡ textWrong X used v
+  pub text-long : mostText < v → outsideRow ≡ textWrong X used v
   unfolding textWrong
-  text-long h = rw (lt-leb v 4095 h)
+  text-long h = rw (lt-leb v mostText h)
 
-  module _ (h : v ≤ 4095) where
+  module _ (h : v ≤ mostText) where
     module _ (k : used ≤ length X) where
-      pub text-short : length X - used < v → 23 ≡ textWrong X used v
+      pub text-short : length X - used < v → textBytes ≡ textWrong X used v
       unfolding textWrong textsAt
-      text-short g = rw (le-leb v 4095 h, lt-leb v (length (drop used X)) (omega (arith, length-drop used X)))
+      text-short g = rw (le-leb v mostText h, lt-leb v (length (drop used X)) (omega (arith, length-drop used X)))
 
       pub text-checked : (n : ℕ) (l : List ℕ) → v ≤ length X - used → n ≡ textFault l → l ≡ take (used + v - used) (drop used X) → n ≡ textWrong X used v
       unfolding textWrong textsAt
       text-checked n l g e f =
           let z : used + v - used ≡ v = omega arith in
-          rw (le-leb v 4095 h, le-leb v (length (drop used X)) (omega (arith, length-drop used X))) (e ∙ ap textFault (f ∙ rw z))
+          rw (le-leb v mostText h, le-leb v (length (drop used X)) (omega (arith, length-drop used X))) (e ∙ ap textFault (f ∙ rw z))
 
 pub ruleset text-fault-ways = (text-long, text-short, text-checked)
 
 -- text_value
-text-tested : (v : ℕ) (T : List ℕ) (w : ℕ) → w ≡ cond (leb v 4095) (cond (leb v (length T)) (textFault (take v T)) 23) 20
-    → (0 < w → simpleOut text v T ≡ fault w) × (w ≡ 0 → (simpleOut text v T ≡ got (code5 v ++ bytes (take v T), drop v T)) × (v ≤ 4095) × (v ≤ length T))
+text-tested : (v : ℕ) (T : List ℕ) (w : ℕ) → w ≡ cond (leb v mostText) (cond (leb v (length T)) (textFault (take v T)) textBytes) outsideRow
+    → (0 < w → simpleOut text v T ≡ fault w) × (w ≡ 0 → (simpleOut text v T ≡ got (code5 v ++ bytes (take v T), drop v T)) × (v ≤ mostText) × (v ≤ length T))
 unfolding simpleOut codeOut fits bitsOf
-text-tested v T w e = elim (decLe v 4095) [
+text-tested v T w e = elim (decLe v mostText) [
   | yes h ↦ elim (decLe v (length T)) [
     | yes k ↦
-        let t : textFault (take v T) ≡ w = sym (e ∙ rw (le-leb v 4095 h, le-leb v (length T) k)) in
-        let c : leb v (min 4095 (2 ^ 32 - 1)) ≡ true = le-leb v (min 4095 (2 ^ 32 - 1)) (omega arith) in (
-          λ p. then _ (tested-then 20 c refl) (under-then 23 k (passes-fault _ (λ y. omega arith) ∙ ap fault t)),
-          (λ z. (then _ (tested-then 20 c refl) (under-then 23 k (passes-then (t ∙ z) refl)), h, k)),
+        let t : textFault (take v T) ≡ w = sym (e ∙ rw (le-leb v mostText h, le-leb v (length T) k)) in
+        let c : leb v (min mostText (2 ^ 32 - 1)) ≡ true = le-leb v (min mostText (2 ^ 32 - 1)) (omega arith) in (
+          λ p. then _ (tested-then outsideRow c refl) (under-then textBytes k (passes-fault _ (λ y. omega arith) ∙ ap fault t)),
+          (λ z. (then _ (tested-then outsideRow c refl) (under-then textBytes k (passes-then (t ∙ z) refl)), h, k)),
         )
     | no k ↦
-        let t : w ≡ 23 = e ∙ rw (le-leb v 4095 h, lt-leb v (length T) (omega arith)) in
-        let c : leb v (min 4095 (2 ^ 32 - 1)) ≡ true = le-leb v (min 4095 (2 ^ 32 - 1)) (omega arith) in
-        (λ p. rw t (then _ (tested-then 20 c refl) (under-fault 23 _ (omega arith))), (λ z. absurd (omega arith)))
+        let t : w ≡ textBytes = e ∙ rw (le-leb v mostText h, lt-leb v (length T) (omega arith)) in
+        let c : leb v (min mostText (2 ^ 32 - 1)) ≡ true = le-leb v (min mostText (2 ^ 32 - 1)) (omega arith) in
+        (λ p. rw t (then _ (tested-then outsideRow c refl) (under-fault textBytes _ (omega arith))), (λ z. absurd (omega arith)))
   ]
   | no h ↦
-      let t : w ≡ 20 = e ∙ rw (lt-leb v 4095 (omega arith)) in
-      let c : leb v (min 4095 (2 ^ 32 - 1)) ≡ false = lt-leb v (min 4095 (2 ^ 32 - 1)) (omega arith) in
-      (λ p. rw t (then-fault _ (tested-fault 20 _ c)), (λ z. absurd (omega arith)))
+      let t : w ≡ outsideRow = e ∙ rw (lt-leb v mostText (omega arith)) in
+      let c : leb v (min mostText (2 ^ 32 - 1)) ≡ false = lt-leb v (min mostText (2 ^ 32 - 1)) (omega arith) in
+      (λ p. rw t (then-fault _ (tested-fault outsideRow _ c)), (λ z. absurd (omega arith)))
 ]
 
 drop-drop : (a b : ℕ) (l : List ℕ) → drop b (drop a l) ≡ drop (a + b) l
@@ -231,21 +235,21 @@ drop-drop zero b l = let e : 0 + b ≡ b = omega arith in rw e
 drop-drop (suc a) b [] = drop-nil b ∙ sym (drop-nil (suc a + b))
 drop-drop (suc a) b (x ∷ l) = drop-drop a b l ∙ let e : suc a + b ≡ suc (a + b) = omega arith in rw e
 
-module _ (L X : List ℕ) (c : Cursor) (N : List ℕ) (v : ℕ) (r : Ready L X N c) (b : ℕ) (j : b ≡ judged L (c .event) (wanted 3 v 0)) (z : b ≤ 0) (w : ℕ) (e : w ≡ textWrong X (c .used) v) where
+module _ (L X : List ℕ) (c : Cursor) (N : List ℕ) (v : ℕ) (r : Ready L X N c) (b : ℕ) (j : b ≡ judged L (c .event) (wanted kinds.value v 0)) (z : b ≤ 0) (w : ℕ) (e : w ≡ textWrong X (c .used) v) where
   tested : (0 < w → simpleOut text v (textsAt X (c .used)) ≡ fault w)
-      × (w ≡ 0 → (simpleOut text v (textsAt X (c .used)) ≡ got (code5 v ++ bytes (take v (textsAt X (c .used))), drop v (textsAt X (c .used)))) × (v ≤ 4095) × (v ≤ length (textsAt X (c .used))))
+      × (w ≡ 0 → (simpleOut text v (textsAt X (c .used)) ≡ got (code5 v ++ bytes (take v (textsAt X (c .used))), drop v (textsAt X (c .used)))) × (v ≤ mostText) × (v ≤ length (textsAt X (c .used))))
   unfolding textWrong
   tested = text-tested v (textsAt X (c .used)) w e
 
-  pub text-refused : 0 < w → Walked L X (noted (wanted 3 v 0) (simpleOut text v (textsAt X (c .used))) (eventsAt L (c .event))) c N (Refuse w (c .event)) N
-  text-refused p = noted-fault L X c N (wanted 3 v 0) _ r b j z w (tested .0 p)
+  pub text-refused : 0 < w → Walked L X (noted (wanted kinds.value v 0) (simpleOut text v (textsAt X (c .used))) (eventsAt L (c .event))) c N (Refuse w (c .event)) N
+  text-refused p = noted-fault L X c N (wanted kinds.value v 0) _ r b j z w (tested .0 p)
 
   module _ (y : w ≤ 0) where
-    fine : (v ≤ 4095) × (c .used + v ≤ length X)
+    fine : (v ≤ mostText) × (c .used + v ≤ length X)
     unfolding textsAt
     fine = let t = tested .1 (none y) in let u = r .used in (t .1, omega (arith, t .2, length-drop (c .used) X))
 
-    pub text-small : v ≤ 4095
+    pub text-small : v ≤ mostText
     text-small = fine .0
 
     pub text-place : FitsIn w32 (c .used)
@@ -268,7 +272,7 @@ module _ (L X : List ℕ) (c : Cursor) (N : List ℕ) (v : ℕ) (r : Ready L X N
       text-bits = let t = text-sum in record { fits = omega arith }
 
       pub text-go : (n : Note) (from : ℕ) (M : List ℕ) → n ≡ textNote v from → from ≡ c .used → M ≡ keeps N (c .event) n
-          → Walked L X (noted (wanted 3 v 0) (simpleOut text v (textsAt X (c .used))) (eventsAt L (c .event))) c N (Go (record { event = c .event + 1; used = c .used + v; bits = c .bits + k .0 + 8 * v })) M
+          → Walked L X (noted (wanted kinds.value v 0) (simpleOut text v (textsAt X (c .used))) (eventsAt L (c .event))) c N (Go (record { event = c .event + 1; used = c .used + v; bits = c .bits + k .0 + 8 * v })) M
       unfolding textsAt
       text-go n from M m g p =
           let t = tested .1 (none y) in
@@ -278,7 +282,7 @@ module _ (L X : List ℕ) (c : Cursor) (N : List ℕ) (v : ℕ) (r : Ready L X N
           let size = length-append (code5 v) (bytes (take v (drop (c .used) X))) in
           let size8 = length-bytes (take v (drop (c .used) X)) in
           let five5 = code5-short v s in
-          noted-got L X c N (wanted 3 v 0) _ r b j z (code5 v ++ bytes (take v (drop (c .used) X))) n M (record { event = c .event + 1; used = c .used + v; bits = c .bits + k .0 + 8 * v })
+          noted-got L X c N (wanted kinds.value v 0) _ r b j z (code5 v ++ bytes (take v (drop (c .used) X))) n M (record { event = c .event + 1; used = c .used + v; bits = c .bits + k .0 + 8 * v })
           (t .0 ∙ ap (λ (u : List ℕ). got (code5 v ++ bytes (take v (drop (c .used) X)), u)) (drop-drop (c .used) v X))
           (rw (m, g, piece-five X 33 v refl, piece-bytes X (34 + v) (c .used) (omega arith)) (let off : 34 + v - 34 ≡ v = omega arith in rw off))
           p refl (omega arith) (omega arith) (f .1) (omega arith)
@@ -286,20 +290,20 @@ module _ (L X : List ℕ) (c : Cursor) (N : List ℕ) (v : ℕ) (r : Ready L X N
 pub ruleset text-ways = (noted-unlike, judged-few, judged-room, text-refused, text-small, text-place, text-end, text-eight, text-part, text-bits, text-go)
 
 -- close
-module _ (L X : List ℕ) (c e : Cursor) (N : List ℕ) (mode q : ℕ) (r : Ready L X N c) (s : Sealing L X N c e) (b : ℕ) (j : b ≡ judged L (e .event) (wanted 6 0 0)) where
+module _ (L X : List ℕ) (c e : Cursor) (N : List ℕ) (mode q : ℕ) (r : Ready L X N c) (s : Sealing L X N c e) (b : ℕ) (j : b ≡ judged L (e .event) (wanted kinds.end 0 0)) where
   abbrev inner : List ℕ
   inner = between X N (past c) e
 
   pub close-unlike : 0 < b → Walked L X (sealed (modeIs mode) q (wrote inner (eventsAt L (e .event)) (textsAt X (e .used)))) c N (Refuse b (e .event)) N
   unfolding sealed
-  close-unlike p = record { is = record { out = taken-unlike L (e .event) (wanted 6 0 0) asEnd _ refl b j p (s .ready .inside); inside = s .ready .inside } }
+  close-unlike p = record { is = record { out = taken-unlike L (e .event) (wanted kinds.end 0 0) asEnd _ refl b j p (s .ready .inside); inside = s .ready .inside } }
 
   module _ (z : b ≤ 0) where
-    pub close-in : e .event < 2048
-    close-in = let h = judged-in L (e .event) (wanted 6 0 0) (sym j ∙ none z) in let g = r .few in omega arith
+    pub close-in : e .event < mostEvents
+    close-in = let h = judged-in L (e .event) (wanted kinds.end 0 0) (sym j ∙ none z) in let g = r .few in omega arith
 
     pub close-room : 4 * e .event + 4 ≤ length N
-    close-room = let h = judged-in L (e .event) (wanted 6 0 0) (sym j ∙ none z) in let g = r .sized in omega arith
+    close-room = let h = judged-in L (e .event) (wanted kinds.end 0 0) (sym j ∙ none z) in let g = r .sized in omega arith
 
     pub close-start : (M : List ℕ) → length M ≡ length N → 4 * c .event + 4 ≤ length M
     close-start M k = let h = close-room in let g = s .started in omega arith
@@ -317,7 +321,7 @@ module _ (L X : List ℕ) (c e : Cursor) (N : List ℕ) (mode q : ℕ) (r : Read
         → Walked L X (sealed (modeIs mode) q (wrote inner (eventsAt L (e .event)) (textsAt X (e .used)))) c N (Go (record { event = e .event + 1; used = e .used; bits = e .bits + h .bits })) K
     unfolding sealed
     close-go n M nothing k h g K y =
-        let i = judged-in L (e .event) (wanted 6 0 0) (sym j ∙ none z) in
+        let i = judged-in L (e .event) (wanted kinds.end 0 0) (sym j ∙ none z) in
         let few = r .few in
         let len = r .sized in
         let st = s .started in
@@ -344,7 +348,7 @@ module _ (L X : List ℕ) (c e : Cursor) (N : List ℕ) (mode q : ℕ) (r : Read
         let hs = g .short in
         record {
           is = record {
-            out = taken-like L (e .event) (wanted 6 0 0) asEnd _ refl (sym j ∙ none z) ∙ rw (← bound, whole);
+            out = taken-like L (e .event) (wanted kinds.end 0 0) asEnd _ refl (sym j ∙ none z) ∙ rw (← bound, whole);
             counts = rw whole (omega arith);
             onward = omega arith;
             ready = record { sized = omega (arith, ap length y, kept-length M (c .event) (h .note)); few = few; inside = omega arith; used = s .ready .used; short = omega (arith, s .ready .short); small = omega (arith, s .ready .small) };

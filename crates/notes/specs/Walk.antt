@@ -6,6 +6,8 @@ use mathlib.Core.Bool.{cond}
 use mathlib.Core.List.{List, [], _∷_, _++_}
 use lib.Dec.{ltb, leb}
 use lib.ListN.{length, getD, take, drop}
+use Rattle.numbers.specs.Refusal.{noReading, outsideRow, textBytes}
+use Rattle.numbers.specs.Limit.{mostEvents, mostText}
 use Rattle.wire.specs.Res.{Res}
 use Rattle.utf8.specs.Text.{textFault}
 use Rattle.model.specs.Model.{Item}
@@ -30,10 +32,10 @@ textsAt X used = drop used X
 -- room for every event's note; a cursor within the list, its counts small
 pub record Ready (L X N : List ℕ) (c : Cursor) : Type 0 where
   pub sized : 4 * eventsIn L ≤ length N
-  pub few : eventsIn L ≤ 2048
+  pub few : eventsIn L ≤ mostEvents
   pub inside : c .event ≤ eventsIn L
   pub used : c .used ≤ length X
-  pub short : c .used ≤ 4095 * c .event
+  pub short : c .used ≤ mostText * c .event
   pub small : c .bits ≤ 40000 * c .event
 
 -- the notes of the events between two cursors
@@ -76,9 +78,9 @@ pub record Sealing (L X N : List ℕ) (c e : Cursor) : Type 0 where
 abbrev pub wanted : ℕ → ℕ → ℕ → Bare
 wanted kind p q = record { kind = kind; p = p; q = q }
 
--- what is wrong with event i where f is wanted; 18 where there is none
+-- what is wrong with event i where f is wanted; noReading where there is none
 unfoldable pub judged : List ℕ → ℕ → Bare → ℕ
-judged L i f = cond (ltb i (eventsIn L)) (unlike f (eventAt L i)) 18
+judged L i f = cond (ltb i (eventsIn L)) (unlike f (eventAt L i)) noReading
 
 -- one event taken as f, and bits and texts left as they were worked out, or their fault
 unfoldable pub noted : Bare → Res (List ℕ × List ℕ) → List Bare → Out
@@ -86,7 +88,7 @@ noted f m M = taken (λ e. f) M (λ e N. coded m (suc (length N)) (λ (w, U). wr
 
 -- what is wrong with v bytes of the texts from a place on, as a text
 unfoldable pub textWrong : List ℕ → ℕ → ℕ → ℕ
-textWrong X used v = cond (leb v 4095) (cond (leb v (length (textsAt X used))) (textFault (take v (textsAt X used))) 23) 20
+textWrong X used v = cond (leb v mostText) (cond (leb v (length (textsAt X used))) (textFault (take v (textsAt X used))) textBytes) outsideRow
 
 -- an item by itself
 unfoldable pub alone : Item → List Bare → List ℕ → Out

@@ -91,12 +91,12 @@ pub fn number(c: Code, v: u32) -> Note
 pub fn head(mode: u32, q: u32, n: u32) -> Head
     ensures { λ r. ⌜ HeadNote r (headOut (modeIs mode) (lengthOf q n)) ⌝ }
 {
-    if mode == 0 {
+    if mode == numbers::mode::NEVER {
         let note = just(fixed(0, 0));
         return Head { note, bits: 0 };
     }
     if q == 0 {
-        if mode == 1 {
+        if mode == numbers::mode::OPTIONAL {
             let note = just(fixed(1, 0));
             return Head { note, bits: 1 };
         }
@@ -105,7 +105,7 @@ pub fn head(mode: u32, q: u32, n: u32) -> Head
     }
     let length = size5(n);
     let long = length.0;
-    if mode == 1 {
+    if mode == numbers::mode::OPTIONAL {
         let note = pair(fixed(1, 1), five(n));
         return Head {
             note,

@@ -6,6 +6,9 @@ use super::Step;
 use super::codes::head;
 use super::codes::just;
 use super::codes::number;
+use numbers::kind;
+use numbers::limit;
+use numbers::refusal;
 use table::rows::word;
 use utf8::check;
 use value::Code;
@@ -16,6 +19,8 @@ ghost use mathlib.Core.Path.{_≡_};
 ghost use mathlib.Core.List.{[]};
 ghost use Prim.Native.Nat.{_+_, _*_, _≤_};
 ghost use lib.ListN.{length, getD};
+ghost use Rattle.numbers.specs.Kind as kinds;
+ghost use Rattle.numbers.specs.Limit.{mostText};
 ghost use Rattle.wire.specs.Res.{got};
 ghost use Rattle.value.specs.Simple.{plain, text};
 ghost use Rattle.value.specs.Answer.{codeIs};
@@ -23,30 +28,30 @@ ghost use Rattle.model.specs.Write.{wrote, simpleOut, sealed};
 ghost use Rattle.notes.specs.Notes.{keeps, fixedPiece, only, textNote, modeIs};
 ghost use Rattle.notes.specs.Walk.{eventsAt, textsAt, between, Ready, Walked, Sealing, wanted, judged, noted, textWrong};
 
-// What is wrong with event at where one of these words is wanted: 0, 18 or 19; 18 where there is none.
+// What is wrong with event at where one of these words is wanted; NO_READING where there is none.
 pub fn unlike(events: &[u32], at: usize, kind: u32, p: u32, q: u32) -> u32
     ensures { λ r. ⌜ r ≡ judged (now (events .entry)) at (wanted kind p q) ⌝ }
 {
     if events.len() / 4 <= at {
-        return 18;
+        return refusal::NO_READING;
     }
     let i = 4 * at;
     let k = events[i];
     let x = events[i + 1];
     let y = events[i + 2];
     if kind != k {
-        if k == 7 {
-            return 19;
+        if k == kind::BLANK {
+            return refusal::BLANK;
         }
-        return 18;
+        return refusal::NO_READING;
     }
     if p != x {
-        return 18;
+        return refusal::NO_READING;
     }
     if q != y {
-        return 18;
+        return refusal::NO_READING;
     }
-    0
+    refusal::ACCEPTED
 }
 
 // The note of event at.
@@ -96,7 +101,7 @@ pub fn mark(
     Step::Go(next)
 }
 
-// An event whose value v is written in a code: 20 where the code has no such value.
+// An event whose value v is written in a code, which may have no such value.
 pub fn coded(
     events: &[u32],
     texts: &[u8],
@@ -132,17 +137,17 @@ pub fn coded(
     }
 }
 
-// What is wrong with a text of n bytes at a place of the texts: 20, 23, 16 or 0.
+// What is wrong with a text of n bytes at a place of the texts: too many bytes, more than are left, no UTF-8, in this order.
 fn text_fault(texts: &[u8], used: usize, v: u32) -> u32
     requires { ⌜ used ≤ length (now texts) ⌝ }
     ensures { λ r. ⌜ r ≡ textWrong (now (texts .entry)) used v ⌝ }
 {
-    if 4095 < v {
-        return 20;
+    if limit::MOST_TEXT < v {
+        return refusal::OUTSIDE_ROW;
     }
     let n = v as usize;
     if texts.len() - used < n {
-        return 23;
+        return refusal::TEXT_BYTES;
     }
     let to = used + n;
     check(&texts[used..to])
@@ -150,7 +155,7 @@ fn text_fault(texts: &[u8], used: usize, v: u32) -> u32
 
 // The note of a text.
 fn text_note(v: u32, from: u32) -> Note
-    requires { ⌜ v ≤ 4095 ⌝ }
+    requires { ⌜ v ≤ mostText ⌝ }
     ensures { λ r. ⌜ r ≡ textNote v from ⌝ }
 {
     let one = Piece { width: 33, x: v };
@@ -161,14 +166,14 @@ fn text_note(v: u32, from: u32) -> Note
     Note { one, two }
 }
 
-// A text's event, of v bytes: 20, 23, 16.
+// A text's event, of v bytes.
 pub fn text_value(events: &[u32], texts: &[u8], notes: &mut [u32], c: Cursor, v: u32) -> Step
     requires { ⌜ Ready (now events) (now texts) (now notes) c ⌝ }
-    ensures { λ r. ⌜ Walked (now (events .entry)) (now (texts .entry)) (noted (wanted 3 v 0) (simpleOut text v (textsAt (now (texts .entry)) (c .used))) (eventsAt (now (events .entry)) (c .event))) c (now (notes .entry)) r (now (notes .exit)) ⌝ }
+    ensures { λ r. ⌜ Walked (now (events .entry)) (now (texts .entry)) (noted (wanted kinds.value v 0) (simpleOut text v (textsAt (now (texts .entry)) (c .used))) (eventsAt (now (events .entry)) (c .event))) c (now (notes .entry)) r (now (notes .exit)) ⌝ }
 {
     let at = c.event;
     let used = c.used;
-    let bad = unlike(events, at, 3, v, 0);
+    let bad = unlike(events, at, kind::VALUE, v, 0);
     if 0 < bad {
         return Step::Refuse(bad, at);
     }
@@ -203,7 +208,7 @@ pub fn close(
 {
     let at = c.event;
     let to = e.event;
-    let bad = unlike(events, to, 6, 0, 0);
+    let bad = unlike(events, to, kind::END, 0, 0);
     if 0 < bad {
         return Step::Refuse(bad, to);
     }

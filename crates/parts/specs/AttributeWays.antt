@@ -4,6 +4,7 @@ use mathlib.Core.Path.{_≡_, refl, sym, ap, _∙_}
 use mathlib.Core.List.{List, []}
 use mathlib.Core.Bool.{Bool, true, false}
 use native.Mathlib.Omega.{arith}
+use Rattle.numbers.specs.Kind as kinds
 use Rattle.wire.specs.declared.Bits.{Bits}
 use Rattle.wire.specs.declared.Read.{Read}
 use Rattle.wire.specs.declared.Read.the-variants as of-read
@@ -42,13 +43,13 @@ abbrev pub Given : of-table.Attribute → ℕ → Plan
 Given a v = maybe v (value (a .kind) (a .b) (a .c) done) done
 
 -- an attribute's event and its value
-module _ (b : ℕ → ℕ) (wall : ℕ) (c : Cursor) (E T : List ℕ) (a : of-table.Attribute) (v next : ℕ) (s : Step) (E′ : List ℕ) (h : Stores 2 (a .name) v next c E s E′) where
+module _ (b : ℕ → ℕ) (wall : ℕ) (c : Cursor) (E T : List ℕ) (a : of-table.Attribute) (v next : ℕ) (s : Step) (E′ : List ℕ) (h : Stores kinds.attribute (a .name) v next c E s E′) where
   pub noted-stop : (n : ℕ) (p : Bits) → s ≡ Refuse n p → Notes v next (attributeIs a) b wall c E T s E′ T
   noted-stop n p i = record { says = λ mode held π. after-stop s π E′ T _ c π E T (h .says T π) n p i π _ _ }
 
   module _ (d : Cursor) (i : s ≡ Go d) where
     noted-next : (mode : Mode) (held : ℕ → Bool) (π : List ℕ) (k : ℕ) → v ≡ k → outcome (read b mode held (Given a k) (roomOf E′ T d) π wall (d .at .0)) d π E′ T
-        ≡ outcome (after (roomOf E T c) (stored (roomOf E T c) π (c .at .0) (event 2 (a .name) v (next - c .at .0)) [] next) (λ u p. read b mode held (Given a v) u π wall p)) c π E T
+        ≡ outcome (after (roomOf E T c) (stored (roomOf E T c) π (c .at .0) (event kinds.attribute (a .name) v (next - c .at .0)) [] next) (λ u p. read b mode held (Given a v) u π wall p)) c π E T
     noted-next mode held π k z = rw (← z) (after-go s π E′ T _ c π E T (h .says T π) d i π (λ u ρ p. read b mode held (Given a v) u ρ wall p))
 
     pub noted-absent : v ≡ 0 → Notes v next (attributeIs a) b wall c E T (Go d) E′ T
@@ -84,7 +85,7 @@ module _ (b : ℕ → ℕ) (wall : ℕ) (c : Cursor) (E T : List ℕ) (a : of-ta
   module _ (m : a .must ≡ false) (r : Read) (e : readIs r ≡ choiceAt b 2 wall (c .at .0)) where
     optional-is : (mode : Mode) (held : ℕ → Bool) (π : List ℕ) → read b mode held (One a) (roomOf E T c) π wall (c .at .0)
         ≡ code (simpleAt (plain (choice 2)) b wall (c .at .0)) π (c .at .0)
-        (λ (v, ts, q). after (roomOf E T c) (stored (roomOf E T c) π (c .at .0) (event 2 (a .name) v (q - c .at .0)) ts q) (λ u p. read b mode held (Given a v) u π wall p))
+        (λ (v, ts, q). after (roomOf E T c) (stored (roomOf E T c) π (c .at .0) (event kinds.attribute (a .name) v (q - c .at .0)) ts q) (λ u p. read b mode held (Given a v) u π wall p))
     optional-is mode held π =
         steps.attribute-optional b mode held (tableOf []) (roomOf E T c) π wall (c .at .0) (attributeIs a) m ∙ rw (steps.item-optional b wall (c .at .0) (a .name))
 

@@ -6,6 +6,8 @@ use mathlib.Core.Bool.{Bool, true, false, not}
 use native.Mathlib.Omega.{arith}
 use borrow.Author.Tests.{ltb-true, ltb-false, not-true, not-false}
 use lib.Dec.{ltb, eqb}
+use Rattle.numbers.specs.Refusal.{contentShort}
+use Rattle.numbers.specs.Kind as kinds
 use Rattle.wire.specs.declared.Bits.{Bits}
 use Rattle.model.specs.Model.{Event, start, end, Mark, Nodes, Answer, events, texts, slotsOf, bytesOf, _then_}
 use Rattle.model.specs.Model.Nodes.{none, leaf, node}
@@ -29,7 +31,7 @@ meets-free coded at wall h = rw h
 pub ruleset meets-ways = (meets-coded, meets-free)
 
 module _ (coded : Bool) (body wall : ℕ) (r : Room) (ρ : List ℕ) (q : ℕ) where
-  pub ending-short : met coded q wall ≡ false → ending coded body wall r ρ q ≡ refused 11 body ρ
+  pub ending-short : met coded q wall ≡ false → ending coded body wall r ρ q ≡ refused contentShort body ρ
   unfolding ending
   ending-short h = rw h
 
@@ -39,11 +41,11 @@ module _ (coded : Bool) (body wall : ℕ) (r : Room) (ρ : List ℕ) (q : ℕ) w
 
 -- close
 module _ (coded : Bool) (body : Bits) (wall : ℕ) (c : Cursor) (E : List ℕ) (m : Bool) (e : m ≡ met coded (c .at .0) wall) where
-  pub close-short : not m ≡ true → Closes coded (body .0) wall c E (Refuse 11 body) E
+  pub close-short : not m ≡ true → Closes coded (body .0) wall c E (Refuse contentShort body) E
   unfolding stepView outcome
   close-short h = record { says = λ T π. rw (ending-short coded (body .0) wall (roomOf E T c) π (c .at .0) (sym e ∙ not-true m h)) }
 
-  pub close-met : (s : Step) (E′ : List ℕ) → not m ≡ false → Stores 6 0 0 (c .at .0) c E s E′ → Closes coded (body .0) wall c E s E′
+  pub close-met : (s : Step) (E′ : List ℕ) → not m ≡ false → Stores kinds.end 0 0 (c .at .0) c E s E′ → Closes coded (body .0) wall c E s E′
   close-met s E′ h k =
       let z : c .at .0 - c .at .0 ≡ 0 = omega arith in
       record { says = λ T π. rw (ending-met coded (body .0) wall (roomOf E T c) π (c .at .0) (sym e ∙ not-false m h)) (rw z at (k .says T π)) }

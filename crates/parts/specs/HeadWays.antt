@@ -2,6 +2,7 @@
 use Prim.Native.Nat.{ℕ, suc, _+_, _-_, _^_, _<_, _≤_}
 use mathlib.Core.Path.{_≡_, refl, sym, _∙_}
 use native.Mathlib.Omega.{arith}
+use Rattle.numbers.specs.Refusal as refusal
 use Rattle.wire.specs.declared.Bits.{Bits}
 use Rattle.wire.specs.declared.Read.{Read}
 use Rattle.wire.specs.declared.Read.the-variants as of-read
@@ -23,19 +24,19 @@ module _ (b : ℕ → ℕ) (wall at : ℕ) (r : Read) (e : readIs r ≡ numberAt
   measured-refuse n h = record { says = λ t. sym (then-fault _ (read-refuse e h)); within = tt }
 
   module _ (n : ℕ) (body : Bits) (h : r ≡ of-read.Value n body) where
-    past : wall < body .0 + n → Measured b wall at (Wrong 10)
+    past : wall < body .0 + n → Measured b wall at (Wrong refusal.length)
     unfolding headIs lengthAt codeAt
-    past k = record { says = λ t. sym (then _ (read-value e h) (under-fault 10 _ k)); within = tt }
+    past k = record { says = λ t. sym (then _ (read-value e h) (under-fault refusal.length _ k)); within = tt }
 
-    pub measured-before : wall < body .0 → Measured b wall at (Wrong 10)
+    pub measured-before : wall < body .0 → Measured b wall at (Wrong refusal.length)
     measured-before k = past (omega arith)
 
-    pub measured-past : body .0 ≤ wall → wall - body .0 < n → Measured b wall at (Wrong 10)
+    pub measured-past : body .0 ≤ wall → wall - body .0 < n → Measured b wall at (Wrong refusal.length)
     measured-past j k = past (omega arith)
 
     pub measured-in : (end : Bits) → body .0 ≤ wall → n ≤ wall - body .0 → end .0 ≡ body .0 + n → Measured b wall at (Sized body end)
     unfolding headIs lengthAt codeAt
-    measured-in end j k l = record { says = λ t. rw l (sym (then _ (read-value e h) (under-then 10 (omega arith) refl))); within = omega arith }
+    measured-in end j k l = record { says = λ t. rw l (sym (then _ (read-value e h) (under-then refusal.length (omega arith) refl))); within = omega arith }
 
 pub ruleset measured-ways = (measured-refuse, measured-before, measured-past, measured-in)
 

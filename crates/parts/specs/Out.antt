@@ -6,6 +6,9 @@ use mathlib.Core.List.{List, []}
 use mathlib.Core.Bool.{Bool, cond}
 use lib.ListN.{length}
 use lib.Seq.{sets}
+use Rattle.numbers.specs.Refusal.{contentShort}
+use Rattle.numbers.specs.Kind as kinds
+use Rattle.numbers.specs.Limit.{mostEvents}
 use Rattle.model.specs.Model.{event, end, value, maybe, Plan, Answer, events, texts, slotsOf, bytesOf}
 use Rattle.model.specs.Model.Plan.{done}
 use Rattle.model.specs.Model.Answer.{given, refused}
@@ -19,7 +22,7 @@ use Rattle.parts.specs.declared.Step.the-variants.{Go, Refuse}
 
 -- events that so many words hold
 abbrev pub slotsIn : ℕ → ℕ
-slotsIn words = min (words / 4) 2048
+slotsIn words = min (words / 4) mostEvents
 
 -- the room that is left in lent events E and texts T, by what the cursor says is stored
 abbrev pub roomOf : List ℕ → List ℕ → Cursor → Room
@@ -50,17 +53,17 @@ pub record Stores (kind p q next : ℕ) (c : Cursor) (E : List ℕ) (s : Step) (
 
 -- a Value stored, with its text
 pub record Keeps (word : ℕ) (ts : List ℕ) (next : ℕ) (c : Cursor) (E T : List ℕ) (s : Step) (E′ T′ : List ℕ) : Type 0 where
-  pub says : (π : List ℕ) → stepView s π E′ T′ ≡ outcome (stored (roomOf E T c) π (c .at .0) (event 3 word 0 (next - c .at .0)) ts next) c π E T
+  pub says : (π : List ℕ) → stepView s π E′ T′ ≡ outcome (stored (roomOf E T c) π (c .at .0) (event kinds.value word 0 (next - c .at .0)) ts next) c π E T
 
 -- an attribute's event stored, with whether it is present, and then its value where it is
 pub record Notes (present next : ℕ) (a : Attribute) (b : ℕ → ℕ) (wall : ℕ) (c : Cursor) (E T : List ℕ) (s : Step) (E′ T′ : List ℕ) : Type 0 where
   pub says : (mode : Mode) (held : ℕ → Bool) (π : List ℕ) → stepView s π E′ T′
-      ≡ outcome (after (roomOf E T c) (stored (roomOf E T c) π (c .at .0) (event 2 (a .name) present (next - c .at .0)) [] next)
+      ≡ outcome (after (roomOf E T c) (stored (roomOf E T c) π (c .at .0) (event kinds.attribute (a .name) present (next - c .at .0)) [] next)
       (λ u p. read b mode held (maybe present (value (a .kind) (a .b) (a .c) done) done) u π wall p)) c π E T
 
--- the end of an element: 11 where its declared end is not met, then End
+-- the end of an element: whether its declared end is met, then End
 unfoldable pub ending : Bool → ℕ → ℕ → Room → List ℕ → ℕ → Answer
-ending coded body wall r π at = cond (met coded at wall) (stored r π at end [] at) (refused 11 body π)
+ending coded body wall r π at = cond (met coded at wall) (stored r π at end [] at) (refused contentShort body π)
 
 pub record Closes (coded : Bool) (body wall : ℕ) (c : Cursor) (E : List ℕ) (s : Step) (E′ : List ℕ) : Type 0 where
   pub says : (T π : List ℕ) → stepView s π E′ T ≡ outcome (ending coded body wall (roomOf E T c) π (c .at .0)) c π E T

@@ -1,4 +1,4 @@
--- One event stored, without a text and with one: 8, then 7.
+-- One event stored, without a text and with one: room for the text comes before the event's.
 use Prim.Native.Nat.{ℕ, suc, _+_, _-_, _*_, _<_, _≤_}
 use mathlib.Core.Path.{_≡_, refl, sym, ap, _∙_}
 use mathlib.Core.List.{List, [], _∷_, append-nil}
@@ -8,6 +8,8 @@ use borrow.Author.Tests.{lt-ltb, le-ltb, le-leb, lt-leb}
 use lib.Dec.{ltb}
 use lib.ListN.{length, set}
 use lib.Seq.{sets}
+use Rattle.numbers.specs.Refusal.{eventRoom, textRoom}
+use Rattle.numbers.specs.Kind as kinds
 use Rattle.wire.specs.declared.Bytes.{Bytes}
 use Rattle.wire.specs.Bits.{num}
 use Rattle.value.specs.Simple.{bytesAt}
@@ -24,12 +26,12 @@ use Rattle.parts.specs.Out.{slotsIn, roomOf, went, stepView, outcome, St
 use Rattle.parts.specs.Laws.{sets-sets}
 
 module _ (r : Room) (π : List ℕ) (at : ℕ) (e : Event) (ts : List ℕ) (q : ℕ) where
-  pub stored-past : r .bytes < length ts → stored r π at e ts q ≡ refused 8 at π
+  pub stored-past : r .bytes < length ts → stored r π at e ts q ≡ refused textRoom at π
   unfolding stored kept
   stored-past h = rw (lt-leb (length ts) (r .bytes) h)
 
   module _ (h : length ts ≤ r .bytes) where
-    pub stored-full : r .slots ≡ 0 → stored r π at e ts q ≡ refused 7 at π
+    pub stored-full : r .slots ≡ 0 → stored r π at e ts q ≡ refused eventRoom at π
     unfolding stored kept
     stored-full g = rw (le-leb (length ts) (r .bytes) h, le-ltb 0 (r .slots) (omega arith))
 
@@ -48,7 +50,7 @@ outcome-leaf at e ts q c π E T =
 
 -- store
 module _ (kind p q next room : ℕ) (c : Cursor) (E : List ℕ) (f : room ≡ slotsIn (length E)) where
-  pub store-full : room ≤ c .count → Stores kind p q next c E (Refuse 7 (c .at)) E
+  pub store-full : room ≤ c .count → Stores kind p q next c E (Refuse eventRoom (c .at)) E
   unfolding stepView outcome
   store-full h = record { says = λ T π. rw (stored-full (roomOf E T c) π (c .at .0) (event kind p q (next - c .at .0)) [] next (omega arith) (omega arith)) }
 
@@ -97,21 +99,21 @@ module _ (b : ℕ → ℕ) (word : ℕ) (n : Bytes) (next room : ℕ) (c : Curso
   abbrev ts : List ℕ
   ts = bytesAt b (next - 8 * n .0) (n .0)
 
-  pub keep-full : room < n .0 → Keeps word ts next c E T (Refuse 8 (c .at)) E T
+  pub keep-full : room < n .0 → Keeps word ts next c E T (Refuse textRoom (c .at)) E T
   unfolding stepView outcome
   keep-full h = record {
-    says = λ π. rw (stored-past (roomOf E T c) π (c .at .0) (event 3 word 0 (next - c .at .0)) ts next (omega (arith, bytes-length b (next - 8 * n .0) (n .0))));
+    says = λ π. rw (stored-past (roomOf E T c) π (c .at .0) (event kinds.value word 0 (next - c .at .0)) ts next (omega (arith, bytes-length b (next - 8 * n .0) (n .0))));
   }
 
   pub keep-in : (d : Cursor) (s : Step) (E′ T₁ : List ℕ) → n .0 ≤ room → d .at .0 ≡ c .at .0 → d .count ≡ c .count → d .used ≡ c .used + n .0
-      → T₁ ≡ sets T (c .used) ts → Stores 3 word 0 next d E s E′ → Keeps word ts next c E T s E′ T₁
+      → T₁ ≡ sets T (c .used) ts → Stores kinds.value word 0 next d E s E′ → Keeps word ts next c E T s E′ T₁
   keep-in d s E′ T₁ h x y z g k =
       let l = bytes-length b (next - 8 * n .0) (n .0) in
       record {
         says = λ π.
             k .says T₁ π
-            ∙ rw g (stored-text E T c d π (event 3 word 0 (next - d .at .0)) ts next y (omega arith) (omega arith) (d .at .0))
-            ∙ ap (λ (at : ℕ). outcome (stored (roomOf E T c) π at (event 3 word 0 (next - at)) ts next) c π E T) x;
+            ∙ rw g (stored-text E T c d π (event kinds.value word 0 (next - d .at .0)) ts next y (omega arith) (omega arith) (d .at .0))
+            ∙ ap (λ (at : ℕ). outcome (stored (roomOf E T c) π at (event kinds.value word 0 (next - at)) ts next) c π E T) x;
       }
 
 pub ruleset keep-ways = (keep-full, keep-in)

@@ -5,6 +5,7 @@ use mathlib.Core.List.{List, []}
 use mathlib.Core.Bool.{Bool}
 use native.Mathlib.Omega.{arith}
 use lib.ListN.{length, length-append}
+use Rattle.numbers.specs.Kind as kinds
 use Rattle.wire.specs.declared.Bits.{Bits}
 use Rattle.wire.specs.declared.Bytes.{Bytes}
 use Rattle.wire.specs.Bits.{bitAt}
@@ -38,7 +39,7 @@ module _ (s : List ℕ) (wall k x y : ℕ) (c : Cursor) (E T : List ℕ) (r : Va
 
   -- the reading of the plan, by what the call answered
   read-is : (mode : Mode) (held : ℕ → Bool) (π : List ℕ) (a : Value) → r ≡ a → read (bitAt s) mode held (value k x y done) (roomOf E T c) π wall (c .at .0)
-      ≡ code (valueIs (bitAt s) a) π (c .at .0) (λ (v, ts, q). stored (roomOf E T c) π (c .at .0) (event 3 v 0 (q - c .at .0)) ts q)
+      ≡ code (valueIs (bitAt s) a) π (c .at .0) (λ (v, ts, q). stored (roomOf E T c) π (c .at .0) (event kinds.value v 0 (q - c .at .0)) ts q)
   read-is mode held π a h = value-is (bitAt s) mode held (tableOf []) (roomOf E T c) π wall (c .at .0) k x y ∙ rw (item-is, h)
 
   pub value-refuse : (n : ℕ) → r ≡ of-value.Refuse n → Reads (value k x y done) (bitAt s) wall c E T (Refuse n (c .at)) E T

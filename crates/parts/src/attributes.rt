@@ -3,6 +3,7 @@ use crate::Cursor;
 use crate::Step;
 use crate::storing::store;
 use crate::values::value;
+use numbers::kind;
 use table::Attribute;
 use table::rows;
 use value::reading::choice;
@@ -31,7 +32,7 @@ fn noted(
     requires { ⌜ wall .0 ≤ 8 * length (now payload) ⌝ }
     ensures { λ r. ⌜ Notes present (next .0) (attributeIs a) (bitAt (now (payload .entry))) (wall .0) c (now (events .entry)) (now (texts .entry)) r (now (events .exit)) (now (texts .exit)) ⌝ }
 {
-    let s = store(events, c, 2, a.name, present, next);
+    let s = store(events, c, kind::ATTRIBUTE, a.name, present, next);
     let Step::Go(d) = s else {
         return s;
     };

@@ -1,6 +1,8 @@
 // An element's head: its flag and its length, by the mode.
 use crate::Head;
 use crate::Mode;
+use numbers::limit;
+use numbers::refusal;
 use value::reading::choice;
 use value::reading::number;
 use wire::Bits;
@@ -10,21 +12,21 @@ ghost use lib.ListN.{length};
 ghost use Rattle.wire.specs.Bits.{bitAt};
 ghost use Rattle.parts.specs.Heads.{Measured, Heads};
 
-// TheLength and the end that it says; 10 past the wall.
+// TheLength and the end that it says, which is not past the wall.
 fn measured(payload: &[u8], wall: Bits, at: Bits) -> Head
     requires { ⌜ wall .0 ≤ 8 * length (now payload) ⌝ }
     ensures { λ r. ⌜ Measured (bitAt (now (payload .entry))) (wall .0) (at .0) r ⌝ }
 {
     let w = wall.0;
-    match number(payload, wall, at, 4294967295) {
+    match number(payload, wall, at, limit::MOST_WORD) {
         Read::Refuse(n) => Head::Wrong(n),
         Read::Value(n, body) => {
             let b = body.0;
             if w < b {
-                return Head::Wrong(10);
+                return Head::Wrong(refusal::LENGTH);
             }
             if w - b < n {
-                return Head::Wrong(10);
+                return Head::Wrong(refusal::LENGTH);
             }
             Head::Sized(body, Bits(b + n))
         }

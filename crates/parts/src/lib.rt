@@ -5,8 +5,10 @@ pub mod heads; // heads.rt: an element's flag and length
 pub mod storing; // storing.rt: one event
 pub mod values; // values.rt: a simple value, with its text
 
+use numbers::limit;
 use wire::Bits;
 ghost use Prim.Native.Nat.{_<_};
+ghost use Rattle.numbers.specs.Limit.{mostNames};
 ghost use Rattle.parts.specs.Paths.{Pushed};
 
 // Where a reading is: the place in the payload, how many events and how many text bytes are stored.
@@ -24,7 +26,7 @@ pub enum Step {
 
 // The names of the open elements, the outermost first. By value: who opened an element has, at its End, the path without it.
 pub struct Path {
-    pub names: [u16; 64],
+    pub names: [u16; limit::MOST_NAMES],
     pub count: usize,
 }
 
@@ -45,7 +47,7 @@ pub enum Head {
 impl Path {
     // An element is opened.
     pub fn push(mut self, name: u16) -> Path
-        requires { ⌜ self .count < 64 ⌝ }
+        requires { ⌜ self .count < mostNames ⌝ }
         ensures { λ r. ⌜ Pushed self name r ⌝ }
     {
         let n = self.count;

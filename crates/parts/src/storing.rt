@@ -1,6 +1,8 @@
-// One event stored, or 7.
+// One event stored, where it has room.
 use crate::Cursor;
 use crate::Step;
+use numbers::limit;
+use numbers::refusal;
 use wire::Bits;
 ghost use mathlib.Core.Path.{_≡_};
 ghost use Prim.Native.Nat.{_-_, _*_, _≤_};
@@ -13,12 +15,18 @@ fn span(at: u32, next: u32) -> u32
     if next < at { 0 } else { next - at }
 }
 
-// The events that so many words hold, at most 2,048.
+const MOST: u32 = limit::MOST_EVENTS as u32;
+
+// The events that so many words hold, at most MOST_EVENTS.
 fn slots(words: usize) -> u32
     ensures { λ r. ⌜ (r ≡ slotsIn words) × (4 * r ≤ words) ⌝ }
 {
     let n = words / 4;
-    if n < 2048 { n as u32 } else { 2048 }
+    if n < limit::MOST_EVENTS {
+        n as u32
+    } else {
+        MOST
+    }
 }
 
 // The event kind, p, q, whose code ends at next. It has no text.
@@ -29,7 +37,7 @@ pub fn store(events: &mut [u32], c: Cursor, kind: u32, p: u32, q: u32, next: Bit
     let at = c.at;
     let room = slots(events.len());
     if room <= count {
-        return Step::Refuse(7, at);
+        return Step::Refuse(refusal::EVENT_ROOM, at);
     }
     let bits = span(at.0, next.0);
     let i = 4 * (count as usize);

@@ -2,6 +2,8 @@
 use crate::Cursor;
 use crate::Step;
 use crate::storing::store;
+use numbers::kind;
+use numbers::refusal;
 use utf8::slanted::octet;
 use value::Value;
 use value::kinds::of_kind;
@@ -41,7 +43,7 @@ fn left(have: usize, used: usize) -> usize
     if have < used { 0 } else { have - used }
 }
 
-// The Value of a word whose n text bytes end at next: 8, then 7.
+// The Value of a word whose n text bytes end at next: room for the text comes before room for the event.
 fn keep(
     payload: &[u8],
     events: &mut [u32],
@@ -60,7 +62,7 @@ fn keep(
     let m = n.0;
     let room = left(texts.len(), used);
     if room < m as usize {
-        return Step::Refuse(8, at);
+        return Step::Refuse(refusal::TEXT_ROOM, at);
     }
     let from = Bits(next.0 - 8 * m);
     copy(payload, texts, from, n, used);
@@ -69,7 +71,7 @@ fn keep(
         count,
         used: used + (m as usize),
     };
-    store(events, d, 3, word, 0, next)
+    store(events, d, kind::VALUE, word, 0, next)
 }
 
 // A value of a simple kind with its parameters x and y.

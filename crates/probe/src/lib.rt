@@ -6,6 +6,8 @@ pub mod tables; // tables.rt: the check of a table, and its rows
 pub mod words; // words.rt: widths, sizes and signed words
 pub mod writing; // writing.rt: codes and texts into a lent buffer
 
+use numbers::limit;
+use numbers::refusal;
 use wire::Number;
 use wire::Read;
 ghost use Prim.Native.Nat.{_*_, _≤_};
@@ -20,7 +22,7 @@ fn reach(bytes: usize) -> u32
     if bytes < 536870912 {
         (bytes as u32) * 8
     } else {
-        4294967295
+        limit::MOST_WORD
     }
 }
 
@@ -37,7 +39,7 @@ fn accepted(value: u32, place: u32, more: u32, out: &mut [u32; 4]) -> u32 {
     out[1] = place;
     out[2] = more;
     out[3] = 0;
-    0
+    refusal::ACCEPTED
 }
 
 fn told(r: Read, out: &mut [u32; 4]) -> u32 {

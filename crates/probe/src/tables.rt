@@ -1,5 +1,8 @@
 // The check of a table, and what stands in its rows. Each answers on any words.
 use super::accepted;
+use numbers::content;
+use numbers::particle;
+use numbers::refusal;
 use table::Content;
 use table::Particle;
 use table::Verdict;
@@ -12,11 +15,11 @@ pub extern "C" fn probe_table(words: &[u32], place: &mut usize) -> u32 {
     match table::check(words) {
         Verdict::Right => {
             *place = 0;
-            0
+            refusal::ACCEPTED
         }
         Verdict::Wrong(i) => {
             *place = i;
-            1
+            refusal::TABLE
         }
     }
 }
@@ -45,11 +48,11 @@ pub extern "C" fn probe_content(words: &[u32], t: u32, out: &mut [u32; 4]) -> u3
         Content::Empty => accepted(0, 0, 0, out),
         Content::Simple(kind, b, c) => {
             accepted(kind, b, c, out);
-            1
+            content::SIMPLE
         }
         Content::Particles(p) => {
             accepted(p, 0, 0, out);
-            2
+            content::PARTICLES
         }
     }
 }
@@ -77,15 +80,15 @@ pub extern "C" fn probe_particle(words: &[u32], i: u32, out: &mut [u32; 4]) -> u
         Particle::Element(name, t) => accepted(name, t, 0, out),
         Particle::Sequence(first, n) => {
             accepted(first, n, 0, out);
-            1
+            particle::SEQUENCE
         }
         Particle::Choice(first, n) => {
             accepted(first, n, 0, out);
-            2
+            particle::CHOICE
         }
         Particle::Occurs(child, least, most) => {
             accepted(child, least, most, out);
-            3
+            particle::OCCURS
         }
     }
 }

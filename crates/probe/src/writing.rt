@@ -8,6 +8,7 @@ use notes::Cursor;
 use notes::Step;
 use notes::leaves::coded;
 use notes::pen::put_notes;
+use numbers::limit;
 use value::Code;
 use value::Form;
 use value::Inner;
@@ -71,7 +72,7 @@ pub extern "C" fn probe_put8(buf: &mut [u8], at: u32, v: u32, out: &mut [u32; 4]
 fn number_of(kind: u32, b: u32, c: u32) -> Code {
     match simple(kind, b, c) {
         Form::Number(code) => code,
-        Form::Text => Code::Plain(Inner::Five(4095)),
+        Form::Text => Code::Plain(Inner::Five(limit::MOST_TEXT)),
     }
 }
 

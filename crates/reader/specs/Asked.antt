@@ -5,6 +5,8 @@ use mathlib.Core.List.{List}
 use mathlib.Core.Bool.{true, false}
 use native.Mathlib.Omega.{arith}
 use lib.ListN.{length}
+use Rattle.numbers.specs.Refusal.{noSuchCode}
+use Rattle.numbers.specs.Limit.{mostName, mostNames, mostParticles}
 use Rattle.wire.specs.Res.{bind, gives, under, Ensures}
 use Rattle.wire.specs.Answer.{readIs}
 use Rattle.wire.specs.declared.Bits.{Bits}
@@ -56,7 +58,7 @@ module _ (t s : List ℕ) (wall n d : ℕ) (h : Ready t s wall n d) where
       go (Wrong m) k j = let z : _≡_ {A = ℕ} 0 1 = cc in absurd (omega arith)
 
   -- rows and types are few; those that the rows name are there
-  pub rows-few : particlesIn t ≤ 1024
+  pub rows-few : particlesIn t ≤ mostParticles
   rows-few = counts-ok t (h .valid) .particles-few
 
   pub spans-few : (ty : ℕ) → ty < typesIn t → firstOf t ty + countOf t ty < 4294967296
@@ -80,7 +82,7 @@ module _ (T P : ℕ) (r : code·particle.Particle) (h : Fits T P (rowIs r)) wher
   fits-as : (x : code·particle.Particle) → r ≡ x → Fits T P (rowIs x)
   fits-as x f = subst (λ (x : code·particle.Particle). Fits T P (rowIs x)) f h
 
-  pub element-name : (name ty : ℕ) → r ≡ Element name ty → name ≤ 65535
+  pub element-name : (name ty : ℕ) → r ≡ Element name ty → name ≤ mostName
   element-name name ty f = fits-as (Element name ty) f .0
 
   pub element-type : (name ty : ℕ) → r ≡ Element name ty → ty < T
@@ -104,7 +106,7 @@ occurs-rows P child m h = record { small = omega arith; row = λ j l. rw (stride
 -- the branch that a choice names
 choice-in : (b : ℕ → ℕ) (n wall at : ℕ) → Ensures (choiceAt b n wall at) (λ x. x .0 < n)
 unfolding choiceAt
-choice-in b n wall at = bind {P = λ x. Unit {0}} (record { says = λ x e. tt }) (λ x u. under 14 λ k. gives (omega arith))
+choice-in b n wall at = bind {P = λ x. Unit {0}} (record { says = λ x e. tt }) (λ x u. under noSuchCode λ k. gives (omega arith))
 
 pub branch-row : (P first n : ℕ) (b : ℕ → ℕ) (wall at : ℕ) (r : code·read.Read) (v : ℕ) (q : Bits) → first + n ≤ P → readIs r ≡ choiceAt b n wall at → r ≡ Value v q → first + v < P
 unfolding readIs
@@ -132,7 +134,7 @@ round-fits t s wall m d h i k n j g l = let f = round-row (particlesIn t) i k n 
 pub ready-pushed : (t s : List ℕ) (wall d : ℕ) (path inner : Path) (name : ℕ) → Pushed path name inner → Ready t s wall (path .count + 1) d → Ready t s wall (inner .count) d
 ready-pushed t s wall d path inner name i r = rw (i .count) r
 
-pub path-open : (t s : List ℕ) (wall n d : ℕ) → Ready t s wall (n + 1) d → n < 64
+pub path-open : (t s : List ℕ) (wall n d : ℕ) → Ready t s wall (n + 1) d → n < mostNames
 path-open t s wall n d r = omega (arith, r .places)
 
 pub ruleset asked-ways = (ready-row, ready-element, ready-end, rows-few, spans-few, content-row, row-fits, element-name, element-type, sequence-rows, choice-rows, occurs-row, occurs-rows, branch-row, branch-fits, round-row, round-fits, round-next, ready-pushed, path-open)

@@ -4,6 +4,10 @@ use mathlib.Core.Path.{_≡_, sym, _∙_}
 use mathlib.Core.List.{List}
 use native.Mathlib.Omega.{arith}
 use lib.ListN.{length, getD}
+use Rattle.numbers.specs.Refusal as refusal
+use Rattle.numbers.specs.Refusal.{payloadSize}
+use Rattle.numbers.specs.Limit.{mostPayload}
+use Rattle.numbers.specs.Mode.{alwaysByte, neverByte, optionalByte}
 use Rattle.wire.specs.Res.{Res, got, fault}
 use Rattle.model.specs.Items as items
 use Rattle.model.specs.Whole.{modeOf}
@@ -18,29 +22,29 @@ foundIs (Is m) = got (modeIs m)
 foundIs (Refuse n) = fault n
 
 module _ (s : List ℕ) where
-  pub front-empty : length s ≡ 0 → foundIs (Refuse 3) ≡ modeOf s
+  pub front-empty : length s ≡ 0 → foundIs (Refuse payloadSize) ≡ modeOf s
   unfolding foundIs
   front-empty h = sym (mode-empty s (omega arith))
 
   module _ (h : length s ≡ 0 → ⊥) where
-    pub front-long : 8192 < length s → foundIs (Refuse 3) ≡ modeOf s
+    pub front-long : mostPayload < length s → foundIs (Refuse payloadSize) ≡ modeOf s
     unfolding foundIs
     front-long g = sym (mode-long s (omega arith) g)
 
-    module _ (g : length s ≤ 8192) where
-      pub front-never : getD s 0 0 ≡ 15 → foundIs (Is Never) ≡ modeOf s
+    module _ (g : length s ≤ mostPayload) where
+      pub front-never : getD s 0 0 ≡ neverByte → foundIs (Is Never) ≡ modeOf s
       unfolding foundIs modeIs
       front-never e = sym (mode-byte s (omega arith) g ∙ mode-none (getD s 0 0) e)
 
-      pub front-optional : getD s 0 0 ≡ 79 → foundIs (Is Optional) ≡ modeOf s
+      pub front-optional : getD s 0 0 ≡ optionalByte → foundIs (Is Optional) ≡ modeOf s
       unfolding foundIs modeIs
       front-optional e = sym (mode-byte s (omega arith) g ∙ mode-flag (getD s 0 0) e)
 
-      pub front-always : getD s 0 0 ≡ 143 → foundIs (Is Always) ≡ modeOf s
+      pub front-always : getD s 0 0 ≡ alwaysByte → foundIs (Is Always) ≡ modeOf s
       unfolding foundIs modeIs
       front-always e = sym (mode-byte s (omega arith) g ∙ mode-all (getD s 0 0) e)
 
-      pub front-other : (getD s 0 0 ≡ 15 → ⊥) → (getD s 0 0 ≡ 79 → ⊥) → (getD s 0 0 ≡ 143 → ⊥) → foundIs (Refuse 4) ≡ modeOf s
+      pub front-other : (getD s 0 0 ≡ neverByte → ⊥) → (getD s 0 0 ≡ optionalByte → ⊥) → (getD s 0 0 ≡ alwaysByte → ⊥) → foundIs (Refuse refusal.modeByte) ≡ modeOf s
       unfolding foundIs
       front-other x y z = sym (mode-byte s (omega arith) g ∙ mode-other (getD s 0 0) x y z)
 

@@ -5,6 +5,8 @@ use mathlib.Core.List.{List}
 use mathlib.Core.Bool.{Bool, true, false}
 use lib.Dec.{ltb}
 use lib.ListN.{length}
+use Rattle.numbers.specs.Kind as kinds
+use Rattle.numbers.specs.Limit.{mostName, mostNames}
 use Rattle.wire.specs.Bits.{bitAt}
 use Rattle.wire.specs.declared.Bits.{Bits}
 use Rattle.table.specs.First.Verdict.{right}
@@ -45,11 +47,11 @@ reachOf (Wrong n) wall = reach.Wrong n
 pub record Ready (t s : List ℕ) (wall n depth : ℕ) : Type 0 where
   pub valid : verdict t ≡ right
   pub walls : wall ≤ 8 * length s
-  pub places : n + depth ≤ 64
+  pub places : n + depth ≤ mostNames
 
 -- a row names types and rows of a table of T types and P rows
 abbrev pub Fits : (T P : ℕ) → Row → Type 0
-Fits T P (element name type) = (name ≤ 65535) × (type < T)
+Fits T P (element name type) = (name ≤ mostName) × (type < T)
 Fits T P (sequence first n) = first + n ≤ P
 Fits T P (choice first n) = first + n ≤ P
 Fits T P (occurs child least most) = child < P
@@ -92,8 +94,8 @@ module _ (t s : List ℕ) (mode : Mode) where
 
   unfoldable pub choose· : ℕ → ℕ → ℕ → Meaning
   choose· d first n r π wall at =
-      code (itemAt (picked n) b wall at) π at (λ (v, ts, q). after r (stored r π at (event 4 v 0 (q - at)) ts q) (λ u p. particle· d (tableOf t .row (first + v)) u π wall p))
+      code (itemAt (picked n) b wall at) π at (λ (v, ts, q). after r (stored r π at (event kinds.pick v 0 (q - at)) ts q) (λ u p. particle· d (tableOf t .row (first + v)) u π wall p))
 
   unfoldable pub occur· : ℕ → ℕ → ℕ → ℕ → Meaning
   occur· d child least most r π wall at =
-      code (itemAt (counted least most) b wall at) π at (λ (v, ts, q). after r (stored r π at (event 5 v 0 (q - at)) ts q) (λ u p. rounds· d child 0 v u π wall p))
+      code (itemAt (counted least most) b wall at) π at (λ (v, ts, q). after r (stored r π at (event kinds.times v 0 (q - at)) ts q) (λ u p. rounds· d child 0 v u π wall p))

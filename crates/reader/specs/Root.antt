@@ -6,6 +6,9 @@ use mathlib.Core.Bool.{Bool, true, false}
 use native.Mathlib.Omega.{arith}
 use lib.ListN.{length, replicate, length-replicate}
 use lib.Seq.{sets}
+use Rattle.numbers.specs.Refusal as refusal
+use Rattle.numbers.specs.Refusal.{payloadSize, leftOver}
+use Rattle.numbers.specs.Limit.{mostEvents, mostName, mostOpen, mostPayload, mostText}
 use Rattle.wire.specs.Bits.{bitAt}
 use Rattle.wire.specs.BitLaws.{bit-lt}
 use Rattle.wire.specs.Res.{got, Ensures, under}
@@ -55,23 +58,23 @@ pub zeros-cleared : (l m : List ℕ) → m ≡ replicate (length l) 0 → Zeros 
 zeros-cleared l m e = e ∙ ap (λ (n : ℕ). replicate n 0) (sym (length-replicate (length l) 0) ∙ sym (ap length e))
 
 -- what the root asks
-pub root-ready : (t s : List ℕ) (name ty : ℕ) (path : Path) (wall : ℕ) → Entered t name ty → path .count ≡ 0 → wall ≡ 8 * length s → Ready t s wall (path .count) 64
+pub root-ready : (t s : List ℕ) (name ty : ℕ) (path : Path) (wall : ℕ) → Entered t name ty → path .count ≡ 0 → wall ≡ 8 * length s → Ready t s wall (path .count) mostOpen
 root-ready t s name ty path wall h z e = record { valid = h .table-right; walls = omega arith; places = omega arith }
 
 pub root-type : (t : List ℕ) (name ty : ℕ) → Entered t name ty → ty < typesIn t
 unfolding tableOf
 root-type t name ty h = h .type-known
 
-short : (s : List ℕ) → Ensures (modeOf s) (λ m. length s ≤ 8192)
+short : (s : List ℕ) → Ensures (modeOf s) (λ m. length s ≤ mostPayload)
 unfolding modeOf
-short s = under 3 λ h. under 3 λ k. record { says = λ m e. k }
+short s = under payloadSize λ h. under payloadSize λ k. record { says = λ m e. k }
 
-pub payload-short : (s : List ℕ) (mode : Mode) → modeOf s ≡ got (modeIs mode) → length s ≤ 8192
+pub payload-short : (s : List ℕ) (mode : Mode) → modeOf s ≡ got (modeIs mode) → length s ≤ mostPayload
 payload-short s mode e = short s .says (modeIs mode) e
 
 module _ (t s : List ℕ) (name ty : ℕ) (mode : Mode) (h : Entered t name ty) (m : modeOf s ≡ got (modeIs mode)) (E T : List ℕ) (zE : Zeros E) (zT : Zeros T)
     (c : Cursor) (c8 : c .at .0 ≡ 8) (c0 : c .count ≡ 0) (u0 : c .used ≡ 0) (path : Path) (z : path .count ≡ 0) (wall : ℕ) (x : wall ≡ 8 * length s)
-    (w : Walk) (N E₁ T₁ : List ℕ) (k : Walks (particle· t s mode 64 (element name ty)) wall c (namesOf path) E T w N E₁ T₁) where
+    (w : Walk) (N E₁ T₁ : List ℕ) (k : Walks (particle· t s mode mostOpen (element name ty)) wall c (namesOf path) E T w N E₁ T₁) where
   abbrev room : model.Room
   room = whole.roomOf (length E) (length T)
 
@@ -81,7 +84,7 @@ module _ (t s : List ℕ) (name ty : ℕ) (mode : Mode) (h : Entered t name ty) 
   abbrev Ans : Answer
   Ans = model.read (bitAt s) (modeIs mode) (heldOf t) (planOf t name ty) room [] (8 * length s) 8
 
-  root-read : particle· t s mode 64 (element name ty) room [] (8 * length s) 8 ≡ Ans
+  root-read : particle· t s mode mostOpen (element name ty) room [] (8 * length s) 8 ≡ Ans
   unfolding particle·
   root-read = refl
 
@@ -91,7 +94,7 @@ module _ (t s : List ℕ) (name ty : ℕ) (mode : Mode) (h : Entered t name ty) 
 
   room-is : roomOf E T c ≡ room
   room-is =
-      let a : min (length E / 4) 2048 - c .count ≡ min (length E / 4) 2048 = omega arith in
+      let a : min (length E / 4) mostEvents - c .count ≡ min (length E / 4) mostEvents = omega arith in
       let b : length T - c .used ≡ length T = omega arith in
       λ i. record { slots = a i; bytes = b i }
 
@@ -99,7 +102,7 @@ module _ (t s : List ℕ) (name ty : ℕ) (mode : Mode) (h : Entered t name ty) 
   root-says =
       (λ i. view w (sym no-names i) N E₁ T₁)
       ∙ k
-      ∙ (λ i. outcome (particle· t s mode 64 (element name ty) (room-is i) (no-names i) (x i) (c8 i)) c (no-names i) E T)
+      ∙ (λ i. outcome (particle· t s mode mostOpen (element name ty) (room-is i) (no-names i) (x i) (c8 i)) c (no-names i) E T)
       ∙ ap (λ (a : Answer). outcome a c [] E T) root-read
 
   went-on : (d : Cursor) → w ≡ Go d → Went Ans c [] E T d [] E₁ T₁
@@ -108,7 +111,7 @@ module _ (t s : List ℕ) (name ty : ℕ) (mode : Mode) (h : Entered t name ty) 
   fits : (ns : Nodes) (q : ℕ) → Ans ≡ given ns q → (slotsOf ns ≤ room .slots) × (bytesOf ns ≤ room .bytes)
   fits ns q e = rw e at (read-fits (bitAt s) (modeIs mode) (heldOf t) (planOf t name ty) room [] (8 * length s) 8)
 
-  few : (ns : Nodes) (q : ℕ) → Ans ≡ given ns q → bytesOf ns ≤ 4095 * slotsOf ns
+  few : (ns : Nodes) (q : ℕ) → Ans ≡ given ns q → bytesOf ns ≤ mostText * slotsOf ns
   few ns q e = bytes-few (bitAt s) (bit-lt s) (modeIs mode) (heldOf t) (planOf t name ty) room [] (8 * length s) 8 ns q e
 
   -- the bytes used fit a word
@@ -162,17 +165,17 @@ module _ (t s : List ℕ) (name ty : ℕ) (mode : Mode) (h : Entered t name ty) 
         ∙ ap (λ (π : List ℕ). declined n (at .0) (reverse π)) (sym e)
         ∙ ap (λ (π : List ℕ). declined n (at .0) π) (path-outward p)) a
 
-    pub root-left : (d : Cursor) (ok : Bool) → w ≡ Go d → ok ≡ padding s (d .at .0) → ok ≡ false → answerIs r ≡ declines 17 (d .at .0) (pathIs path)
+    pub root-left : (d : Cursor) (ok : Bool) → w ≡ Go d → ok ≡ padding s (d .at .0) → ok ≡ false → answerIs r ≡ declines leftOver (d .at .0) (pathIs path)
         → Replies R (length E) (length T) r E₂ T₂
     root-left d ok g e f a =
         let v = went-on d g in
         cleared 17 (d .at .0) []
         (reading-left t name ty s (length E) (length T) h (modeIs mode) m Ans refl (v .nodes) (d .at .0) (v .gave) (sym e ∙ f))
-        (a ∙ ap (λ (π : List ℕ). declines 17 (d .at .0) π) (no-path path z))
+        (a ∙ ap (λ (π : List ℕ). declines leftOver (d .at .0) π) (no-path path z))
 
 pub ruleset root-ways = (root-ready, root-type, payload-short, root-used, root-given, root-refused, root-told, root-left)
 
--- before the root: 1, 2, 3, 4, into buffers of zeros
+-- before the root: table, root, payload size and mode byte in this order, into buffers of zeros
 module _ (t s : List ℕ) (name ty : ℕ) (E T : List ℕ) where
   abbrev Answers : code.Answer → List ℕ → List ℕ → Type 0
   Answers r E′ T′ = Replies (reading t name ty s (length E) (length T)) (length E) (length T) r E′ T′
@@ -182,7 +185,7 @@ module _ (t s : List ℕ) (name ty : ℕ) (E T : List ℕ) where
     early E′ T′ y y′ e = declined-replies _ (length E) (length T) n p [] r E′ T′ e (a ∙ ap (λ (π : List ℕ). declines n p π) (no-path path z)) y y′
 
   pub entry-table : (v : code·verdict.Verdict) (i : ℕ) (r : code.Answer) (path : Path) (E′ T′ : List ℕ) → verdictIs v ≡ verdict t → v ≡ Wrong i → path .count ≡ 0
-      → answerIs r ≡ declines 1 i (pathIs path) → E′ ≡ replicate (length E) 0 → T′ ≡ replicate (length T) 0 → Answers r E′ T′
+      → answerIs r ≡ declines refusal.table i (pathIs path) → E′ ≡ replicate (length E) 0 → T′ ≡ replicate (length T) 0 → Answers r E′ T′
   entry-table v i r path E′ T′ e f z a y y′ = early r path z 1 i a E′ T′ y y′ (reading-table t name ty s (length E) (length T) i (sym e ∙ rw f))
 
   pub entry-right : (r : code.Answer) (E₁ T₁ E′ T′ : List ℕ) → E₁ ≡ replicate (length E) 0 → T₁ ≡ replicate (length T) 0
@@ -193,14 +196,14 @@ module _ (t s : List ℕ) (name ty : ℕ) (E T : List ℕ) where
       rw (a, b) at h
 
   module _ (k : verdict t ≡ right) (zE : Zeros E) (zT : Zeros T) (types : ℕ) (q : types ≡ tableOf t .types) where
-    pub entry-type : (r : code.Answer) (path : Path) → types ≤ ty → path .count ≡ 0 → answerIs r ≡ declines 2 0 (pathIs path) → Answers r E T
+    pub entry-type : (r : code.Answer) (path : Path) → types ≤ ty → path .count ≡ 0 → answerIs r ≡ declines refusal.root 0 (pathIs path) → Answers r E T
     entry-type r path g z a = early r path z 2 0 a E T zE zT (reading-type t name ty s (length E) (length T) k (omega arith))
 
     module _ (g : ty < types) where
-      pub entry-name : (r : code.Answer) (path : Path) → 65535 < name → path .count ≡ 0 → answerIs r ≡ declines 2 0 (pathIs path) → Answers r E T
+      pub entry-name : (r : code.Answer) (path : Path) → mostName < name → path .count ≡ 0 → answerIs r ≡ declines refusal.root 0 (pathIs path) → Answers r E T
       entry-name r path l z a = early r path z 2 0 a E T zE zT (reading-name t name ty s (length E) (length T) k (omega arith) l)
 
-      module _ (l : name ≤ 65535) where
+      module _ (l : name ≤ mostName) where
         pub entry-known : Entered t name ty
         entry-known = record { table-right = k; type-known = omega arith; name-small = l }
 

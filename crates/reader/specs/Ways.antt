@@ -5,6 +5,9 @@ use mathlib.Core.Logic.{_⊎_, inl, inr}
 use mathlib.Core.List.{List, [], _∷_}
 use mathlib.Core.Bool.{Bool, true, false}
 use native.Mathlib.Omega.{arith}
+use Rattle.numbers.specs.Refusal as refusal
+use Rattle.numbers.specs.Refusal.{notHeld}
+use Rattle.numbers.specs.Kind as kinds
 use Rattle.wire.specs.Bits.{bitAt}
 use Rattle.wire.specs.Res.{Res, got, fault, then, then-fault}
 use Rattle.wire.specs.Answer.{readIs}
@@ -187,7 +190,7 @@ module _ (t s : List ℕ) (mode : Mode) (d wall : ℕ) (c : Cursor) (Π N E T : 
     whole-go e o E₂ w g q i = leaf-view o w i Π N₁ E₂ T₁ ∙ q .says T₁ Π ∙ walk-go v Π N₁ E₁ T₁ _ c E T y e g (λ u ρ p. ending coded body wall u ρ p)
 
   -- a held element
-  module _ (name ty : ℕ) (coded : Bool) (body f : ℕ) (o : Step) (E₁ : List ℕ) (i : f ≡ flagOf coded) (h : Stores 1 name f body c E o E₁) where
+  module _ (name ty : ℕ) (coded : Bool) (body f : ℕ) (o : Step) (E₁ : List ℕ) (i : f ≡ flagOf coded) (h : Stores kinds.start name f body c E o E₁) where
     abbrev m : model.Mark
     m = mark name ty coded at body
 
@@ -271,7 +274,7 @@ module _ (t s : List ℕ) (mode : Mode) (d wall : ℕ) (c : Cursor) (Π N E T : 
             | inr b ↦ from w N′ E′ T′ _ _ (b .0 ∙ rw n) (rw (b .1) at h)
           ]
 
-      pub element-blank : (o : Step) (w : Walk) (E′ : List ℕ) → held ≡ false → y .coded ≡ true → Stores 7 name ty (y .end .0) c E o E′ → w ≡ walks o → Elem w N E′ T
+      pub element-blank : (o : Step) (w : Walk) (E′ : List ℕ) → held ≡ false → y .coded ≡ true → Stores kinds.blank name ty (y .end .0) c E o E′ → w ≡ walks o → Elem w N E′ T
       unfolding sized
       element-blank o w E′ n p h i =
           elim here [
@@ -279,7 +282,7 @@ module _ (t s : List ℕ) (mode : Mode) (d wall : ℕ) (c : Cursor) (Π N E T : 
             | inr b ↦ from w N E′ T _ _ (b .0 ∙ rw n) (as-leaf c Π _ N E T w o i E′ T (h .says T Π))
           ]
 
-      pub element-nine : held ≡ false → y .coded ≡ false → Elem (Refuse 9 (c .at)) N E T
+      pub element-nine : held ≡ false → y .coded ≡ false → Elem (Refuse notHeld (c .at)) N E T
       unfolding bare
       element-nine n p =
           elim here [
@@ -298,8 +301,8 @@ module _ (t s : List ℕ) (mode : Mode) (d wall : ℕ) (c : Cursor) (Π N E T : 
     choose-fault m g =
         stops-at c Π _ N E T m (c .at) (code-fault _ Π at _ m (steps.item-picked B wall at n ∙ number-fault r (choice n) B wall at choice-here m g))
 
-    module _ (v : ℕ) (q : Bits) (g : r ≡ Value v q) (o : Step) (E₁ : List ℕ) (h : Stores 4 v 0 (q .0) c E o E₁) where
-      choose-here : choose· t s mode d first n R Π wall at ≡ after R (stored R Π at (event 4 v 0 (q .0 - at)) [] (q .0)) (λ u p. particle· t s mode d (D .row (first + v)) u Π wall p)
+    module _ (v : ℕ) (q : Bits) (g : r ≡ Value v q) (o : Step) (E₁ : List ℕ) (h : Stores kinds.pick v 0 (q .0) c E o E₁) where
+      choose-here : choose· t s mode d first n R Π wall at ≡ after R (stored R Π at (event kinds.pick v 0 (q .0 - at)) [] (q .0)) (λ u p. particle· t s mode d (D .row (first + v)) u Π wall p)
       unfolding choose·
       choose-here = code-got _ Π at _ _ (steps.item-picked B wall at n ∙ number-value r (choice n) B wall at choice-here v q g)
 
@@ -321,8 +324,8 @@ module _ (t s : List ℕ) (mode : Mode) (d wall : ℕ) (c : Cursor) (Π N E T : 
     occur-fault m g =
         stops-at c Π _ N E T m (c .at) (code-fault _ Π at _ m (steps.item-counted B wall at least most ∙ number-fault r (timesCode least most) B wall at times-here m g))
 
-    module _ (v : ℕ) (q : Bits) (g : r ≡ Value v q) (o : Step) (E₁ : List ℕ) (h : Stores 5 v 0 (q .0) c E o E₁) where
-      occur-here : occur· t s mode d child least most R Π wall at ≡ after R (stored R Π at (event 5 v 0 (q .0 - at)) [] (q .0)) (λ u p. rounds· t s mode d child 0 v u Π wall p)
+    module _ (v : ℕ) (q : Bits) (g : r ≡ Value v q) (o : Step) (E₁ : List ℕ) (h : Stores kinds.times v 0 (q .0) c E o E₁) where
+      occur-here : occur· t s mode d child least most R Π wall at ≡ after R (stored R Π at (event kinds.times v 0 (q .0 - at)) [] (q .0)) (λ u p. rounds· t s mode d child 0 v u Π wall p)
       unfolding occur·
       occur-here = code-got _ Π at _ _ (steps.item-counted B wall at least most ∙ number-value r (timesCode least most) B wall at times-here v q g)
 
@@ -338,7 +341,7 @@ module _ (t s : List ℕ) (mode : Mode) (d wall : ℕ) (c : Cursor) (Π E T : Li
   abbrev Row : Walk → List ℕ → List ℕ → List ℕ → Type 0
   Row w N′ E′ T′ = Walks (particle· t s mode d (rowIs r)) wall c Π E T w N′ E′ T′
 
-  pub particle-deep : (N : List ℕ) → d ≡ 0 → Row (Refuse 6 (c .at)) N E T
+  pub particle-deep : (N : List ℕ) → d ≡ 0 → Row (Refuse refusal.depth (c .at)) N E T
   unfolding particle·
   particle-deep N z =
       stops-at c Π _ N E T 6 (c .at) (rw z (steps.particle-deep (bitAt s) (modeIs mode) (heldOf t) (tableOf t) (roomOf E T c) Π wall (c .at .0) (rowIs r)))
@@ -379,7 +382,7 @@ module _ (t s : List ℕ) (mode : Mode) (d wall : ℕ) (c : Cursor) (Π E T : Li
         row-here (table.Row.occurs child least most) _ (rw g)
         (steps.particle-occurs (bitAt s) (modeIs mode) (heldOf t) (tableOf t) (roomOf E T c) Π wall (c .at .0) (d - 1) child least most
         ∙ (λ a. code (itemAt (counted least most) (bitAt s) wall (c .at .0)) Π (c .at .0)
-        (λ x. after (roomOf E T c) (stored (roomOf E T c) Π (c .at .0) (event 5 (x .0) 0 (x .2 - c .at .0)) (x .1) (x .2))
+        (λ x. after (roomOf E T c) (stored (roomOf E T c) Π (c .at .0) (event kinds.times (x .0) 0 (x .2 - c .at .0)) (x .1) (x .2))
         (λ u p. roundsAt (bitAt s) (modeIs mode) (heldOf t) (tableOf t) (d - 1) (x .0) (λ j. tableOf t .row (sym (stride-none child j) a)) u Π wall p)))) y
 
 -- rounds: what is left, from the row i on, after j of n rows

@@ -4,6 +4,8 @@
 use crate::told::Walk;
 use crate::told::named;
 use crate::told::walked;
+use numbers::kind;
+use numbers::refusal;
 use parts::Cursor;
 use parts::Head;
 use parts::Mode;
@@ -26,6 +28,7 @@ ghost use mathlib.Core.Path.{_≡_};
 ghost use mathlib.Core.List.{_∷_};
 ghost use Prim.Native.Nat.{_+_, _≤_, _<_};
 ghost use lib.ListN.{length};
+ghost use Rattle.numbers.specs.Limit.{mostName, mostNames};
 ghost use Rattle.table.specs.Words.{typesIn, particlesIn};
 ghost use Rattle.table.specs.Views.{rowIs};
 ghost use Rattle.model.specs.Model.{flagOf};
@@ -94,10 +97,10 @@ fn enter(
     coded: bool,
     body: Bits,
 ) -> Walk
-    requires { ⌜ (Ready (now table) (now payload) (wall .0) (path .count + 1) depth) × (length (now told) ≡ 64) × (name ≤ 65535) × (t < typesIn (now table)) ⌝ }
+    requires { ⌜ (Ready (now table) (now payload) (wall .0) (path .count + 1) depth) × (length (now told) ≡ mostNames) × (name ≤ mostName) × (t < typesIn (now table)) ⌝ }
     ensures { λ r. ⌜ Walks (enter· (now (table .entry)) (now (payload .entry)) mode depth name t coded (body .0)) (wall .0) c (namesOf path) (now (events .entry)) (now (texts .entry)) r (now (told .exit)) (now (events .exit)) (now (texts .exit)) ⌝ }
 {
-    let s = store(events, c, 1, name, flag(coded), body);
+    let s = store(events, c, kind::START, name, flag(coded), body);
     let Step::Go(d) = s else {
         return walked(s);
     };
@@ -137,7 +140,7 @@ fn whole(
     coded: bool,
     body: Bits,
 ) -> Walk
-    requires { ⌜ (Ready (now table) (now payload) (wall .0) (path .count + 1) depth) × (length (now told) ≡ 64) × (name ≤ 65535) × (t < typesIn (now table)) ⌝ }
+    requires { ⌜ (Ready (now table) (now payload) (wall .0) (path .count + 1) depth) × (length (now told) ≡ mostNames) × (name ≤ mostName) × (t < typesIn (now table)) ⌝ }
     ensures { λ r. ⌜ Walks (whole· (now (table .entry)) (now (payload .entry)) mode depth t coded (body .0)) (wall .0) c (name ∷ namesOf path) (now (events .entry)) (now (texts .entry)) r (now (told .exit)) (now (events .exit)) (now (texts .exit)) ⌝ }
 {
     let v = inside(
@@ -175,7 +178,7 @@ fn element(
     name: u32,
     t: u32,
 ) -> Walk
-    requires { ⌜ (Ready (now table) (now payload) (wall .0) (path .count + 1) depth) × (length (now told) ≡ 64) × (name ≤ 65535) × (t < typesIn (now table)) ⌝ }
+    requires { ⌜ (Ready (now table) (now payload) (wall .0) (path .count + 1) depth) × (length (now told) ≡ mostNames) × (name ≤ mostName) × (t < typesIn (now table)) ⌝ }
     ensures { λ r. ⌜ Walks (element· (now (table .entry)) (now (payload .entry)) mode depth name t) (wall .0) c (namesOf path) (now (events .entry)) (now (texts .entry)) r (now (told .exit)) (now (events .exit)) (now (texts .exit)) ⌝ }
 {
     let at = c.at;
@@ -207,9 +210,9 @@ fn element(
                 );
             }
             if coded {
-                return walked(store(events, c, 7, name, t, end));
+                return walked(store(events, c, kind::BLANK, name, t, end));
             }
-            Walk::Refuse(9, at)
+            Walk::Refuse(refusal::NOT_HELD, at)
         }
     }
 }
@@ -229,7 +232,7 @@ fn inside(
     name: u32,
     t: u32,
 ) -> Walk
-    requires { ⌜ (Ready (now table) (now payload) (wall .0) (path .count + 1) depth) × (length (now told) ≡ 64) × (name ≤ 65535) × (t < typesIn (now table)) ⌝ }
+    requires { ⌜ (Ready (now table) (now payload) (wall .0) (path .count + 1) depth) × (length (now told) ≡ mostNames) × (name ≤ mostName) × (t < typesIn (now table)) ⌝ }
     ensures { λ r. ⌜ Walks (inside· (now (table .entry)) (now (payload .entry)) mode depth t) (wall .0) c (name ∷ namesOf path) (now (events .entry)) (now (texts .entry)) r (now (told .exit)) (now (events .exit)) (now (texts .exit)) ⌝ }
 {
     let s = all(table, payload, events, texts, wall, c, t);
@@ -267,7 +270,7 @@ fn content(
     name: u32,
     t: u32,
 ) -> Walk
-    requires { ⌜ (Ready (now table) (now payload) (wall .0) (path .count + 1) depth) × (length (now told) ≡ 64) × (name ≤ 65535) × (t < typesIn (now table)) ⌝ }
+    requires { ⌜ (Ready (now table) (now payload) (wall .0) (path .count + 1) depth) × (length (now told) ≡ mostNames) × (name ≤ mostName) × (t < typesIn (now table)) ⌝ }
     ensures { λ r. ⌜ Walks (content· (now (table .entry)) (now (payload .entry)) mode depth t) (wall .0) c (name ∷ namesOf path) (now (events .entry)) (now (texts .entry)) r (now (told .exit)) (now (events .exit)) (now (texts .exit)) ⌝ }
 {
     let k = rows::content(table, t);
@@ -292,7 +295,7 @@ fn content(
     }
 }
 
-// A particle row; 6 where none may be opened any more.
+// A particle row, where one may still be opened.
 pub fn particle(
     table: &[u32],
     payload: &[u8],
@@ -306,12 +309,12 @@ pub fn particle(
     path: Path,
     row: Particle,
 ) -> Walk
-    requires { ⌜ (Ready (now table) (now payload) (wall .0) (path .count) depth) × (length (now told) ≡ 64) × (Fits (typesIn (now table)) (particlesIn (now table)) (rowIs row)) ⌝ }
+    requires { ⌜ (Ready (now table) (now payload) (wall .0) (path .count) depth) × (length (now told) ≡ mostNames) × (Fits (typesIn (now table)) (particlesIn (now table)) (rowIs row)) ⌝ }
     ensures { λ r. ⌜ Walks (particle· (now (table .entry)) (now (payload .entry)) mode depth (rowIs row)) (wall .0) c (namesOf path) (now (events .entry)) (now (texts .entry)) r (now (told .exit)) (now (events .exit)) (now (texts .exit)) ⌝ }
 {
     let at = c.at;
     if depth == 0 {
-        return Walk::Refuse(6, at);
+        return Walk::Refuse(refusal::DEPTH, at);
     }
     let d = depth - 1;
     match row {
@@ -391,7 +394,7 @@ fn choose(
     first: u32,
     n: u32,
 ) -> Walk
-    requires { ⌜ (Ready (now table) (now payload) (wall .0) (path .count) depth) × (length (now told) ≡ 64) × (first + n ≤ particlesIn (now table)) ⌝ }
+    requires { ⌜ (Ready (now table) (now payload) (wall .0) (path .count) depth) × (length (now told) ≡ mostNames) × (first + n ≤ particlesIn (now table)) ⌝ }
     ensures { λ r. ⌜ Walks (choose· (now (table .entry)) (now (payload .entry)) mode depth first n) (wall .0) c (namesOf path) (now (events .entry)) (now (texts .entry)) r (now (told .exit)) (now (events .exit)) (now (texts .exit)) ⌝ }
 {
     let at = c.at;
@@ -399,7 +402,7 @@ fn choose(
     match r {
         Read::Refuse(e) => Walk::Refuse(e, at),
         Read::Value(v, next) => {
-            let s = store(events, c, 4, v, 0, next);
+            let s = store(events, c, kind::PICK, v, 0, next);
             let Step::Go(d) = s else {
                 return walked(s);
             };
@@ -437,7 +440,7 @@ fn occur(
     least: u32,
     most: u32,
 ) -> Walk
-    requires { ⌜ (Ready (now table) (now payload) (wall .0) (path .count) depth) × (length (now told) ≡ 64) × (child < particlesIn (now table)) ⌝ }
+    requires { ⌜ (Ready (now table) (now payload) (wall .0) (path .count) depth) × (length (now told) ≡ mostNames) × (child < particlesIn (now table)) ⌝ }
     ensures { λ r. ⌜ Walks (occur· (now (table .entry)) (now (payload .entry)) mode depth child least most) (wall .0) c (namesOf path) (now (events .entry)) (now (texts .entry)) r (now (told .exit)) (now (events .exit)) (now (texts .exit)) ⌝ }
 {
     let at = c.at;
@@ -445,7 +448,7 @@ fn occur(
     match r {
         Read::Refuse(e) => Walk::Refuse(e, at),
         Read::Value(v, next) => {
-            let s = store(events, c, 5, v, 0, next);
+            let s = store(events, c, kind::TIMES, v, 0, next);
             let Step::Go(d) = s else {
                 return walked(s);
             };
@@ -484,7 +487,7 @@ fn rounds(
     step: u32,
     n: u32,
 ) -> Walk
-    requires { ⌜ (Ready (now table) (now payload) (wall .0) (path .count) depth) × (length (now told) ≡ 64) × (Reaches (particlesIn (now table)) first step n) ⌝ }
+    requires { ⌜ (Ready (now table) (now payload) (wall .0) (path .count) depth) × (length (now told) ≡ mostNames) × (Reaches (particlesIn (now table)) first step n) ⌝ }
     ensures { λ r. ⌜ Walks (rounds· (now (table .entry)) (now (payload .entry)) mode depth first step n) (wall .0) c (namesOf path) (now (events .entry)) (now (texts .entry)) r (now (told .exit)) (now (events .exit)) (now (texts .exit)) ⌝ }
 {
     let mut cursor = c;

@@ -1,4 +1,7 @@
 // The byte that a payload begins with.
+use numbers::limit;
+use numbers::mode;
+use numbers::refusal;
 use parts::Mode;
 ghost use mathlib.Core.Path.{_≡_};
 ghost use Rattle.model.specs.Whole.{modeOf};
@@ -10,26 +13,26 @@ pub enum Found {
     Refuse(u32),
 }
 
-// 3 where there is no byte or there are too many, then 4.
+// The number of bytes is judged before the first of them.
 pub fn mode_of(payload: &[u8]) -> Found
     ensures { λ r. ⌜ foundIs r ≡ modeOf (now (payload .entry)) ⌝ }
 {
     let n = payload.len();
     if n == 0 {
-        return Found::Refuse(3);
+        return Found::Refuse(refusal::PAYLOAD_SIZE);
     }
-    if 8192 < n {
-        return Found::Refuse(3);
+    if limit::MOST_PAYLOAD < n {
+        return Found::Refuse(refusal::PAYLOAD_SIZE);
     }
     let x = payload[0];
-    if x == 15 {
+    if x == mode::NEVER_BYTE {
         return Found::Is(Mode::Never);
     }
-    if x == 79 {
+    if x == mode::OPTIONAL_BYTE {
         return Found::Is(Mode::Optional);
     }
-    if x == 143 {
+    if x == mode::ALWAYS_BYTE {
         return Found::Is(Mode::Always);
     }
-    Found::Refuse(4)
+    Found::Refuse(refusal::MODE_BYTE)
 }

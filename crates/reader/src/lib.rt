@@ -9,6 +9,8 @@ use clear::both;
 use cycle::particle;
 use front::Found;
 use front::mode_of;
+use numbers::limit;
+use numbers::refusal;
 use parts::Cursor;
 use parts::Mode;
 use parts::Path;
@@ -24,6 +26,7 @@ use wire::Bytes;
 ghost use mathlib.Core.Path.{_≡_};
 ghost use Prim.Native.Nat.{_<_};
 ghost use lib.ListN.{length};
+ghost use Rattle.numbers.specs.Limit.{mostNames};
 ghost use Rattle.wire.specs.Res.{got};
 ghost use Rattle.table.specs.First.Verdict.{right};
 ghost use Rattle.table.specs.Valid.{verdict};
@@ -50,17 +53,17 @@ fn nowhere() -> Path
     ensures { λ r. ⌜ r .count ≡ 0 ⌝ }
 {
     Path {
-        names: [0u16; 64],
+        names: [0u16; limit::MOST_NAMES],
         count: 0,
     }
 }
 
 // The path that was told.
 fn heard(told: &[u16], count: usize) -> Path
-    requires { ⌜ length (now told) ≡ 64 ⌝ }
+    requires { ⌜ length (now told) ≡ mostNames ⌝ }
     ensures { λ r. ⌜ namesOf r ≡ back (now (told .entry)) count ⌝ }
 {
-    let mut names = [0u16; 64];
+    let mut names = [0u16; limit::MOST_NAMES];
     copied(&mut names, told);
     Path { names, count }
 }
@@ -84,9 +87,9 @@ fn number_of(mode: Mode) -> u32
     ensures { λ r. ⌜ r ≡ modeNumber (modeIs mode) ⌝ }
 {
     match mode {
-        Mode::Never => 0,
-        Mode::Optional => 1,
-        Mode::Always => 2,
+        Mode::Never => numbers::mode::NEVER,
+        Mode::Optional => numbers::mode::OPTIONAL,
+        Mode::Always => numbers::mode::ALWAYS,
     }
 }
 
@@ -98,7 +101,7 @@ fn accepted(mode: Mode, c: Cursor, path: Path) -> Answer
     let text = Bytes(c.used as u32);
     let bits = c.at;
     Answer {
-        number: 0,
+        number: refusal::ACCEPTED,
         place: 0,
         mode: number,
         events: c.count,
@@ -129,7 +132,7 @@ fn root(
         used: 0,
     };
     let path = nowhere();
-    let mut told = [0u16; 64];
+    let mut told = [0u16; limit::MOST_NAMES];
     let row = Particle::Element(name, t);
     let w = particle(
         table,
@@ -138,7 +141,7 @@ fn root(
         texts,
         &mut told,
         mode,
-        64,
+        limit::MOST_OPEN,
         wall,
         c,
         path,
@@ -163,7 +166,7 @@ fn root(
             }
             let place = at.0 as usize;
             both(events, texts);
-            refused(17, place, path)
+            refused(refusal::LEFT_OVER, place, path)
         }
     }
 }
@@ -182,10 +185,10 @@ fn checked(
 {
     let known = types(table);
     if known <= root_type {
-        return refused(2, 0, nowhere());
+        return refused(refusal::ROOT, 0, nowhere());
     }
-    if 65535 < root_name {
-        return refused(2, 0, nowhere());
+    if limit::MOST_NAME < root_name {
+        return refused(refusal::ROOT, 0, nowhere());
     }
     let f = mode_of(payload);
     match f {
@@ -208,7 +211,7 @@ pub fn read(
     both(events, texts);
     let v = check(table);
     match v {
-        Verdict::Wrong(i) => refused(1, i, nowhere()),
+        Verdict::Wrong(i) => refused(refusal::TABLE, i, nowhere()),
         Verdict::Right => checked(table, root_name, root_type, payload, events, texts),
     }
 }

@@ -4,11 +4,12 @@ use wire::reading::bit;
 ghost use mathlib.Core.Path.{_≡_};
 ghost use Prim.Native.Nat.{_*_, _≤_};
 ghost use lib.ListN.{length};
+ghost use Rattle.numbers.specs.Limit.{mostPayload};
 ghost use Rattle.model.specs.Whole as meaning;
 
 // Fewer than 8 bits, all of them 0.
 pub fn padding(payload: &[u8], at: Bits) -> bool
-    requires { ⌜ length (now payload) ≤ 8192 ⌝ }
+    requires { ⌜ length (now payload) ≤ mostPayload ⌝ }
     ensures { λ r. ⌜ r ≡ meaning.padding (now (payload .entry)) (at .0) ⌝ }
 {
     let wall = (8 * payload.len()) as u32;

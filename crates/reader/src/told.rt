@@ -6,6 +6,7 @@ use wire::Bits;
 ghost use mathlib.Core.Path.{_≡_};
 ghost use Prim.Native.Nat.{_≤_, _<_};
 ghost use lib.ListN.{length};
+ghost use Rattle.numbers.specs.Limit.{mostName, mostNames};
 ghost use Rattle.parts.specs.Paths.{namesOf};
 ghost use Rattle.reader.specs.Told.{walks, Named};
 
@@ -28,7 +29,7 @@ pub fn walked(s: Step) -> Walk
 
 // The names of one path over those of another.
 pub fn copied(to: &mut [u16], from: &[u16])
-    requires { ⌜ (length (now to) ≡ 64) × (length (now from) ≡ 64) ⌝ }
+    requires { ⌜ (length (now to) ≡ mostNames) × (length (now from) ≡ mostNames) ⌝ }
     ensures { λ _. ⌜ now (to .exit) ≡ now (from .entry) ⌝ }
 {
     let mut i = 0;
@@ -40,7 +41,7 @@ pub fn copied(to: &mut [u16], from: &[u16])
 
 // What the element of a name answers for the walk through what is in it: its own refusal is told, with the path and the name.
 pub fn named(told: &mut [u16], path: Path, name: u32, w: Walk) -> Walk
-    requires { ⌜ (length (now told) ≡ 64) × (path .count < 64) × (name ≤ 65535) ⌝ }
+    requires { ⌜ (length (now told) ≡ mostNames) × (path .count < mostNames) × (name ≤ mostName) ⌝ }
     ensures { λ r. ⌜ Named name (namesOf path) w (now (told .entry)) r (now (told .exit)) ⌝ }
 {
     match w {

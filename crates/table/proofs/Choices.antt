@@ -12,7 +12,8 @@ use Rattle.signed.specs.declared.answers.Gap as signed
 use Rattle.signed.specs.declared.answers.Gap.the-variants.{Under, By}
 use Rattle.table.specs.First.{Verdict, first}
 use Rattle.table.specs.First.Verdict.{right, wrong}
-use Rattle.table.specs.Valid.{unusedWords, rangeWords, enumerationWords, kindWords, emptyWords, simpleWords, particlesWords, contentWords, elementWords, groupWords, occursWords, particleWords, ranged, enumeration}
+use Rattle.numbers.specs.Simple.{ranged, enumeration}
+use Rattle.table.specs.Valid.{unusedWords, rangeWords, enumerationWords, kindWords, emptyWords, simpleWords, particlesWords, contentWords, elementWords, groupWords, occursWords, particleWords}
 use Rattle.table.proofs.Tests.{none-left, fails, holds}
 
 -- the tests that a simple kind chooses

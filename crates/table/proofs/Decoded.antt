@@ -4,48 +4,52 @@ use mathlib.Core.Path.{_≡_, sym}
 use mathlib.Core.List.{List}
 use native.Mathlib.Omega.{arith}
 use lib.Dec.{eqb}
-use Rattle.table.specs.Words.{typeAt, attributeAt, wordAt, typesIn}
-use Rattle.table.specs.Rows.{contentFrom, rowFrom, attributeOf}
+use Rattle.numbers.specs.Content as content
+use Rattle.numbers.specs.Particle as particle
+use Rattle.table.specs.Words.{typeAt, attributeAt, particleAt, wordAt, typesIn}
+use Rattle.table.specs.Rows.{contentFrom, rowFrom, contentOf, rowAt, attributeOf}
 use Rattle.table.specs.Rows.Row.{element, sequence, choice, occurs}
 use Rattle.table.specs.Rows.Content.{empty, simple, particles}
 
--- each kind, as the tests tell it
-module _ (k a b c kind x y z : ℕ) (e : kind ≡ k) where
-  pub read-empty : kind ≡ 0 → empty ≡ contentFrom k a b c
-  unfolding contentFrom
-  read-empty f = sym (rw (← e, f))
+-- a content, from the words of the type row t, which begins at i; each as the tests tell it
+module _ (l : List ℕ) (t i kind x y z : ℕ) (at : i ≡ typeAt t) (e : kind ≡ wordAt l (i + 1)) where
+  pub read-empty : kind ≡ content.empty → empty ≡ contentOf l t
+  unfolding contentOf contentFrom
+  read-empty f = sym (rw (← at, ← e, f))
 
-  pub read-simple : x ≡ a → y ≡ b → z ≡ c → kind ≡ 1 → simple x y z ≡ contentFrom k a b c
-  unfolding contentFrom
-  read-simple p q r f = rw (p, q, r) (sym (rw (← e, f)))
+  module _ (p : x ≡ wordAt l (i + 4)) where
+    pub read-simple : y ≡ wordAt l (i + 5) → z ≡ wordAt l (i + 6) → kind ≡ content.simple → simple x y z ≡ contentOf l t
+    unfolding contentOf contentFrom
+    read-simple q r f = sym (rw (← at, ← e, f, ← p, ← q, ← r))
 
-  pub read-particles : x ≡ a → (kind ≡ 0 → ⊥) → (kind ≡ 1 → ⊥) → particles x ≡ contentFrom k a b c
-  unfolding contentFrom
-  read-particles p n m = rw p (sym (let f : kind ≡ suc (suc (kind - 2)) = omega arith in rw (← e, f)))
+    pub read-particles : (kind ≡ content.empty → ⊥) → (kind ≡ content.simple → ⊥) → particles x ≡ contentOf l t
+    unfolding contentOf contentFrom
+    read-particles n m = sym (let f : kind ≡ suc (suc (kind - 2)) = omega arith in rw (← at, ← e, ← p, f))
 
-  module _ (p : x ≡ a) (q : y ≡ b) where
-    pub read-element : kind ≡ 0 → element x y ≡ rowFrom k a b c
-    unfolding rowFrom
-    read-element f = rw (p, q) (sym (rw (← e, f)))
+-- a particle row that begins at i
+module _ (l : List ℕ) (T A n i kind x y z : ℕ) (at : i ≡ particleAt T A n) (e : kind ≡ wordAt l i) (p : x ≡ wordAt l (i + 1)) (q : y ≡ wordAt l (i + 2)) where
+  pub read-element : kind ≡ particle.element → element x y ≡ rowAt l T A n
+  unfolding rowAt rowFrom
+  read-element f = sym (rw (← at, ← e, f, ← p, ← q))
 
-    pub read-sequence : kind ≡ 1 → sequence x y ≡ rowFrom k a b c
-    unfolding rowFrom
-    read-sequence f = rw (p, q) (sym (rw (← e, f)))
+  pub read-sequence : kind ≡ particle.sequence → sequence x y ≡ rowAt l T A n
+  unfolding rowAt rowFrom
+  read-sequence f = sym (rw (← at, ← e, f, ← p, ← q))
 
-    pub read-choice : kind ≡ 2 → choice x y ≡ rowFrom k a b c
-    unfolding rowFrom
-    read-choice f = rw (p, q) (sym (rw (← e, f)))
+  pub read-choice : kind ≡ particle.choice → choice x y ≡ rowAt l T A n
+  unfolding rowAt rowFrom
+  read-choice f = sym (rw (← at, ← e, f, ← p, ← q))
 
-    pub read-occurs : z ≡ c → (kind ≡ 0 → ⊥) → (kind ≡ 1 → ⊥) → (kind ≡ 2 → ⊥) → occurs x y z ≡ rowFrom k a b c
-    unfolding rowFrom
-    read-occurs r n₀ n₁ n₂ = rw (p, q, r) (sym (let f : kind ≡ suc (suc (suc (kind - 3))) = omega arith in rw (← e, f)))
+  pub read-occurs : z ≡ wordAt l (i + 3) → (kind ≡ particle.element → ⊥) → (kind ≡ particle.sequence → ⊥) → (kind ≡ particle.choice → ⊥) → occurs x y z ≡ rowAt l T A n
+  unfolding rowAt rowFrom
+  read-occurs r n₀ n₁ n₂ = sym (let f : kind ≡ suc (suc (suc (kind - 3))) = omega arith in rw (← at, ← e, ← p, ← q, ← r, f))
 
 pub ruleset read-ways = (read-empty, read-simple, read-particles, read-element, read-sequence, read-choice, read-occurs)
 
--- an attribute, behind T type rows
-pub read-attribute : (l : List ℕ) (i T name must t kind b c : ℕ) → T ≡ typesIn l
-    → name ≡ wordAt l (attributeAt T i) → must ≡ wordAt l (attributeAt T i + 1) → t ≡ wordAt l (attributeAt T i + 2)
-    → kind ≡ wordAt l (typeAt t + 4) → b ≡ wordAt l (typeAt t + 5) → c ≡ wordAt l (typeAt t + 6)
+-- an attribute, behind T type rows, whose row begins at j and its type's at m
+pub read-attribute : (l : List ℕ) (i T j m name must t kind b c : ℕ) → T ≡ typesIn l → j ≡ attributeAt T i → m ≡ typeAt t
+    → name ≡ wordAt l j → must ≡ wordAt l (j + 1) → t ≡ wordAt l (j + 2)
+    → kind ≡ wordAt l (m + 4) → b ≡ wordAt l (m + 5) → c ≡ wordAt l (m + 6)
     → record { name = name; must = eqb must 1; kind = kind; b = b; c = c } ≡ attributeOf l i
 unfolding attributeOf
-read-attribute l i T name must t kind b c e₀ e₁ e₂ e₃ e₄ e₅ e₆ = cc
+read-attribute l i T j m name must t kind b c e at at′ e₁ e₂ e₃ e₄ e₅ e₆ = cc

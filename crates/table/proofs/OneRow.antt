@@ -7,13 +7,16 @@ use native.Mathlib.Omega.{arith}
 use mir.Syntax.{w32, w64}
 use mir.Val.{Fits}
 use lib.ListN.{length}
-use Rattle.table.specs.Words.{typeAt, attributeAt, particleAt}
+use Rattle.table.specs.Words.{typeAt, attributeAt, particleAt, wordAt}
 use Rattle.table.specs.First.{Verdict, first}
 use Rattle.table.specs.First.Verdict.{right, wrong}
 use Rattle.table.specs.FirstLaws.{first-append, first-below, moved-right, moved-wrong, then-right, then-wrong}
 use Rattle.table.specs.Valid.{frontWords, contentWords, attributeWords, particleWords, typeRow, attributeRow, particleRow}
 use Rattle.table.specs.Lines.{content-length, particle-length}
 use Rattle.table.specs.Views.{verdictIs}
+use Rattle.table.specs.Runs.{FourAt, SevenAt}
+use Rattle.table.specs.declared.runs.Four as four
+use Rattle.table.specs.declared.runs.Seven as seven
 use Rattle.table.specs.declared.answers.Verdict as code
 use Rattle.table.specs.declared.answers.Verdict.the-variants.{Right, Wrong}
 
@@ -39,78 +42,73 @@ module _ (i : ℕ) (xs ys : List Bool) (r : code.Verdict) (e : verdictIs r ≡ f
 
 -- the place that a row's words name, and the row's own place before it, fit a usize
 module _ (r : code.Verdict) (k : ℕ) where
-  module _ (t : ℕ) (h : Fits w32 t) where
-    pub front-fits : (A held content start count : ℕ) → verdictIs r ≡ first 0 (frontWords A held content start count) → r ≡ Wrong k → Fits w64 (typeAt t + k)
+  module _ (t i : ℕ) (h : Fits w32 t) (at : i ≡ typeAt t) where
+    pub front-fits : (A held content start count : ℕ) → verdictIs r ≡ first 0 (frontWords A held content start count) → r ≡ Wrong k → Fits w64 (i + k)
     unfolding frontWords
     front-fits A held content start count e w = omega (arith, place-below 0 (frontWords A held content start count) r k e w)
 
-    pub content-fits : (P content a b c : ℕ) → verdictIs r ≡ first 4 (contentWords P content a b c) → r ≡ Wrong k → Fits w64 (typeAt t + k)
+    pub content-fits : (P content a b c : ℕ) → verdictIs r ≡ first 4 (contentWords P content a b c) → r ≡ Wrong k → Fits w64 (i + k)
     content-fits P content a b c e w =
         omega (arith, place-below 4 (contentWords P content a b c) r k e w, content-length P content a b c)
 
-  pub attribute-fits : (T i : ℕ) → Fits w32 T → Fits w32 i → (name must type content count : ℕ)
-      → verdictIs r ≡ first 0 (attributeWords T name must type content count) → r ≡ Wrong k → Fits w64 (attributeAt T i + k)
+  pub attribute-fits : (T i j : ℕ) → Fits w32 T → Fits w32 i → j ≡ attributeAt T i → (name must type content count : ℕ)
+      → verdictIs r ≡ first 0 (attributeWords T name must type content count) → r ≡ Wrong k → Fits w64 (j + k)
   unfolding attributeWords
-  attribute-fits T i h g name must type content count e w = omega (arith, place-below 0 (attributeWords T name must type content count) r k e w)
+  attribute-fits T i j h g at name must type content count e w = omega (arith, place-below 0 (attributeWords T name must type content count) r k e w)
 
-  pub particle-fits : (T A p : ℕ) → Fits w32 T → Fits w32 A → Fits w32 p → (P kind x y z : ℕ)
-      → verdictIs r ≡ first 0 (particleWords T P p kind x y z) → r ≡ Wrong k → Fits w64 (particleAt T A p + k)
-  particle-fits T A p h g f P kind x y z e w = omega (arith, place-below 0 (particleWords T P p kind x y z) r k e w, particle-length T P p kind x y z)
+  pub particle-fits : (T A p j : ℕ) → Fits w32 T → Fits w32 A → Fits w32 p → j ≡ particleAt T A p → (P kind x y z : ℕ)
+      → verdictIs r ≡ first 0 (particleWords T P p kind x y z) → r ≡ Wrong k → Fits w64 (j + k)
+  particle-fits T A p j h g f at P kind x y z e w = omega (arith, place-below 0 (particleWords T P p kind x y z) r k e w, particle-length T P p kind x y z)
 
--- a type row, whose words the code has read
-module _ (w : ℕ → ℕ) (A P t held content start count a b c : ℕ)
-    (e₀ : held ≡ w (typeAt t)) (e₁ : content ≡ w (typeAt t + 1)) (e₂ : start ≡ w (typeAt t + 2)) (e₃ : count ≡ w (typeAt t + 3))
-    (e₄ : a ≡ w (typeAt t + 4)) (e₅ : b ≡ w (typeAt t + 5)) (e₆ : c ≡ w (typeAt t + 6))
-    (h : code.Verdict) (f : verdictIs h ≡ first 0 (frontWords A held content start count)) where
-  type-words : frontWords A held content start count ++ contentWords P content a b c ≡ typeRow w A P t
+-- a type row that begins at i, and whose words the code has read
+module _ (l : List ℕ) (A P t i : ℕ) (w : seven.Seven) (at : i ≡ typeAt t) (words : SevenAt l i w)
+    (h : code.Verdict) (f : verdictIs h ≡ first 0 (frontWords A (w .a) (w .b) (w .c) (w .d))) where
+  type-words : frontWords A (w .a) (w .b) (w .c) (w .d) ++ contentWords P (w .b) (w .e) (w .f) (w .g) ≡ typeRow (wordAt l) A P t
   unfolding typeRow
-  type-words = cc
+  type-words = rw (words .a, words .b, words .c, words .d, words .e, words .f, words .g, at)
 
-  pub type-front-wrong : (k : ℕ) → h ≡ Wrong k → wrong (typeAt t + k) ≡ first (typeAt t) (typeRow w A P t)
-  type-front-wrong k x = row-wrong (typeAt t) _ _ type-words h (part-wrong 0 _ _ h f k x) k x
+  pub type-front-wrong : (k : ℕ) → h ≡ Wrong k → wrong (i + k) ≡ first (typeAt t) (typeRow (wordAt l) A P t)
+  type-front-wrong k x = rw at (row-wrong (typeAt t) _ _ type-words h (part-wrong 0 _ _ h f k x) k x)
 
-  module _ (x : h ≡ Right) (r : code.Verdict) (g : verdictIs r ≡ first 4 (contentWords P content a b c)) where
-    whole : verdictIs r ≡ first 0 (frontWords A held content start count ++ contentWords P content a b c)
+  module _ (x : h ≡ Right) (r : code.Verdict) (g : verdictIs r ≡ first 4 (contentWords P (w .b) (w .e) (w .f) (w .g))) where
+    whole : verdictIs r ≡ first 0 (frontWords A (w .a) (w .b) (w .c) (w .d) ++ contentWords P (w .b) (w .e) (w .f) (w .g))
     unfolding frontWords
     whole = part-right 0 _ _ h f _ x g
 
-    pub type-right : r ≡ Right → right ≡ first (typeAt t) (typeRow w A P t)
+    pub type-right : r ≡ Right → right ≡ first (typeAt t) (typeRow (wordAt l) A P t)
     type-right y = row-right (typeAt t) _ _ type-words r whole y
 
-    pub type-wrong : (k : ℕ) → r ≡ Wrong k → wrong (typeAt t + k) ≡ first (typeAt t) (typeRow w A P t)
-    type-wrong k y = row-wrong (typeAt t) _ _ type-words r whole k y
+    pub type-wrong : (k : ℕ) → r ≡ Wrong k → wrong (i + k) ≡ first (typeAt t) (typeRow (wordAt l) A P t)
+    type-wrong k y = rw at (row-wrong (typeAt t) _ _ type-words r whole k y)
 
 pub ruleset type-row-ways = (front-fits, content-fits, type-front-wrong, type-right, type-wrong)
 
--- an attribute row
-module _ (w : ℕ → ℕ) (T i name must type content count : ℕ)
-    (e₀ : name ≡ w (attributeAt T i)) (e₁ : must ≡ w (attributeAt T i + 1)) (e₂ : type ≡ w (attributeAt T i + 2))
-    (e₃ : content ≡ w (typeAt type + 1)) (e₄ : count ≡ w (typeAt type + 3))
-    (r : code.Verdict) (f : verdictIs r ≡ first 0 (attributeWords T name must type content count)) where
-  attribute-words : attributeWords T name must type content count ≡ attributeRow w T i
+-- an attribute row that begins at i, and its type's row at j
+module _ (l : List ℕ) (T a i j : ℕ) (w v : four.Four) (at : i ≡ attributeAt T a) (words : FourAt l i w) (at′ : j ≡ typeAt (w .c)) (words′ : FourAt l j v)
+    (r : code.Verdict) (f : verdictIs r ≡ first 0 (attributeWords T (w .a) (w .b) (w .c) (v .b) (v .d))) where
+  attribute-words : attributeWords T (w .a) (w .b) (w .c) (v .b) (v .d) ≡ attributeRow (wordAt l) T a
   unfolding attributeRow
-  attribute-words = cc
+  attribute-words = rw (words′ .b, words′ .d, at′, words .a, words .b, words .c, at)
 
-  pub attribute-right : r ≡ Right → right ≡ first (attributeAt T i) (attributeRow w T i)
-  attribute-right x = row-right (attributeAt T i) _ _ attribute-words r f x
+  pub attribute-right : r ≡ Right → right ≡ first (attributeAt T a) (attributeRow (wordAt l) T a)
+  attribute-right x = row-right (attributeAt T a) _ _ attribute-words r f x
 
-  pub attribute-wrong : (k : ℕ) → r ≡ Wrong k → wrong (attributeAt T i + k) ≡ first (attributeAt T i) (attributeRow w T i)
-  attribute-wrong k x = row-wrong (attributeAt T i) _ _ attribute-words r f k x
+  pub attribute-wrong : (k : ℕ) → r ≡ Wrong k → wrong (i + k) ≡ first (attributeAt T a) (attributeRow (wordAt l) T a)
+  attribute-wrong k x = rw at (row-wrong (attributeAt T a) _ _ attribute-words r f k x)
 
 pub ruleset attribute-row-ways = (attribute-fits, attribute-right, attribute-wrong)
 
--- a particle row
-module _ (w : ℕ → ℕ) (T A P p kind x y z : ℕ)
-    (e₀ : kind ≡ w (particleAt T A p)) (e₁ : x ≡ w (particleAt T A p + 1)) (e₂ : y ≡ w (particleAt T A p + 2)) (e₃ : z ≡ w (particleAt T A p + 3))
-    (r : code.Verdict) (f : verdictIs r ≡ first 0 (particleWords T P p kind x y z)) where
-  particle-words : particleWords T P p kind x y z ≡ particleRow w T A P p
+-- a particle row that begins at i
+module _ (l : List ℕ) (T A P p i : ℕ) (w : four.Four) (at : i ≡ particleAt T A p) (words : FourAt l i w)
+    (r : code.Verdict) (f : verdictIs r ≡ first 0 (particleWords T P p (w .a) (w .b) (w .c) (w .d))) where
+  particle-words : particleWords T P p (w .a) (w .b) (w .c) (w .d) ≡ particleRow (wordAt l) T A P p
   unfolding particleRow
-  particle-words = cc
+  particle-words = rw (words .a, words .b, words .c, words .d, at)
 
-  pub particle-right : r ≡ Right → right ≡ first (particleAt T A p) (particleRow w T A P p)
+  pub particle-right : r ≡ Right → right ≡ first (particleAt T A p) (particleRow (wordAt l) T A P p)
   particle-right u = row-right (particleAt T A p) _ _ particle-words r f u
 
-  pub particle-wrong : (k : ℕ) → r ≡ Wrong k → wrong (particleAt T A p + k) ≡ first (particleAt T A p) (particleRow w T A P p)
-  particle-wrong k u = row-wrong (particleAt T A p) _ _ particle-words r f k u
+  pub particle-wrong : (k : ℕ) → r ≡ Wrong k → wrong (i + k) ≡ first (particleAt T A p) (particleRow (wordAt l) T A P p)
+  particle-wrong k u = rw at (row-wrong (particleAt T A p) _ _ particle-words r f k u)
 
 pub ruleset particle-row-ways = (particle-fits, particle-right, particle-wrong)

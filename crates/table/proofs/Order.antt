@@ -44,12 +44,13 @@ module _ (l : List ℕ) (h : code.Verdict) (e : verdictIs h ≡ first 0 (headerW
     unfolding verdict verdictFrom
     counted = rw (← t, ← a, ← p) (then-right _ _ (sym e ∙ ap verdictIs x))
 
-    pub length-wrong : (length l ≡ sizeOf T A P → ⊥) → wrong (length l) ≡ verdict l
-    unfolding judge _then_
-    length-wrong n = sym (counted ∙ rw (ne-eqb _ _ n))
+    module _ (size : ℕ) (is : size ≡ sizeOf T A P) where
+      pub length-wrong : (length l ≡ size → ⊥) → wrong (length l) ≡ verdict l
+      unfolding judge _then_
+      length-wrong n = sym (counted ∙ rw (← is, ne-eqb _ _ n))
 
-    pub length-right : length l ≡ sizeOf T A P → (v : Verdict) → v ≡ first 4 (rowWords (wordAt l) T A P) → v ≡ verdict l
-    unfolding judge _then_
-    length-right s v f = f ∙ sym (counted ∙ rw (eq-eqb _ _ s))
+      pub length-right : length l ≡ size → (v : Verdict) → v ≡ first 4 (rowWords (wordAt l) T A P) → v ≡ verdict l
+      unfolding judge _then_
+      length-right s v f = f ∙ sym (counted ∙ rw (← is, eq-eqb _ _ s))
 
 pub ruleset check-ways = (header-wrong, length-wrong, length-right)

@@ -9,6 +9,7 @@ use borrow.Author.Tests.{eqb-true, eqb-false, le-ltb}
 use lib.Dec.{eqb}
 use lib.ListN.{length, getD, length-append, List·getD-append}
 use lib.Seq.{getD-append-add}
+use Rattle.numbers.specs.Limit.{mostTypes, mostAttributes, mostParticles}
 use Rattle.signed.specs.Laws.{ordered}
 use Rattle.table.specs.Words.{typeAt, attributeAt, particleAt, sizeOf, wordAt, typesIn, attributesIn, particlesIn}
 use Rattle.table.specs.First.{Verdict, first, judge, _then_}
@@ -69,9 +70,9 @@ module _ (l : List ℕ) where
   header-given : (i : ℕ) → getD (headerWords l) i true ≡ false → i < length l
   unfolding headerWords
   header-given zero e = given-false 0 1 1 e
-  header-given (suc zero) e = given-false 1 1 256 e
-  header-given (suc (suc zero)) e = given-false 2 0 1024 e
-  header-given (suc (suc (suc zero))) e = given-false 3 0 1024 e
+  header-given (suc zero) e = given-false 1 1 mostTypes e
+  header-given (suc (suc zero)) e = given-false 2 0 mostAttributes e
+  header-given (suc (suc (suc zero))) e = given-false 3 0 mostParticles e
   header-given (suc (suc (suc (suc i)))) e = absurd (true≢false e)
 
   -- what a verdict says

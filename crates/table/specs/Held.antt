@@ -8,6 +8,7 @@ use native.Mathlib.Omega.{arith}
 use borrow.Author.Tests.{le-leb}
 use lib.Dec.{leb}
 use lib.ListN.{length}
+use Rattle.numbers.specs.Limit.{mostTypes, mostAttributes, mostParticles}
 use Rattle.table.specs.Words.{typeAt, attributeAt, particleAt, wordAt, typesIn, attributesIn, particlesIn}
 use Rattle.table.specs.Valid.{given, headerWords, frontWords, rows, typeRow, attributeRow, particleRow, rowWords, verdict, verdictFrom}
 use Rattle.table.specs.Rows.{contentOf, rowAt, rowOf, attributeOf, attributesFrom, firstOf, countOf, attributesOf, tableOf}
@@ -124,9 +125,9 @@ module _ (l l′ : List ℕ) (alike : Alike l l′) where
     header-words-same =
         cc (
           given-same 0 1 1 (omega arith),
-          given-same 1 1 256 (omega arith),
-          given-same 2 0 1024 (omega arith),
-          given-same 3 0 1024 (omega arith),
+          given-same 1 1 mostTypes (omega arith),
+          given-same 2 0 mostAttributes (omega arith),
+          given-same 3 0 mostParticles (omega arith),
         )
 
     mark-same : (t : ℕ) → t < T → leb (w (typeAt t)) 1 ≡ leb (w′ (typeAt t)) 1

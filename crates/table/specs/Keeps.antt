@@ -3,14 +3,15 @@ use Prim.Native.Nat.{ℕ, _+_, _≤_, _<_}
 use mathlib.Core.Path.{_≡_}
 use mathlib.Core.List.{List, [], _∷_}
 use Rattle.signed.specs.Words.{rank}
-use Rattle.table.specs.Valid.{ranged, enumeration}
+use Rattle.numbers.specs.Simple.{ranged, enumeration}
+use Rattle.numbers.specs.Limit.{mostTypes, mostAttributes, mostParticles, mostChildren, mostValues, mostName, mostTimes, unbounded}
 use Rattle.table.specs.Rows.{Row, Content, Attribute, Table}
 use Rattle.table.specs.Rows.Row.{element, sequence, choice, occurs}
 use Rattle.table.specs.Rows.Content.{empty, simple, particles}
 
 -- What a right row keeps to, in a table of T types and P particle rows.
 pub record ElementOk (T name type : ℕ) : Type 0 where
-  pub name-small : name ≤ 65535
+  pub name-small : name ≤ mostName
   pub type-known : type < T
 
 -- consecutive rows over the parent's row p, so many at least
@@ -18,14 +19,14 @@ pub record GroupOk (P p least start count : ℕ) : Type 0 where
   pub over : p < start
   pub within : start + count ≤ P
   pub enough : least ≤ count
-  pub few : count ≤ 64
+  pub few : count ≤ mostChildren
 
 pub record OccursOk (P p child least most : ℕ) : Type 0 where
   pub over : p < child
   pub within : child < P
-  pub least-small : least ≤ 65535
+  pub least-small : least ≤ mostTimes
   pub some : 1 ≤ most
-  pub most-small : most ≤ 65536
+  pub most-small : most ≤ unbounded
   pub ordered : least ≤ most
 
 abbrev pub RowOk : (T P p : ℕ) → Row → Type 0
@@ -37,7 +38,7 @@ RowOk T P p (occurs child least most) = OccursOk P p child least most
 pub record SimpleOk (kind b c : ℕ) : Type 0 where
   pub kind-known : kind ≤ 6
   pub range : kind ≡ ranged → rank b ≤ rank c
-  pub values : kind ≡ enumeration → (1 ≤ b) × (b ≤ 65536)
+  pub values : kind ≡ enumeration → (1 ≤ b) × (b ≤ mostValues)
 
 abbrev pub ContentOk : (P : ℕ) → Content → Type 0
 ContentOk P empty = Unit {0}
@@ -46,7 +47,7 @@ ContentOk P (particles row) = row < P
 
 -- an attribute whose row names a type of the table: one with simple content, which the attribute's value has, and with no attributes
 pub record AttributeOk (T : Table) (type : ℕ) (a : Attribute) : Type 0 where
-  pub name-small : a .name ≤ 65535
+  pub name-small : a .name ≤ mostName
   pub type-known : type < T .types
   pub type-simple : T .content type ≡ simple (a .kind) (a .b) (a .c)
   pub type-bare : T .attributes type ≡ []
@@ -59,6 +60,6 @@ Each Q i (a ∷ l) = Q i a × Each Q (i + 1) l
 
 pub record CountsOk (T A P : ℕ) : Type 0 where
   pub types-some : 1 ≤ T
-  pub types-few : T ≤ 256
-  pub attributes-few : A ≤ 1024
-  pub particles-few : P ≤ 1024
+  pub types-few : T ≤ mostTypes
+  pub attributes-few : A ≤ mostAttributes
+  pub particles-few : P ≤ mostParticles

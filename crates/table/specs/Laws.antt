@@ -13,7 +13,9 @@ use Rattle.table.specs.Words.{typeAt, sizeOf, wordAt, typesIn, attribute
 use Rattle.table.specs.First.{first, judge}
 use Rattle.table.specs.First.Verdict.{right}
 use Rattle.table.specs.FirstLaws.{judge-right, both-right, Every, right-every, every-append}
-use Rattle.table.specs.Valid.{within, given, headerWords, frontWords, rangeWords, enumerationWords, kindWords, simpleWords, particlesWords, contentWords, attributeWords, elementWords, groupWords, occursWords, particleWords, rows, typeRow, attributeRow, particleRow, rowWords, verdict, verdictFrom, Sized, ranged}
+use Rattle.numbers.specs.Simple.{ranged}
+use Rattle.numbers.specs.Limit.{mostTypes, mostAttributes, mostParticles, mostValues, mostTimes, unbounded, mostTableWords}
+use Rattle.table.specs.Valid.{within, given, headerWords, frontWords, rangeWords, enumerationWords, kindWords, simpleWords, particlesWords, contentWords, attributeWords, elementWords, groupWords, occursWords, particleWords, rows, typeRow, attributeRow, particleRow, rowWords, verdict, verdictFrom, Sized}
 use Rattle.table.specs.Lines.{typesVerdict, attributesVerdict, particlesVerdict, rows-in-parts}
 use Rattle.table.specs.Keeps.{ElementOk, GroupOk, OccursOk, RowOk, SimpleOk, ContentOk, AttributeOk, Each, CountsOk}
 use Rattle.table.specs.Rows.Content.{simple}
@@ -40,12 +42,12 @@ group-ok P least p start count z h =
     let within = and-true _ _ (number .0) in
     record { over = ltb-true _ _ (place .0); within = leb-true _ _ (number .1); enough = leb-true _ _ (within .0); few = leb-true _ _ (within .1) }
 
-most-ok : (least most : ℕ) (u v : Bool) → eqb most 65536 ≡ u → least ≤ 65535 → (u || v) ≡ true
-    → (v ≡ true → (1 ≤ most) × (most ≤ 65535) × (least ≤ most)) → (1 ≤ most) × (most ≤ 65536) × (least ≤ most)
-most-ok least most true v e h f g = let m = eqb-true most 65536 e in (omega arith, omega arith, omega arith)
+most-ok : (least most : ℕ) (u v : Bool) → eqb most unbounded ≡ u → least ≤ mostTimes → (u || v) ≡ true
+    → (v ≡ true → (1 ≤ most) × (most ≤ mostTimes) × (least ≤ most)) → (1 ≤ most) × (most ≤ unbounded) × (least ≤ most)
+most-ok least most true v e h f g = let m = eqb-true most unbounded e in (omega arith, omega arith, omega arith)
 most-ok least most false v e h f g = let r = g f in (r .0, omega arith, r .2)
 
-bounded-ok : (least most : ℕ) → (within 1 65535 most && leb least most) ≡ true → (1 ≤ most) × (most ≤ 65535) × (least ≤ most)
+bounded-ok : (least most : ℕ) → (within 1 mostTimes most && leb least most) ≡ true → (1 ≤ most) × (most ≤ mostTimes) × (least ≤ most)
 bounded-ok least most e =
     let b = and-true _ _ e in
     let w = and-true _ _ (b .0) in
@@ -55,7 +57,7 @@ occurs-ok : (P p child least most : ℕ) → Every (occursWords P p child least 
 unfolding occursWords
 occurs-ok P p child least most h =
     let place = and-true _ _ (h .0) in
-    let small = leb-true least 65535 (h .1 .0) in
+    let small = leb-true least mostTimes (h .1 .0) in
     let m = most-ok least most _ _ refl small (h .1 .1 .0) (bounded-ok least most) in
     record {
       over = ltb-true _ _ (place .0);
@@ -78,7 +80,7 @@ range-ok : (b c : ℕ) → Every (rangeWords b c) → rank b ≤ rank c
 unfolding rangeWords
 range-ok b c h = leb-true _ _ (h .1 .0)
 
-values-ok : (b c : ℕ) → Every (enumerationWords b c) → (1 ≤ b) × (b ≤ 65536)
+values-ok : (b c : ℕ) → Every (enumerationWords b c) → (1 ≤ b) × (b ≤ mostValues)
 unfolding enumerationWords
 values-ok b c h = let w = and-true _ _ (h .0) in (leb-true _ _ (w .0), leb-true _ _ (w .1))
 
@@ -218,15 +220,15 @@ module _ (l : List ℕ) (valid : verdict l ≡ right) where
   unfolding headerWords
   counts-ok =
       let h = right-every 0 (headerWords l) (parts .0) in
-      let types = given-ok 1 1 256 (omega arith) (h .1 .0) in
+      let types = given-ok 1 1 mostTypes (omega arith) (h .1 .0) in
       record {
         types-some = types .0;
         types-few = types .1;
-        attributes-few = given-ok 2 0 1024 (omega arith) (h .1 .1 .0) .1;
-        particles-few = given-ok 3 0 1024 (omega arith) (h .1 .1 .1 .0) .1;
+        attributes-few = given-ok 2 0 mostAttributes (omega arith) (h .1 .1 .0) .1;
+        particles-few = given-ok 3 0 mostParticles (omega arith) (h .1 .1 .1 .0) .1;
       }
 
-  pub length-few : length l ≤ 8964
+  pub length-few : length l ≤ mostTableWords
   length-few = omega (arith, sized, counts-ok)
 
   -- the same of what the code answers

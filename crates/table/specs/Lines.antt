@@ -9,7 +9,8 @@ use lib.ListN.{length, length-append}
 use Rattle.table.specs.Words.{typeAt, attributeAt, particleAt}
 use Rattle.table.specs.First.{Verdict, first, _then_}
 use Rattle.table.specs.FirstLaws.{first-append}
-use Rattle.table.specs.Valid.{frontWords, unusedWords, rangeWords, enumerationWords, kindWords, emptyWords, simpleWords, particlesWords, contentWords, attributeWords, elementWords, groupWords, occursWords, particleWords, rows, typeRow, attributeRow, particleRow, rowWords, ranged, enumeration}
+use Rattle.numbers.specs.Simple.{ranged, enumeration}
+use Rattle.table.specs.Valid.{frontWords, unusedWords, rangeWords, enumerationWords, kindWords, emptyWords, simpleWords, particlesWords, contentWords, attributeWords, elementWords, groupWords, occursWords, particleWords, rows, typeRow, attributeRow, particleRow, rowWords}
 
 -- each row has one test for each of its words
 two : (x y : Bool) (b c : ℕ) → length (cond x (rangeWords b c) (cond y (enumerationWords b c) (unusedWords b c))) ≡ 2

@@ -3,6 +3,8 @@ use Prim.Native.Nat.{ℕ, zero, suc, _+_}
 use mathlib.Core.List.{List, [], _∷_}
 use mathlib.Core.Bool.{Bool}
 use lib.Dec.{eqb}
+use Rattle.numbers.specs.Content.{ofContent}
+use Rattle.numbers.specs.Particle.{ofParticle}
 use Rattle.table.specs.Words.{typeAt, attributeAt, particleAt, wordAt, typesIn, attributesIn}
 
 pub data Row : Type 0 where
@@ -32,15 +34,11 @@ pub record Table : Type 0 where
   pub row : ℕ → Row
 
 unfoldable pub contentFrom : (content a b c : ℕ) → Content
-contentFrom zero a b c = empty
-contentFrom (suc zero) a b c = simple a b c
-contentFrom (suc (suc k)) a b c = particles a
+contentFrom content a b c = ofContent record { empty = empty; simple = simple a b c; particles = particles a } content
 
 unfoldable pub rowFrom : (kind x y z : ℕ) → Row
-rowFrom zero x y z = element x y
-rowFrom (suc zero) x y z = sequence x y
-rowFrom (suc (suc zero)) x y z = choice x y
-rowFrom (suc (suc (suc k))) x y z = occurs x y z
+rowFrom kind x y z =
+    ofParticle record { element = element x y; sequence = sequence x y; choice = choice x y; occurs = occurs x y z } kind
 
 module _ (l : List ℕ) where
   abbrev w : ℕ → ℕ

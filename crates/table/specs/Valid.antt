@@ -5,6 +5,10 @@ use mathlib.Core.List.{List, [], _∷_, _++_}
 use mathlib.Core.Bool.{Bool, true, false, cond, _&&_, _||_}
 use lib.Dec.{ltb, leb, eqb}
 use lib.ListN.{length, getD}
+use Rattle.numbers.specs.Content.{simple, particles, ofContent}
+use Rattle.numbers.specs.Particle.{ofParticleOr}
+use Rattle.numbers.specs.Simple.{ranged, enumeration, float}
+use Rattle.numbers.specs.Limit.{mostTypes, mostAttributes, mostParticles, mostChildren, mostValues, mostName, mostTimes, unbounded}
 use Rattle.signed.specs.Words.{rank}
 use Rattle.table.specs.Words.{typeAt, attributeAt, particleAt, sizeOf, wordAt, typesIn, attributesIn, particlesIn}
 use Rattle.table.specs.First.{Verdict, first, judge, _then_}
@@ -12,26 +16,16 @@ use Rattle.table.specs.First.{Verdict, first, judge, _then_}
 abbrev pub within : (least most x : ℕ) → Bool
 within least most x = leb least x && leb x most
 
--- The header words, each where it is given: 1; T types, 1 to 256; A attribute rows and P particle rows, up to 1,024.
+-- The header words, each where it is given: 1; T types, one at least; A attribute rows; P particle rows.
 unfoldable pub given : (l : List ℕ) (i least most : ℕ) → Bool
 given l i least most = cond (ltb i (length l)) (within least most (wordAt l i)) true
 
 unfoldable pub headerWords : List ℕ → List Bool
-headerWords l = given l 0 1 1 ∷ given l 1 1 256 ∷ given l 2 0 1024 ∷ given l 3 0 1024 ∷ []
+headerWords l = given l 0 1 1 ∷ given l 1 1 mostTypes ∷ given l 2 0 mostAttributes ∷ given l 3 0 mostParticles ∷ []
 
 -- A type row: held, content, first attribute row, attribute count (a pair is blamed on its later word); then a, b and c by content.
 unfoldable pub frontWords : (A held content start count : ℕ) → List Bool
-frontWords A held content start count = leb held 1 ∷ leb content 2 ∷ leb start A ∷ leb (start + count) A ∷ []
-
--- of the simple kinds, 0 to 6, two have parameters
-abbrev pub ranged : ℕ
-ranged = 1
-
-abbrev pub enumeration : ℕ
-enumeration = 4
-
-abbrev pub lastKind : ℕ
-lastKind = 6
+frontWords A held content start count = leb held 1 ∷ leb content particles ∷ leb start A ∷ leb (start + count) A ∷ []
 
 unfoldable pub unusedWords : (b c : ℕ) → List Bool
 unusedWords b c = eqb b 0 ∷ eqb c 0 ∷ []
@@ -41,8 +35,9 @@ unfoldable pub rangeWords : (b c : ℕ) → List Bool
 rangeWords b c = true ∷ leb (rank b) (rank c) ∷ []
 
 unfoldable pub enumerationWords : (b c : ℕ) → List Bool
-enumerationWords b c = within 1 65536 b ∷ eqb c 0 ∷ []
+enumerationWords b c = within 1 mostValues b ∷ eqb c 0 ∷ []
 
+-- of the simple kinds two have parameters
 unfoldable pub kindWords : (kind b c : ℕ) → List Bool
 kindWords kind b c =
     cond (eqb kind ranged) (rangeWords b c) (cond (eqb kind enumeration) (enumerationWords b c) (unusedWords b c))
@@ -51,47 +46,46 @@ unfoldable pub emptyWords : (a b c : ℕ) → List Bool
 emptyWords a b c = eqb a 0 ∷ unusedWords b c
 
 unfoldable pub simpleWords : (kind b c : ℕ) → List Bool
-simpleWords kind b c = leb kind lastKind ∷ kindWords kind b c
+simpleWords kind b c = leb kind float ∷ kindWords kind b c
 
 unfoldable pub particlesWords : (P a b c : ℕ) → List Bool
 particlesWords P a b c = ltb a P ∷ unusedWords b c
 
--- content 0 is empty, 1 simple, 2 particles
 unfoldable pub contentWords : (P content a b c : ℕ) → List Bool
-contentWords P zero a b c = emptyWords a b c
-contentWords P (suc zero) a b c = simpleWords a b c
-contentWords P (suc (suc k)) a b c = particlesWords P a b c
+contentWords P content a b c =
+    ofContent record { empty = emptyWords a b c; simple = simpleWords a b c; particles = particlesWords P a b c } content
 
 -- An attribute row: name, required, and a type with simple content and no attributes.
 unfoldable pub attributeWords : (T name must type content count : ℕ) → List Bool
 attributeWords T name must type content count =
-    leb name 65535 ∷ leb must 1 ∷ (ltb type T && (eqb content 1 && eqb count 0)) ∷ []
+    leb name mostName ∷ leb must 1 ∷ (ltb type T && (eqb content simple && eqb count 0)) ∷ []
 
 -- Of a particle row the three words after the kind. A child is over its parent's row p and below P.
 abbrev pub child : (P p x : ℕ) → Bool
 child P p x = ltb p x && ltb x P
 
 unfoldable pub elementWords : (T name type z : ℕ) → List Bool
-elementWords T name type z = leb name 65535 ∷ ltb type T ∷ eqb z 0 ∷ []
+elementWords T name type z = leb name mostName ∷ ltb type T ∷ eqb z 0 ∷ []
 
 -- a sequence or a choice: children are consecutive rows, so many at least
 unfoldable pub groupWords : (P least p start number z : ℕ) → List Bool
-groupWords P least p start number z = child P p start ∷ (within least 64 number && leb (start + number) P) ∷ eqb z 0 ∷ []
-
-abbrev pub unbounded : ℕ
-unbounded = 65536
+groupWords P least p start number z = child P p start ∷ (within least mostChildren number && leb (start + number) P) ∷ eqb z 0 ∷ []
 
 unfoldable pub occursWords : (P p x least most : ℕ) → List Bool
 occursWords P p x least most =
-    child P p x ∷ leb least 65535 ∷ (eqb most unbounded || (within 1 65535 most && leb least most)) ∷ []
+    child P p x ∷ leb least mostTimes ∷ (eqb most unbounded || (within 1 mostTimes most && leb least most)) ∷ []
 
--- kind 0 is an element, 1 a sequence, 2 a choice, 3 occurs
+-- a sequence has a child at least, a choice two
 unfoldable pub particleWords : (T P p kind x y z : ℕ) → List Bool
-particleWords T P p zero x y z = true ∷ elementWords T x y z
-particleWords T P p (suc zero) x y z = true ∷ groupWords P 1 p x y z
-particleWords T P p (suc (suc zero)) x y z = true ∷ groupWords P 2 p x y z
-particleWords T P p (suc (suc (suc zero))) x y z = true ∷ occursWords P p x y z
-particleWords T P p (suc (suc (suc (suc k)))) x y z = false ∷ false ∷ false ∷ false ∷ []
+particleWords T P p kind x y z =
+    ofParticleOr (false ∷ false ∷ false ∷ false ∷ [])
+    record {
+      element = true ∷ elementWords T x y z;
+      sequence = true ∷ groupWords P 1 p x y z;
+      choice = true ∷ groupWords P 2 p x y z;
+      occurs = true ∷ occursWords P p x y z;
+    }
+    kind
 
 -- the tests of n rows, from row i on
 unfoldable pub rows : (f : ℕ → List Bool) (i n : ℕ) → List Bool

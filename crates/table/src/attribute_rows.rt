@@ -1,6 +1,10 @@
 // The attribute rows, of three words each: name, required, type.
 use crate::answers::Verdict;
+use crate::places::attribute_at;
+use crate::places::type_at;
 use crate::runs::four_from;
+use numbers::content;
+use numbers::limit;
 ghost use mathlib.Core.Path.{_≡_};
 ghost use Rattle.table.specs.First.{first};
 ghost use Rattle.table.specs.Valid.{attributeWords, attributeRow, rows};
@@ -11,7 +15,7 @@ ghost use Rattle.table.specs.Words.{attributeAt, wordAt};
 fn words(types: u32, name: u32, must: u32, t: u32, content: u32, count: u32) -> Verdict
     ensures { λ r. ⌜ verdictIs r ≡ first 0 (attributeWords types name must t content count) ⌝ }
 {
-    if 65535 < name {
+    if limit::MOST_NAME < name {
         return Verdict::Wrong(0);
     }
     if 1 < must {
@@ -20,7 +24,7 @@ fn words(types: u32, name: u32, must: u32, t: u32, content: u32, count: u32) -> 
     if types <= t {
         return Verdict::Wrong(2);
     }
-    if content != 1 {
+    if content != content::SIMPLE {
         return Verdict::Wrong(2);
     }
     if count != 0 {
@@ -33,14 +37,17 @@ fn words(types: u32, name: u32, must: u32, t: u32, content: u32, count: u32) -> 
 fn row(table: &[u32], types: u32, a: u32) -> Verdict
     ensures { λ r. ⌜ verdictIs r ≡ first (attributeAt types a) (attributeRow (wordAt (now (table .entry))) types a) ⌝ }
 {
-    let base = 4 + 7 * (types as usize) + 3 * (a as usize);
+    let base = attribute_at(types, a);
     let w = four_from(table, base);
     let t = w.c;
-    let simple = 4 + 7 * (t as usize);
+    let simple = type_at(t);
     let v = four_from(table, simple);
     match words(types, w.a, w.b, t, v.b, v.d) {
         Verdict::Right => Verdict::Right,
-        Verdict::Wrong(k) => Verdict::Wrong(base + k),
+        Verdict::Wrong(k) => {
+            let place = base + k;
+            Verdict::Wrong(place)
+        }
     }
 }
 

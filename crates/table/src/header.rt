@@ -1,9 +1,17 @@
 // The four header words, as far as they are given.
 use crate::answers::Verdict;
+use numbers::limit;
 ghost use mathlib.Core.Path.{_≡_};
 ghost use Rattle.table.specs.First.{first, judge};
 ghost use Rattle.table.specs.Valid.{given, headerWords};
 ghost use Rattle.table.specs.Views.{verdictIs};
+
+// The places of the numbers of types, of attribute rows and of particle rows; the first word is 1.
+pub const TYPES: usize = 1;
+
+pub const ATTRIBUTES: usize = 2;
+
+pub const PARTICLES: usize = 3;
 
 // Word i, where it is given, is least to most.
 fn within(table: &[u32], i: usize, least: u32, most: u32) -> Verdict
@@ -30,13 +38,13 @@ pub fn given(table: &[u32]) -> Verdict
     let Verdict::Right = one else {
         return one;
     };
-    let types = within(table, 1, 1, 256);
+    let types = within(table, TYPES, 1, limit::MOST_TYPES);
     let Verdict::Right = types else {
         return types;
     };
-    let attributes = within(table, 2, 0, 1024);
+    let attributes = within(table, ATTRIBUTES, 0, limit::MOST_ATTRIBUTES);
     let Verdict::Right = attributes else {
         return attributes;
     };
-    within(table, 3, 0, 1024)
+    within(table, PARTICLES, 0, limit::MOST_PARTICLES)
 }

@@ -3,6 +3,7 @@ mod answers;
 mod attribute_rows;
 mod header;
 mod particle_rows;
+mod places;
 pub mod rows;
 mod runs;
 mod type_rows;
@@ -12,6 +13,7 @@ pub use answers::Content;
 pub use answers::Particle;
 pub use answers::Span;
 pub use answers::Verdict;
+use places::particle_at;
 use rows::word;
 ghost use mathlib.Core.Path.{_≡_};
 ghost use Rattle.table.specs.First.{first};
@@ -42,10 +44,10 @@ pub fn check(table: &[u32]) -> Verdict
     let Verdict::Right = h else {
         return h;
     };
-    let types = word(table, 1);
-    let attributes = word(table, 2);
-    let particles = word(table, 3);
-    let size = 4 + 7 * (types as usize) + 3 * (attributes as usize) + 4 * (particles as usize);
+    let types = word(table, header::TYPES);
+    let attributes = word(table, header::ATTRIBUTES);
+    let particles = word(table, header::PARTICLES);
+    let size = particle_at(types, attributes, particles);
     let n = table.len();
     if n != size {
         return Verdict::Wrong(n);

@@ -1,6 +1,9 @@
 // The particle rows, of four words each: a kind, and three words by that kind. Row p is told where a child has to lie over it.
 use crate::answers::Verdict;
+use crate::places::particle_at;
 use crate::runs::four_from;
+use numbers::limit;
+use numbers::particle;
 ghost use mathlib.Core.Path.{_≡_};
 ghost use Rattle.table.specs.First.{first};
 ghost use Rattle.table.specs.Valid.{elementWords, groupWords, occursWords, particleWords, particleRow, rows};
@@ -11,7 +14,7 @@ ghost use Rattle.table.specs.Words.{particleAt, wordAt};
 fn element(types: u32, name: u32, t: u32, last: u32) -> Verdict
     ensures { λ r. ⌜ verdictIs r ≡ first 1 (elementWords types name t last) ⌝ }
 {
-    if 65535 < name {
+    if limit::MOST_NAME < name {
         return Verdict::Wrong(1);
     }
     if types <= t {
@@ -36,7 +39,7 @@ fn group(particles: u32, least: u32, p: u32, start: u32, number: u32, last: u32)
     if number < least {
         return Verdict::Wrong(2);
     }
-    if 64 < number {
+    if limit::MOST_CHILDREN < number {
         return Verdict::Wrong(2);
     }
     if particles - start < number {
@@ -58,16 +61,16 @@ fn occurs(particles: u32, p: u32, child: u32, least: u32, most: u32) -> Verdict
     if particles <= child {
         return Verdict::Wrong(1);
     }
-    if 65535 < least {
+    if limit::MOST_TIMES < least {
         return Verdict::Wrong(2);
     }
-    if most == 65536 {
+    if most == limit::UNBOUNDED {
         return Verdict::Right;
     }
     if most == 0 {
         return Verdict::Wrong(3);
     }
-    if 65535 < most {
+    if limit::MOST_TIMES < most {
         return Verdict::Wrong(3);
     }
     if most < least {
@@ -80,16 +83,16 @@ fn occurs(particles: u32, p: u32, child: u32, least: u32, most: u32) -> Verdict
 fn by_kind(types: u32, particles: u32, p: u32, kind: u32, x: u32, y: u32, z: u32) -> Verdict
     ensures { λ r. ⌜ verdictIs r ≡ first 0 (particleWords types particles p kind x y z) ⌝ }
 {
-    if kind == 0 {
+    if kind == particle::ELEMENT {
         return element(types, x, y, z);
     }
-    if kind == 1 {
+    if kind == particle::SEQUENCE {
         return group(particles, 1, p, x, y, z);
     }
-    if kind == 2 {
+    if kind == particle::CHOICE {
         return group(particles, 2, p, x, y, z);
     }
-    if kind == 3 {
+    if kind == particle::OCCURS {
         return occurs(particles, p, x, y, z);
     }
     Verdict::Wrong(0)
@@ -99,11 +102,14 @@ fn by_kind(types: u32, particles: u32, p: u32, kind: u32, x: u32, y: u32, z: u32
 fn row(table: &[u32], types: u32, attributes: u32, particles: u32, p: u32) -> Verdict
     ensures { λ r. ⌜ verdictIs r ≡ first (particleAt types attributes p) (particleRow (wordAt (now (table .entry))) types attributes particles p) ⌝ }
 {
-    let base = 4 + 7 * (types as usize) + 3 * (attributes as usize) + 4 * (p as usize);
+    let base = particle_at(types, attributes, p);
     let w = four_from(table, base);
     match by_kind(types, particles, p, w.a, w.b, w.c, w.d) {
         Verdict::Right => Verdict::Right,
-        Verdict::Wrong(k) => Verdict::Wrong(base + k),
+        Verdict::Wrong(k) => {
+            let place = base + k;
+            Verdict::Wrong(place)
+        }
     }
 }
 

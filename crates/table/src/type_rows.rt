@@ -1,6 +1,10 @@
 // The type rows, of seven words each. The place of a word at fault counts from its row's first word until `row` adds that word's own.
 use crate::answers::Verdict;
+use crate::places::type_at;
 use crate::runs::seven_from;
+use numbers::content;
+use numbers::limit;
+use numbers::simple;
 use signed::Gap;
 use signed::gap;
 ghost use mathlib.Core.Path.{_≡_};
@@ -16,7 +20,7 @@ fn front(attributes: u32, held: u32, content: u32, start: u32, count: u32) -> Ve
     if 1 < held {
         return Verdict::Wrong(0);
     }
-    if 2 < content {
+    if content::PARTICLES < content {
         return Verdict::Wrong(1);
     }
     if attributes < start {
@@ -68,7 +72,7 @@ fn values(b: u32, c: u32) -> Verdict
     if b == 0 {
         return Verdict::Wrong(5);
     }
-    if 65536 < b {
+    if limit::MOST_VALUES < b {
         return Verdict::Wrong(5);
     }
     if c != 0 {
@@ -81,13 +85,13 @@ fn values(b: u32, c: u32) -> Verdict
 fn simple(a: u32, b: u32, c: u32) -> Verdict
     ensures { λ r. ⌜ verdictIs r ≡ first 4 (simpleWords a b c) ⌝ }
 {
-    if 6 < a {
+    if simple::FLOAT < a {
         return Verdict::Wrong(4);
     }
-    if a == 1 {
+    if a == simple::RANGED {
         return ends(b, c);
     }
-    if a == 4 {
+    if a == simple::ENUMERATION {
         return values(b, c);
     }
     unused(b, c)
@@ -107,10 +111,10 @@ fn particle(particles: u32, a: u32, b: u32, c: u32) -> Verdict
 fn by_content(particles: u32, content: u32, a: u32, b: u32, c: u32) -> Verdict
     ensures { λ r. ⌜ verdictIs r ≡ first 4 (contentWords particles content a b c) ⌝ }
 {
-    if content == 0 {
+    if content == content::EMPTY {
         return empty(a, b, c);
     }
-    if content == 1 {
+    if content == content::SIMPLE {
         return simple(a, b, c);
     }
     particle(particles, a, b, c)
@@ -120,15 +124,19 @@ fn by_content(particles: u32, content: u32, a: u32, b: u32, c: u32) -> Verdict
 fn row(table: &[u32], attributes: u32, particles: u32, t: u32) -> Verdict
     ensures { λ r. ⌜ verdictIs r ≡ first (typeAt t) (typeRow (wordAt (now (table .entry))) attributes particles t) ⌝ }
 {
-    let base = 4 + 7 * (t as usize);
+    let base = type_at(t);
     let w = seven_from(table, base);
     let h = front(attributes, w.a, w.b, w.c, w.d);
     if let Verdict::Wrong(k) = h {
-        return Verdict::Wrong(base + k);
+        let place = base + k;
+        return Verdict::Wrong(place);
     }
     match by_content(particles, w.b, w.e, w.f, w.g) {
         Verdict::Right => Verdict::Right,
-        Verdict::Wrong(k) => Verdict::Wrong(base + k),
+        Verdict::Wrong(k) => {
+            let place = base + k;
+            Verdict::Wrong(place)
+        }
     }
 }
 

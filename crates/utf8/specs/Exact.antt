@@ -1,4 +1,4 @@
--- `textFault` is 0 exactly for the texts of RFC 3629, and 16 for all else.
+-- `textFault` is 0 exactly for the texts of RFC 3629, and `notUtf8` for all else.
 use Prim.Native.Nat.{ℕ}
 use mathlib.Core.Bool.{Bool, true, false}
 use mathlib.Core.Logic.{_⊎_, inl, inr, ⊎-elim}
@@ -6,6 +6,7 @@ use mathlib.Core.Path.{_≡_, refl, sym, ap, subst, _∙_}
 use mathlib.Core.List.{List, [], _∷_, _++_}
 use mathlib.Core.Option.{Option, none, some}
 use native.Mathlib.Omega.{arith}
+use Rattle.numbers.specs.Refusal.{notUtf8}
 use Rattle.utf8.specs.Rfc.{In, Char, utf8-1, utf8-2, utf8-3-E0, utf8-3-E1-EC, utf8-3-ED, utf8-3-EE-EF, utf8-4-F0, utf8-4-F1-F3, utf8-4-F4, Octets, empty, more}
 use Rattle.utf8.specs.Text.{Range, _to_, lines, begun, open-lines, goesOn, faultOf, textFault}
 use Rattle.utf8.specs.Steps.{_leads_, rows}
@@ -91,12 +92,12 @@ unfolding goesOn
 octets-go empty = refl
 octets-go (more {l = l} c o) = char-goes l c ∙ octets-go o
 
--- no fault, exactly for the texts of the RFC; else 16
+-- no fault, exactly for the texts of the RFC; else `notUtf8`
 pub fault-none : {l : List ℕ} → Octets l → textFault l ≡ 0
 unfolding textFault faultOf
 fault-none o = ap faultOf (octets-go o)
 
-fault-of : (b : Bool) → (b ≡ true) ⊎ (faultOf b ≡ 16)
+fault-of : (b : Bool) → (b ≡ true) ⊎ (faultOf b ≡ notUtf8)
 unfolding faultOf
 fault-of true = inl refl
 fault-of false = inr refl
@@ -105,9 +106,9 @@ pub none-fault : (l : List ℕ) → textFault l ≡ 0 → Octets l
 unfolding textFault
 none-fault l e = ⊎-elim (λ g. text-of (split [] l g)) (λ g. absurd (omega arith)) (fault-of (goesOn [] l))
 
-pub fault-is : (l : List ℕ) → (textFault l ≡ 0) ⊎ (textFault l ≡ 16)
+pub fault-is : (l : List ℕ) → (textFault l ≡ 0) ⊎ (textFault l ≡ notUtf8)
 unfolding textFault faultOf
 fault-is l = ⊎-elim (λ g. inl (ap faultOf g)) inr (fault-of (goesOn [] l))
 
-pub fault-else : (l : List ℕ) → (Octets l → ⊥) → textFault l ≡ 16
+pub fault-else : (l : List ℕ) → (Octets l → ⊥) → textFault l ≡ notUtf8
 fault-else l h = ⊎-elim (λ e. absurd (h (none-fault l e))) (λ e. e) (fault-is l)

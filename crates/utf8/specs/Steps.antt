@@ -2,6 +2,7 @@
 use Prim.Native.Nat.{ℕ}
 use mathlib.Core.Bool.{true, false}
 use mathlib.Core.List.{List, [], _∷_}
+use Rattle.numbers.specs.Refusal.{notUtf8}
 use Rattle.utf8.specs.Text.{Range, _to_, has, tail}
 use Rattle.utf8.specs.declared.State.{State}
 use Rattle.utf8.specs.declared.State.the-variants.{Start, OneLeft, TwoLeft, ThreeLeft, AfterE0, AfterED, AfterF0, AfterF4, Wrong}
@@ -52,11 +53,11 @@ run s (x ∷ l) = run (next s x) l
 -- what is wrong with a text that ends here
 abbrev pub numberOf : State → ℕ
 numberOf Start = 0
-numberOf OneLeft = 16
-numberOf TwoLeft = 16
-numberOf ThreeLeft = 16
-numberOf AfterE0 = 16
-numberOf AfterED = 16
-numberOf AfterF0 = 16
-numberOf AfterF4 = 16
-numberOf Wrong = 16
+numberOf OneLeft = notUtf8
+numberOf TwoLeft = notUtf8
+numberOf ThreeLeft = notUtf8
+numberOf AfterE0 = notUtf8
+numberOf AfterED = notUtf8
+numberOf AfterF0 = notUtf8
+numberOf AfterF4 = notUtf8
+numberOf Wrong = notUtf8

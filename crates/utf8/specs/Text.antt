@@ -4,6 +4,7 @@ use mathlib.Core.Bool.{Bool, true, false}
 use mathlib.Core.List.{List, [], _∷_}
 use mathlib.Core.Option.{Option, none, some}
 use lib.Dec.{leb}
+use Rattle.numbers.specs.Refusal.{notUtf8}
 
 infix 80 _to_
 -- %xLO-HI
@@ -50,7 +51,7 @@ goesOn wanted (x ∷ l) = elim (begun (open-lines wanted) x) [ some rest ↦ goe
 -- the number, by whether it is a text
 unfoldable pub faultOf : Bool → ℕ
 faultOf true = 0
-faultOf false = 16
+faultOf false = notUtf8
 
 unfoldable pub textFault : List ℕ → ℕ
 textFault l = faultOf (goesOn [] l)

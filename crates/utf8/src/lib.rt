@@ -1,7 +1,8 @@
-// What is wrong with a text, as a number: 0, or 16 where it is not UTF-8 (RFC 3629).
+// What is wrong with a text, as a number: ACCEPTED, or NOT_UTF8 (RFC 3629).
 mod ascii; // ascii.rt: octets that are ASCII, passed 16 at a time
 pub mod slanted; // slanted.rt: a text whose octets begin at any bit of a byte
 
+use numbers::refusal;
 use slanted::text_fault;
 ghost use mathlib.Core.Path.{_≡_};
 ghost use mathlib.Core.List.{[], _∷_};
@@ -77,15 +78,15 @@ pub fn fault(state: State) -> u32
     ensures { λ r. ⌜ r ≡ numberOf state ⌝ }
 {
     match state {
-        State::Start => 0,
-        State::OneLeft => 16,
-        State::TwoLeft => 16,
-        State::ThreeLeft => 16,
-        State::AfterE0 => 16,
-        State::AfterED => 16,
-        State::AfterF0 => 16,
-        State::AfterF4 => 16,
-        State::Wrong => 16,
+        State::Start => refusal::ACCEPTED,
+        State::OneLeft => refusal::NOT_UTF8,
+        State::TwoLeft => refusal::NOT_UTF8,
+        State::ThreeLeft => refusal::NOT_UTF8,
+        State::AfterE0 => refusal::NOT_UTF8,
+        State::AfterED => refusal::NOT_UTF8,
+        State::AfterF0 => refusal::NOT_UTF8,
+        State::AfterF4 => refusal::NOT_UTF8,
+        State::Wrong => refusal::NOT_UTF8,
     }
 }
 

@@ -5,6 +5,7 @@ use mathlib.Core.Bool.{Bool, true, false, cond}
 use mathlib.Core.List.{List, [], _∷_, _++_}
 use lib.Dec.{leb, ltb}
 use lib.ListN.{length}
+use Rattle.numbers.specs.Refusal.{tooLarge, noSuchCode, minusZero, outsideRow}
 use Rattle.wire.specs.Res.{Res, got, fault, _>>=_, _>>_, guard, atMost}
 use Rattle.wire.specs.Bits.{fixedAt, digits}
 use Rattle.wire.specs.Width.{width}
@@ -47,34 +48,34 @@ bitsOf (some c) zero = choiceBits 2 0
 bitsOf (some c) (suc k) = choiceBits 2 1 ++ bitsOf c (suc k)
 bitsOf (shifted lo c) v = bitsOf c (less lo v)
 
--- the reading: a fixed width that names nothing is 14, a vluimsbf5 over its limit is 13
+-- the reading: a fixed width may name nothing, a vluimsbf5 be over its limit
 unfoldable pub choiceAt : (ℕ → ℕ) → ℕ → ℕ → ℕ → Res (ℕ × ℕ)
 choiceAt b n wall at = do
   (v, p) ← fixedAt b wall at (width n)
-  atMost (v + 1) n 14
+  atMost (v + 1) n noSuchCode
   got (v, p)
 
 unfoldable pub numberAt : (ℕ → ℕ) → ℕ → ℕ → ℕ → Res (ℕ × ℕ)
 numberAt b most wall at = do
   (v, p) ← read5 b wall at
-  atMost v most 13
+  atMost v most tooLarge
   got (v, p)
 
--- after the sign: 13, then 15; after the bit that says whether there are some: none of them is 14
+-- after the sign, the limit before minus zero; after the bit that says whether there are some, none of them names nothing
 unfoldable pub signedOf : ℕ → ℕ → ℕ → Res (ℕ × ℕ)
 signedOf zero m p = do
-  atMost (m + 1) (2 ^ 31) 13
+  atMost (m + 1) (2 ^ 31) tooLarge
   got (wordOf 0 m, p)
 signedOf (suc k) m p = do
-  atMost m (2 ^ 31) 13
-  atMost 1 m 15
+  atMost m (2 ^ 31) tooLarge
+  atMost 1 m minusZero
   got (wordOf 1 m, p)
 
 unfoldable pub someOf : (ℕ → Res (ℕ × ℕ)) → ℕ → ℕ → Res (ℕ × ℕ)
 someOf rd zero p = got (0, p)
 someOf rd (suc k) p = do
   (v, q) ← rd p
-  atMost 1 v 14
+  atMost 1 v noSuchCode
   got (v, q)
 
 unfoldable pub codeAt : Code → (ℕ → ℕ) → ℕ → ℕ → Res (ℕ × ℕ)
@@ -89,10 +90,10 @@ codeAt (some c) b wall at = do
   someOf (codeAt c b wall) f p
 codeAt (shifted lo c) b wall at = do
   (k, p) ← codeAt c b wall at
-  atMost (k + 1) (2 ^ 32) 13
+  atMost (k + 1) (2 ^ 32) tooLarge
   got (up lo k, p)
 
--- the writer's test, and the code or 20
+-- the writer's test, and the code where it holds
 unfoldable pub fits : Code → ℕ → Bool
 fits (choice n) v = ltb v n
 fits (five most) v = leb v (min most (2 ^ 32 - 1))
@@ -102,8 +103,8 @@ fits (some c) (suc k) = fits c (suc k)
 fits (shifted lo c) v = cond (ltb v (2 ^ 32)) (fits c (less lo v)) false
 
 unfoldable pub codeOut : Code → ℕ → Res (List ℕ)
-codeOut c v = guard (fits c v) 20 >> got (bitsOf c v)
+codeOut c v = guard (fits c v) outsideRow >> got (bitsOf c v)
 
 -- how many bits that is
 unfoldable pub sizeOut : Code → ℕ → Res ℕ
-sizeOut c v = guard (fits c v) 20 >> got (length (bitsOf c v))
+sizeOut c v = guard (fits c v) outsideRow >> got (length (bitsOf c v))

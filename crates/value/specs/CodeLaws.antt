@@ -8,6 +8,7 @@ use native.Mathlib.Omega.{arith}
 use native.Mathlib.Decide.{decLt}
 use borrow.Author.Tests.{le-leb, leb-true, lt-ltb, le-ltb, ltb-true}
 use lib.ListN.{length-append}
+use Rattle.numbers.specs.Refusal.{tooLarge, noSuchCode, minusZero}
 use Rattle.wire.specs.Res.{Res, got, Ensures, gives, bind, under, then, under-then}
 use Rattle.wire.specs.BitLaws.{At, at-both, at-left, at-right}
 use Rattle.wire.specs.Width.{width, width-holds}
@@ -25,21 +26,21 @@ module _ (b : ℕ → ℕ) (bit : Binary b) where
   choice-found : (n wall at : ℕ) → Ensures (choiceAt b n wall at) (λ r. Stands b (r .0 < n) (choiceBits n (r .0)) wall at (r .1))
   unfolding choiceAt
   choice-found n wall at =
-      bind (fixed-lawful (width n) .found b bit wall at) λ r f. under 14 λ h. gives (record { fits = omega arith; stands = f .stands; within = f .within })
+      bind (fixed-lawful (width n) .found b bit wall at) λ r f. under noSuchCode λ h. gives (record { fits = omega arith; stands = f .stands; within = f .within })
 
   number-found : (most wall at : ℕ) → Ensures (numberAt b most wall at) (λ r. Stands b (r .0 ≤ min most (2 ^ 32 - 1)) (code5 (r .0)) wall at (r .1))
   unfolding numberAt
   number-found most wall at =
-      bind (five-lawful .found b bit wall at) λ r f. under 13 λ h. gives (record { fits = omega (arith, f .fits); stands = f .stands; within = f .within })
+      bind (five-lawful .found b bit wall at) λ r f. under tooLarge λ h. gives (record { fits = omega (arith, f .fits); stands = f .stands; within = f .within })
 
   signed-found : (wall at s m p q : ℕ) → Stands b (s < 2) (choiceBits 2 s) wall at p → Stands b (m < 2 ^ 32) (code5 m) wall p q → Ensures (signedOf s m q) (λ r. Coded b signed wall at (r .0) (r .1))
   unfolding signedOf bitsOf Fits
-  signed-found wall at zero m p q f g = under 13 λ h. gives (record {
+  signed-found wall at zero m p q f g = under tooLarge λ h. gives (record {
     fits = rw (word-plus m) (omega arith);
     stands = rw (sign-of-plus m (omega arith), magnitude-of-plus m (omega arith)) (at-both (f .stands) (g .stands));
     within = g .within;
   })
-  signed-found wall at (suc zero) m p q f g = under 13 λ h. under 15 λ k. gives (record {
+  signed-found wall at (suc zero) m p q f g = under tooLarge λ h. under minusZero λ k. gives (record {
     fits = rw (word-minus m) (omega arith);
     stands = rw (sign-of-minus m k h, magnitude-of-minus m k h) (at-both (f .stands) (g .stands));
     within = g .within;
@@ -50,7 +51,7 @@ module _ (b : ℕ → ℕ) (bit : Binary b) where
       → Ensures (someOf rd s p) (λ r. Coded b (some c) wall at (r .0) (r .1))
   unfolding someOf bitsOf Fits
   some-found c rd wall at zero p ih f = gives (record { fits = tt; stands = f .stands; within = f .within })
-  some-found c rd wall at (suc zero) p ih f = bind (ih p) λ r g. under 14 λ h. positive (r .0) (r .1) h g
+  some-found c rd wall at (suc zero) p ih f = bind (ih p) λ r g. under noSuchCode λ h. positive (r .0) (r .1) h g
     where
       positive : (v q : ℕ) → 1 ≤ v → Coded b c wall p v q → Ensures {A = ℕ × ℕ} (got (v, q)) (λ r. Coded b (some c) wall at (r .0) (r .1))
       positive zero q h g = absurd (omega arith)
@@ -65,7 +66,7 @@ module _ (b : ℕ → ℕ) (bit : Binary b) where
       bind (choice-found 2 wall at) λ r f.
       bind (five-lawful .found b bit wall (r .1)) λ s g. signed-found wall at (r .0) (s .0) (r .1) (s .1) f g
   code-found (some c) wall at = bind (choice-found 2 wall at) λ r f. some-found c (codeAt c b wall) wall at (r .0) (r .1) (code-found c wall) f
-  code-found (shifted lo c) wall at = bind (code-found c wall at) λ r f. under 13 λ h.
+  code-found (shifted lo c) wall at = bind (code-found c wall at) λ r f. under tooLarge λ h.
       let e : less lo (up lo (r .0)) ≡ r .0 = omega arith in
       gives (record { fits = (omega arith, rw e (f .fits)); stands = rw e (f .stands); within = f .within })
 
@@ -77,18 +78,18 @@ module _ (b : ℕ → ℕ) where
   choice-reads : (n wall at v p : ℕ) → v < n → At b at (choiceBits n v) p → p ≤ wall → choiceAt b n wall at ≡ got (v, p)
   unfolding choiceAt
   choice-reads n wall at v p h f k =
-      then _ (fixed-lawful (width n) .reads b wall at v p (omega (arith, width-holds n)) f k) (under-then 14 (omega arith) refl)
+      then _ (fixed-lawful (width n) .reads b wall at v p (omega (arith, width-holds n)) f k) (under-then noSuchCode (omega arith) refl)
 
   number-reads : (most wall at v p : ℕ) → v ≤ min most (2 ^ 32 - 1) → At b at (code5 v) p → p ≤ wall → numberAt b most wall at ≡ got (v, p)
   unfolding numberAt
-  number-reads most wall at v p h f k = then _ (five-lawful .reads b wall at v p (omega arith) f k) (under-then 13 (omega arith) refl)
+  number-reads most wall at v p h f k = then _ (five-lawful .reads b wall at v p (omega arith) f k) (under-then tooLarge (omega arith) refl)
 
   signed-reads : (v q : ℕ) → v < 2 ^ 32 → signedOf (signOf v) (magnitudeOf v) q ≡ got (v, q)
   unfolding signedOf
   signed-reads v q h =
       let w = word-of-parts v h in
-      ⊎-elim (λ x. rw (x .0) (under-then 13 (omega (arith, x .1)) (ap (λ (n : ℕ). got (n, q)) (rw (x .0) at w))))
-      (λ x. rw (x .0) (under-then 13 (x .2) (under-then 15 (x .1) (ap (λ (n : ℕ). got (n, q)) (rw (x .0) at w)))))
+      ⊎-elim (λ x. rw (x .0) (under-then tooLarge (omega (arith, x .1)) (ap (λ (n : ℕ). got (n, q)) (rw (x .0) at w))))
+      (λ x. rw (x .0) (under-then tooLarge (x .2) (under-then minusZero (x .1) (ap (λ (n : ℕ). got (n, q)) (rw (x .0) at w)))))
       (parts-within v h)
 
   code-reads : (c : Code) (wall at v p : ℕ) → Fits c v → At b at (bitsOf c v) p → p ≤ wall → codeAt c b wall at ≡ got (v, p)
@@ -108,10 +109,10 @@ module _ (b : ℕ → ℕ) where
       let n = length-append (choiceBits 2 1) (bitsOf c (suc v)) in
       let e = f .next in
       then _ (choice-reads 2 wall at 1 _ (omega arith) (at-left (choiceBits 2 1) (bitsOf c (suc v)) f) (omega arith))
-      (then _ (code-reads c wall _ (suc v) p h (at-right (choiceBits 2 1) (bitsOf c (suc v)) f) k) (under-then 14 (omega arith) refl))
+      (then _ (code-reads c wall _ (suc v) p h (at-right (choiceBits 2 1) (bitsOf c (suc v)) f) k) (under-then noSuchCode (omega arith) refl))
   code-reads (shifted lo c) wall at v p h f k =
       let e : up lo (less lo v) ≡ v = omega (arith, h .0) in
-      then _ (code-reads c wall at (less lo v) p (h .1) f k) (under-then 13 (omega arith) (rw e))
+      then _ (code-reads c wall at (less lo v) p (h .1) f k) (under-then tooLarge (omega arith) (rw e))
 
 -- no bit at the wall or past it is looked at
 module _ (b c : ℕ → ℕ) (wall : ℕ) (s : (i : ℕ) → i < wall → b i ≡ c i) where

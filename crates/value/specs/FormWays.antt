@@ -5,6 +5,8 @@ use mathlib.Core.Bool.{false}
 use lib.Dec.{ltb}
 use native.Mathlib.Omega.{arith}
 use borrow.Author.Tests.{le-leb, lt-leb, lt-ltb, le-ltb, eq-eqb, ne-eqb}
+use Rattle.numbers.specs.Simple as simple
+use Rattle.numbers.specs.Limit.{mostFixed, mostTimes, mostWord, unbounded}
 use Rattle.signed.specs.Words.{Gap, gapOf}
 use Rattle.signed.specs.Views.{gapIs}
 use Rattle.signed.specs.Laws.{met-by, met-under}
@@ -24,21 +26,21 @@ module _ (b c : ℕ) (r : gapT.Gap) (e : gapIs r ≡ gapOf b c) where
   range-under w = sym (rw (met-under b c r e w))
 
   module _ (k : ℕ) (w : r ≡ By k) where
-    pub range-near : k ≤ 65535 → codeIs (cv.Shifted b (iv.Choice (k + 1))) ≡ rangeCode b c
+    pub range-near : k ≤ mostFixed → codeIs (cv.Shifted b (iv.Choice (k + 1))) ≡ rangeCode b c
     unfolding rangeCode spanCode codeIs innerIs
     range-near h = sym (rw (met-by b c r e k w, le-leb _ _ h))
 
-    pub range-far : 65535 < k → codeIs (cv.Shifted b (iv.Five k)) ≡ rangeCode b c
+    pub range-far : mostFixed < k → codeIs (cv.Shifted b (iv.Five k)) ≡ rangeCode b c
     unfolding rangeCode spanCode codeIs innerIs
     range-far h = sym (rw (met-by b c r e k w, lt-leb _ _ h))
 
 pub ruleset range-ways = (range-under, range-near, range-far)
 
-pub open-none : (least : ℕ) → least ≡ 0 → codeIs (cv.Some (iv.Five 65535)) ≡ unboundedCode least
+pub open-none : (least : ℕ) → least ≡ 0 → codeIs (cv.Some (iv.Five mostTimes)) ≡ unboundedCode least
 unfolding unboundedCode codeIs innerIs
 open-none least z = rw z
 
-pub open-some : (least k : ℕ) → (least ≡ 0 → ⊥) → k ≡ 65535 - least → codeIs (cv.Shifted least (iv.Five k)) ≡ unboundedCode least
+pub open-some : (least k : ℕ) → (least ≡ 0 → ⊥) → k ≡ mostTimes - least → codeIs (cv.Shifted least (iv.Five k)) ≡ unboundedCode least
 unfolding unboundedCode codeIs innerIs
 open-some zero k z e = absurd (z refl)
 open-some (suc n) k z e = rw e
@@ -64,26 +66,26 @@ pub ruleset bound-ways = (bound-flag, bound-some, bound-from)
 module _ (least most : ℕ) where
   pub times-crossed : most < least → codeIs (cv.Plain (iv.Choice 0)) ≡ timesCode least most
   unfolding timesCode codeIs innerIs
-  times-crossed h = sym (rw (lt-ltb (min most 65535) least (omega arith)))
+  times-crossed h = sym (rw (lt-ltb (min most mostTimes) least (omega arith)))
 
-  pub times-from : 65535 < least → codeIs (cv.Plain (iv.Choice 0)) ≡ timesCode least most
+  pub times-from : mostTimes < least → codeIs (cv.Plain (iv.Choice 0)) ≡ timesCode least most
   unfolding timesCode codeIs innerIs
-  times-from h = sym (rw (lt-ltb (min most 65535) least (omega arith)))
+  times-from h = sym (rw (lt-ltb (min most mostTimes) least (omega arith)))
 
-  module _ (h : least ≤ most) (l : least ≤ 65535) where
-    least-in : ltb (min most 65535) least ≡ false
-    least-in = le-ltb (min most 65535) least (omega arith)
+  module _ (h : least ≤ most) (l : least ≤ mostTimes) where
+    least-in : ltb (min most mostTimes) least ≡ false
+    least-in = le-ltb (min most mostTimes) least (omega arith)
 
-    pub times-over : 65536 < most → codeIs (cv.Plain (iv.Choice 0)) ≡ timesCode least most
+    pub times-over : unbounded < most → codeIs (cv.Plain (iv.Choice 0)) ≡ timesCode least most
     unfolding timesCode codeIs innerIs
     times-over k = sym (rw (least-in, lt-ltb _ _ k))
 
-    module _ (k : most ≤ 65536) where
-      pub times-open : (r : codeT.Code) → most ≡ 65536 → codeIs r ≡ unboundedCode least → codeIs r ≡ timesCode least most
+    module _ (k : most ≤ unbounded) where
+      pub times-open : (r : codeT.Code) → most ≡ unbounded → codeIs r ≡ unboundedCode least → codeIs r ≡ timesCode least most
       unfolding timesCode
       times-open r z e = e ∙ sym (rw (least-in, le-ltb _ _ k, eq-eqb _ _ z))
 
-      pub times-bounded : (r : codeT.Code) → (most ≡ 65536 → ⊥) → codeIs r ≡ boundedCode least most → codeIs r ≡ timesCode least most
+      pub times-bounded : (r : codeT.Code) → (most ≡ unbounded → ⊥) → codeIs r ≡ boundedCode least most → codeIs r ≡ timesCode least most
       unfolding timesCode
       times-bounded r z e = e ∙ sym (rw (least-in, le-ltb _ _ k, ne-eqb _ _ z))
 
@@ -91,35 +93,35 @@ pub ruleset times-ways = (times-crossed, times-from, times-over, times-open, tim
 
 -- a kind as the tests tell it
 module _ (kind b c : ℕ) where
-  pub simple-boolean : kind ≡ 0 → formIs (fv.Number (cv.Plain (iv.Choice 2))) ≡ simpleOf kind b c
+  pub simple-boolean : kind ≡ simple.boolean → formIs (fv.Number (cv.Plain (iv.Choice 2))) ≡ simpleOf kind b c
   unfolding simpleOf formIs codeIs innerIs
   simple-boolean z = sym (rw z)
 
-  pub simple-ranged : (r : codeT.Code) → kind ≡ 1 → codeIs r ≡ rangeCode b c → formIs (fv.Number r) ≡ simpleOf kind b c
+  pub simple-ranged : (r : codeT.Code) → kind ≡ simple.ranged → codeIs r ≡ rangeCode b c → formIs (fv.Number r) ≡ simpleOf kind b c
   unfolding simpleOf formIs
   simple-ranged r z e = rw e (sym (rw z))
 
-  pub simple-unsigned : kind ≡ 2 → formIs (fv.Number (cv.Plain (iv.Five 4294967295))) ≡ simpleOf kind b c
+  pub simple-unsigned : kind ≡ simple.unsigned → formIs (fv.Number (cv.Plain (iv.Five mostWord))) ≡ simpleOf kind b c
   unfolding simpleOf formIs codeIs innerIs
   simple-unsigned z = sym (rw z)
 
-  pub simple-signed : kind ≡ 3 → formIs (fv.Number cv.Signed) ≡ simpleOf kind b c
+  pub simple-signed : kind ≡ simple.signed → formIs (fv.Number cv.Signed) ≡ simpleOf kind b c
   unfolding simpleOf formIs codeIs
   simple-signed z = sym (rw z)
 
-  pub simple-enumerated : kind ≡ 4 → formIs (fv.Number (cv.Plain (iv.Choice b))) ≡ simpleOf kind b c
+  pub simple-enumerated : kind ≡ simple.enumeration → formIs (fv.Number (cv.Plain (iv.Choice b))) ≡ simpleOf kind b c
   unfolding simpleOf formIs codeIs innerIs
   simple-enumerated z = sym (rw z)
 
-  pub simple-text : kind ≡ 5 → formIs fv.Text ≡ simpleOf kind b c
+  pub simple-text : kind ≡ simple.text → formIs fv.Text ≡ simpleOf kind b c
   unfolding simpleOf formIs
   simple-text z = sym (rw z)
 
-  pub simple-float : kind ≡ 6 → formIs (fv.Number cv.Word) ≡ simpleOf kind b c
+  pub simple-float : kind ≡ simple.float → formIs (fv.Number cv.Word) ≡ simpleOf kind b c
   unfolding simpleOf formIs codeIs
   simple-float z = sym (rw z)
 
-pub simple-none : (kind b c : ℕ) → (kind ≡ 0 → ⊥) → (kind ≡ 1 → ⊥) → (kind ≡ 2 → ⊥) → (kind ≡ 3 → ⊥) → (kind ≡ 4 → ⊥) → (kind ≡ 5 → ⊥) → (kind ≡ 6 → ⊥)
+pub simple-none : (kind b c : ℕ) → (kind ≡ simple.boolean → ⊥) → (kind ≡ simple.ranged → ⊥) → (kind ≡ simple.unsigned → ⊥) → (kind ≡ simple.signed → ⊥) → (kind ≡ simple.enumeration → ⊥) → (kind ≡ simple.text → ⊥) → (kind ≡ simple.float → ⊥)
     → formIs (fv.Number (cv.Plain (iv.Choice 0))) ≡ simpleOf kind b c
 unfolding simpleOf formIs codeIs innerIs
 simple-none zero b c n₀ n₁ n₂ n₃ n₄ n₅ n₆ = absurd (n₀ refl)

@@ -2,6 +2,8 @@
 use Prim.Native.Nat.{ℕ, zero, suc, _+_, _-_, _*_, _<_, _≤_}
 use mathlib.Core.Path.{_≡_, refl, sym, ap, _∙_}
 use mathlib.Core.List.{List}
+use Rattle.numbers.specs.Simple as simple
+use Rattle.numbers.specs.Limit.{mostFixed, mostWord}
 use Rattle.wire.specs.declared.Bits.{Bits}
 use Rattle.wire.specs.declared.Bytes.{Bytes}
 use Rattle.wire.specs.declared.Read.{Read}
@@ -41,11 +43,11 @@ module _ (b : ℕ → ℕ) (end at x y : ℕ) (g : gapT.Gap) (e : gapIs g ≡ ga
   ranged-under w h = h ∙ ap (λ (k : Code). codeAt k b end at) (range-under x y g e w)
 
   module _ (k : ℕ) (w : g ≡ By k) where
-    pub ranged-near : k ≤ 65535 → readIs r ≡ codeAt (shifted x (innerIs (iv.Choice (k + 1)))) b end at → readIs r ≡ codeAt (rangeCode x y) b end at
+    pub ranged-near : k ≤ mostFixed → readIs r ≡ codeAt (shifted x (innerIs (iv.Choice (k + 1)))) b end at → readIs r ≡ codeAt (rangeCode x y) b end at
     unfolding codeIs
     ranged-near l h = h ∙ ap (λ (k : Code). codeAt k b end at) (range-near x y g e k w l)
 
-    pub ranged-far : 65535 < k → readIs r ≡ codeAt (shifted x (innerIs (iv.Five k))) b end at → readIs r ≡ codeAt (rangeCode x y) b end at
+    pub ranged-far : mostFixed < k → readIs r ≡ codeAt (shifted x (innerIs (iv.Five k))) b end at → readIs r ≡ codeAt (rangeCode x y) b end at
     unfolding codeIs
     ranged-far l h = h ∙ ap (λ (k : Code). codeAt k b end at) (range-far x y g e k w l)
 
@@ -53,27 +55,27 @@ pub ruleset ranged-ways = (ranged-under, ranged-near, ranged-far)
 
 -- by_kind
 module _ (b : ℕ → ℕ) (end at kind x y : ℕ) (r : Read) where
-  pub kind-boolean : kind ≡ 0 → readIs r ≡ choiceAt b 2 end at → readIs r ≡ codeAt (kindCode kind x y) b end at
+  pub kind-boolean : kind ≡ simple.boolean → readIs r ≡ choiceAt b 2 end at → readIs r ≡ codeAt (kindCode kind x y) b end at
   unfolding kindCode plainly simpleOf codeAt
   kind-boolean z e = e ∙ sym (rw z)
 
-  pub kind-ranged : kind ≡ 1 → readIs r ≡ codeAt (rangeCode x y) b end at → readIs r ≡ codeAt (kindCode kind x y) b end at
+  pub kind-ranged : kind ≡ simple.ranged → readIs r ≡ codeAt (rangeCode x y) b end at → readIs r ≡ codeAt (kindCode kind x y) b end at
   unfolding kindCode plainly simpleOf
   kind-ranged z e = e ∙ sym (rw z)
 
-  pub kind-unsigned : kind ≡ 2 → readIs r ≡ numberAt b 4294967295 end at → readIs r ≡ codeAt (kindCode kind x y) b end at
+  pub kind-unsigned : kind ≡ simple.unsigned → readIs r ≡ numberAt b mostWord end at → readIs r ≡ codeAt (kindCode kind x y) b end at
   unfolding kindCode plainly simpleOf codeAt
   kind-unsigned z e = e ∙ sym (rw z)
 
-  pub kind-signed : kind ≡ 3 → readIs r ≡ codeAt signed b end at → readIs r ≡ codeAt (kindCode kind x y) b end at
+  pub kind-signed : kind ≡ simple.signed → readIs r ≡ codeAt signed b end at → readIs r ≡ codeAt (kindCode kind x y) b end at
   unfolding kindCode plainly simpleOf
   kind-signed z e = e ∙ sym (rw z)
 
-  pub kind-enumerated : kind ≡ 4 → readIs r ≡ choiceAt b x end at → readIs r ≡ codeAt (kindCode kind x y) b end at
+  pub kind-enumerated : kind ≡ simple.enumeration → readIs r ≡ choiceAt b x end at → readIs r ≡ codeAt (kindCode kind x y) b end at
   unfolding kindCode plainly simpleOf codeAt
   kind-enumerated z e = e ∙ sym (rw z)
 
-none-of : (kind x y : ℕ) → (kind ≡ 0 → ⊥) → (kind ≡ 1 → ⊥) → (kind ≡ 2 → ⊥) → (kind ≡ 3 → ⊥) → (kind ≡ 4 → ⊥) → (kind ≡ 6 → ⊥) → kindCode kind x y ≡ nothing
+none-of : (kind x y : ℕ) → (kind ≡ simple.boolean → ⊥) → (kind ≡ simple.ranged → ⊥) → (kind ≡ simple.unsigned → ⊥) → (kind ≡ simple.signed → ⊥) → (kind ≡ simple.enumeration → ⊥) → (kind ≡ simple.float → ⊥) → kindCode kind x y ≡ nothing
 unfolding kindCode plainly simpleOf
 none-of zero x y n₀ n₁ n₂ n₃ n₄ n₆ = absurd (n₀ refl)
 none-of (suc zero) x y n₀ n₁ n₂ n₃ n₄ n₆ = absurd (n₁ refl)
@@ -85,11 +87,11 @@ none-of (suc (suc (suc (suc (suc (suc zero)))))) x y n₀ n₁ n₂ n₃ n₄ n�
 none-of (suc (suc (suc (suc (suc (suc (suc k))))))) x y n₀ n₁ n₂ n₃ n₄ n₆ = refl
 
 module _ (s : List ℕ) (end at kind x y : ℕ) (r : Read) where
-  pub kind-float : kind ≡ 6 → readIs r ≡ fixed32 (bitAt s) end at 32 → readIs r ≡ codeAt (kindCode kind x y) (bitAt s) end at
+  pub kind-float : kind ≡ simple.float → readIs r ≡ fixed32 (bitAt s) end at 32 → readIs r ≡ codeAt (kindCode kind x y) (bitAt s) end at
   unfolding kindCode plainly simpleOf codeIs
   kind-float z e = way-code-word s end at cv.Word r refl e ∙ sym (rw z)
 
-  pub kind-none : (kind ≡ 0 → ⊥) → (kind ≡ 1 → ⊥) → (kind ≡ 2 → ⊥) → (kind ≡ 3 → ⊥) → (kind ≡ 4 → ⊥) → (kind ≡ 6 → ⊥)
+  pub kind-none : (kind ≡ simple.boolean → ⊥) → (kind ≡ simple.ranged → ⊥) → (kind ≡ simple.unsigned → ⊥) → (kind ≡ simple.signed → ⊥) → (kind ≡ simple.enumeration → ⊥) → (kind ≡ simple.float → ⊥)
       → readIs r ≡ choiceAt (bitAt s) 0 end at → readIs r ≡ codeAt (kindCode kind x y) (bitAt s) end at
   unfolding codeAt
   kind-none n₀ n₁ n₂ n₃ n₄ n₆ e = e ∙ sym (rw (none-of kind x y n₀ n₁ n₂ n₃ n₄ n₆))
@@ -97,7 +99,7 @@ module _ (s : List ℕ) (end at kind x y : ℕ) (r : Read) where
 pub ruleset kind-ways = (kind-boolean, kind-ranged, kind-unsigned, kind-signed, kind-enumerated, kind-float, kind-none)
 
 -- of_kind
-plain-kind : (kind x y : ℕ) → (kind ≡ 5 → ⊥) → simpleOf kind x y ≡ plain (kindCode kind x y)
+plain-kind : (kind x y : ℕ) → (kind ≡ simple.text → ⊥) → simpleOf kind x y ≡ plain (kindCode kind x y)
 unfolding kindCode plainly simpleOf
 plain-kind zero x y n = refl
 plain-kind (suc zero) x y n = refl
@@ -109,11 +111,11 @@ plain-kind (suc (suc (suc (suc (suc (suc zero)))))) x y n = refl
 plain-kind (suc (suc (suc (suc (suc (suc (suc k))))))) x y n = refl
 
 module _ (s : List ℕ) (end at kind x y : ℕ) where
-  pub of-text : (v : valueT.Value) → kind ≡ 5 → valueIs (bitAt s) v ≡ simpleAt (formIs fv.Text) (bitAt s) end at → valueIs (bitAt s) v ≡ simpleAt (simpleOf kind x y) (bitAt s) end at
+  pub of-text : (v : valueT.Value) → kind ≡ simple.text → valueIs (bitAt s) v ≡ simpleAt (formIs fv.Text) (bitAt s) end at → valueIs (bitAt s) v ≡ simpleAt (simpleOf kind x y) (bitAt s) end at
   unfolding simpleOf formIs
   of-text v z e = e ∙ sym (rw z)
 
-  module _ (n₅ : kind ≡ 5 → ⊥) (r : Read) (e : readIs r ≡ codeAt (kindCode kind x y) (bitAt s) end at) where
+  module _ (n₅ : kind ≡ simple.text → ⊥) (r : Read) (e : readIs r ≡ codeAt (kindCode kind x y) (bitAt s) end at) where
     pub of-refused : (n : ℕ) → r ≡ read.Refuse n → valueIs (bitAt s) (vv.Refuse n) ≡ simpleAt (simpleOf kind x y) (bitAt s) end at
     unfolding valueIs simpleAt
     of-refused n g = rw (plain-kind kind x y n₅) (sym (then-fault _ (read-refuse e g)))

@@ -4,6 +4,8 @@ use mathlib.Core.Path.{_≡_, refl, sym, _∙_}
 use mathlib.Core.List.{List}
 use native.Mathlib.Omega.{arith}
 use native.Mathlib.Decide.{decLe}
+use Rattle.numbers.specs.Refusal.{pastEnd, tooLarge, noSuchCode, minusZero}
+use Rattle.numbers.specs.Limit.{mostText}
 use Rattle.wire.specs.declared.Bits.{Bits}
 use Rattle.wire.specs.declared.Bytes.{Bytes}
 use Rattle.wire.specs.declared.Read.{Read}
@@ -44,11 +46,11 @@ module _ (b : ℕ → ℕ) (n end at w : ℕ) (small : n < 2 ^ 32) (x : w ≡ wi
   module _ (v : ℕ) (p : Bits) (f : r ≡ read.Value v p) where
     pub way-choice-in : v < n → readIs (read.Value v p) ≡ choiceAt b n end at
     unfolding choiceAt readIs
-    way-choice-in h = sym (then _ (read-value choice-is f) (under-then 14 (omega arith) refl))
+    way-choice-in h = sym (then _ (read-value choice-is f) (under-then noSuchCode (omega arith) refl))
 
-    pub way-choice-out : n ≤ v → readIs (read.Refuse 14) ≡ choiceAt b n end at
+    pub way-choice-out : n ≤ v → readIs (read.Refuse noSuchCode) ≡ choiceAt b n end at
     unfolding choiceAt readIs
-    way-choice-out h = sym (then _ (read-value choice-is f) (under-fault 14 _ (omega arith)))
+    way-choice-out h = sym (then _ (read-value choice-is f) (under-fault noSuchCode _ (omega arith)))
 
 pub ruleset choice-ways = (way-choice-refuse, way-choice-in, way-choice-out)
 
@@ -61,11 +63,11 @@ module _ (b : ℕ → ℕ) (most end at : ℕ) (r : Read) (e : readIs r ≡ read
   module _ (v : ℕ) (p : Bits) (f : r ≡ read.Value v p) where
     pub way-number-in : v ≤ most → readIs (read.Value v p) ≡ numberAt b most end at
     unfolding numberAt readIs
-    way-number-in h = sym (then _ (read-value e f) (under-then 13 h refl))
+    way-number-in h = sym (then _ (read-value e f) (under-then tooLarge h refl))
 
-    pub way-number-out : most < v → readIs (read.Refuse 13) ≡ numberAt b most end at
+    pub way-number-out : most < v → readIs (read.Refuse tooLarge) ≡ numberAt b most end at
     unfolding numberAt readIs
-    way-number-out h = sym (then _ (read-value e f) (under-fault 13 _ h))
+    way-number-out h = sym (then _ (read-value e f) (under-fault tooLarge _ h))
 
 pub ruleset number-ways = (way-number-refuse, way-number-in, way-number-out)
 
@@ -85,27 +87,27 @@ pub ruleset inner-ways = (way-inner-choice, way-inner-five)
 module _ (sign m : ℕ) (q : Bits) where
   pub way-join-plus : (w : ℕ) → sign ≡ 0 → m < 2147483648 → w ≡ wordOf 0 m → readIs (read.Value w q) ≡ signedOf sign m (q .0)
   unfolding signedOf readIs
-  way-join-plus w z h e = rw (z, e) (sym (under-then 13 (omega arith) refl))
+  way-join-plus w z h e = rw (z, e) (sym (under-then tooLarge (omega arith) refl))
 
-  pub way-join-over : sign ≡ 0 → 2147483648 ≤ m → readIs (read.Refuse 13) ≡ signedOf sign m (q .0)
+  pub way-join-over : sign ≡ 0 → 2147483648 ≤ m → readIs (read.Refuse tooLarge) ≡ signedOf sign m (q .0)
   unfolding signedOf readIs
-  way-join-over z h = rw z (sym (under-fault 13 _ (omega arith)))
+  way-join-over z h = rw z (sym (under-fault tooLarge _ (omega arith)))
 
   module _ (z : sign ≡ 0 → ⊥) where
     minus-is : sign ≡ suc (sign - 1)
     minus-is = omega arith
 
-    pub way-join-under : 2147483648 < m → readIs (read.Refuse 13) ≡ signedOf sign m (q .0)
+    pub way-join-under : 2147483648 < m → readIs (read.Refuse tooLarge) ≡ signedOf sign m (q .0)
     unfolding signedOf readIs
-    way-join-under h = rw minus-is (sym (under-fault 13 _ h))
+    way-join-under h = rw minus-is (sym (under-fault tooLarge _ h))
 
-    pub way-join-zero : m ≤ 2147483648 → m ≡ 0 → readIs (read.Refuse 15) ≡ signedOf sign m (q .0)
+    pub way-join-zero : m ≤ 2147483648 → m ≡ 0 → readIs (read.Refuse minusZero) ≡ signedOf sign m (q .0)
     unfolding signedOf readIs
-    way-join-zero h k = rw minus-is (sym (under-then 13 h (under-fault 15 _ (omega arith))))
+    way-join-zero h k = rw minus-is (sym (under-then tooLarge h (under-fault minusZero _ (omega arith))))
 
     pub way-join-minus : (w : ℕ) → m ≤ 2147483648 → (m ≡ 0 → ⊥) → w ≡ wordOf 1 m → readIs (read.Value w q) ≡ signedOf sign m (q .0)
     unfolding signedOf readIs
-    way-join-minus w h k e = rw (minus-is, e) (sym (under-then 13 h (under-then 15 (omega arith) refl)))
+    way-join-minus w h k e = rw (minus-is, e) (sym (under-then tooLarge h (under-then minusZero (omega arith) refl)))
 
 pub ruleset join-ways = (way-join-plus, way-join-over, way-join-under, way-join-zero, way-join-minus)
 
@@ -146,13 +148,13 @@ module _ (b : ℕ → ℕ) (end at : ℕ) (c : Code) (r : Read) (e : readIs r �
       way-some-cut n h = sym (then _ (read-value e f) (rw some-is (then-fault _ (read-refuse g h))))
 
       module _ (v : ℕ) (q : Bits) (h : x ≡ read.Value v q) where
-        pub way-some-zero : v ≡ 0 → readIs (read.Refuse 14) ≡ codeAt (some c) b end at
+        pub way-some-zero : v ≡ 0 → readIs (read.Refuse noSuchCode) ≡ codeAt (some c) b end at
         unfolding codeAt readIs someOf
-        way-some-zero k = sym (then _ (read-value e f) (rw some-is (then _ (read-value g h) (under-fault 14 _ (omega arith)))))
+        way-some-zero k = sym (then _ (read-value e f) (rw some-is (then _ (read-value g h) (under-fault noSuchCode _ (omega arith)))))
 
         pub way-some-read : (v ≡ 0 → ⊥) → readIs (read.Value v q) ≡ codeAt (some c) b end at
         unfolding codeAt readIs someOf
-        way-some-read k = sym (then _ (read-value e f) (rw some-is (then _ (read-value g h) (under-then 14 (omega arith) refl))))
+        way-some-read k = sym (then _ (read-value e f) (rw some-is (then _ (read-value g h) (under-then noSuchCode (omega arith) refl))))
 
 pub ruleset some-ways = (way-some-refuse, way-some-none, way-some-cut, way-some-zero, way-some-read)
 
@@ -164,7 +166,7 @@ module _ (b : ℕ → ℕ) (end at lo : ℕ) (c : Code) (r : Read) (e : readIs r
 
   pub way-shifted-read : (k : ℕ) (p : Bits) (w : ℕ) → r ≡ read.Value k p → k < 2 ^ 32 → w ≡ up lo k → readIs (read.Value w p) ≡ codeAt (shifted lo c) b end at
   unfolding codeAt readIs
-  way-shifted-read k p w f h g = sym (then _ (read-value e f) (under-then 13 (omega arith) (rw g)))
+  way-shifted-read k p w f h g = sym (then _ (read-value e f) (under-then tooLarge (omega arith) (rw g)))
 
 pub ruleset shifted-ways = (way-shifted-refuse, way-shifted-read)
 
@@ -192,7 +194,7 @@ unfolding choiceAt
 word-all s end at = rw (width-pow 32) (elim (decLe (at + 32) end) [
   | yes h ↦
       let f = fixed-in (bitAt s) end at 32 h in
-      f ∙ sym (then _ f (under-then 14 (omega (arith, num-under (bitAt s) (bit-lt s) at {w = 32} {k = 32} (omega arith))) refl))
+      f ∙ sym (then _ f (under-then noSuchCode (omega (arith, num-under (bitAt s) (bit-lt s) at {w = 32} {k = 32} (omega arith))) refl))
   | no h ↦
       let f = fixed-past (bitAt s) end at 32 (omega arith) in
       f ∙ sym (then-fault _ f)
@@ -206,25 +208,25 @@ pub ruleset code-ways = (way-code-plain, way-code-word, way-code-signed, way-cod
 
 -- text_after
 module _ (b : ℕ → ℕ) (end n p : ℕ) where
-  pub way-text-before : end < p → valueIs b (vv.Refuse 5) ≡ textOf b end n p
+  pub way-text-before : end < p → valueIs b (vv.Refuse pastEnd) ≡ textOf b end n p
   unfolding textOf valueIs
-  way-text-before h = sym (under-fault 5 _ (omega arith))
+  way-text-before h = sym (under-fault pastEnd _ (omega arith))
 
   module _ (h : p ≤ end) where
-    pub way-text-past : end - p < 8 * n → valueIs b (vv.Refuse 5) ≡ textOf b end n p
+    pub way-text-past : end - p < 8 * n → valueIs b (vv.Refuse pastEnd) ≡ textOf b end n p
     unfolding textOf valueIs
-    way-text-past k = sym (under-fault 5 _ (omega arith))
+    way-text-past k = sym (under-fault pastEnd _ (omega arith))
 
     module _ (k : 8 * n ≤ end - p) (w : ℕ) (e : w ≡ textFault (bytesAt b p n)) where
       pub way-text-wrong : 0 < w → valueIs b (vv.Refuse w) ≡ textOf b end n p
       unfolding textOf valueIs
-      way-text-wrong l = rw e (sym (under-then 5 (omega arith) (passes-fault _ (λ z. omega (arith, e)))))
+      way-text-wrong l = rw e (sym (under-then pastEnd (omega arith) (passes-fault _ (λ z. omega (arith, e)))))
 
       pub way-text-read : (m : Bytes) (q : Bits) → w ≤ 0 → m .0 ≡ n → q .0 ≡ p + 8 * n → valueIs b (vv.Read n m q) ≡ textOf b end n p
       unfolding textOf valueIs
       way-text-read m q l f g =
           let back : p + 8 * n - 8 * n ≡ p = omega arith in
-          rw (f, g, back) (sym (under-then 5 (omega arith) (passes-then (omega (arith, e)) refl)))
+          rw (f, g, back) (sym (under-then pastEnd (omega arith) (passes-then (omega (arith, e)) refl)))
 
 pub ruleset text-ways = (way-text-before, way-text-past, way-text-wrong, way-text-read)
 
@@ -240,7 +242,7 @@ module _ (s : List ℕ) (end at : ℕ) (f : formT.Form) where
       unfolding valueIs simpleAt formIs
       way-simple-read m z = rw (w, z, bytes-none (bitAt s) (p .0 - 8 * 0)) (sym (then _ (read-value e g) refl))
 
-  module _ (w : f ≡ fv.Text) (r : Read) (e : readIs r ≡ numberAt (bitAt s) 4095 end at) where
+  module _ (w : f ≡ fv.Text) (r : Read) (e : readIs r ≡ numberAt (bitAt s) mostText end at) where
     pub way-simple-count : (n : ℕ) → r ≡ read.Refuse n → valueIs (bitAt s) (vv.Refuse n) ≡ simpleAt (formIs f) (bitAt s) end at
     unfolding valueIs simpleAt formIs codeAt
     way-simple-count n g = rw w (sym (then-fault _ (read-refuse e g)))
@@ -249,13 +251,13 @@ module _ (s : List ℕ) (end at : ℕ) (f : formT.Form) where
     unfolding simpleAt formIs codeAt
     way-simple-text n p x g h = h ∙ sym (rw w (then _ (read-value e g) refl))
 
--- a text's count is at most 4,095
-module _ (s : List ℕ) (end at : ℕ) (r : Read) (e : readIs r ≡ numberAt (bitAt s) 4095 end at) (n : ℕ) (p : Bits) (g : r ≡ read.Value n p) where
-  count-found : Stands (bitAt s) (Fits (five 4095) n) (bitsOf (five 4095) n) end at (p .0)
+-- a text's count is at most mostText
+module _ (s : List ℕ) (end at : ℕ) (r : Read) (e : readIs r ≡ numberAt (bitAt s) mostText end at) (n : ℕ) (p : Bits) (g : r ≡ read.Value n p) where
+  count-found : Stands (bitAt s) (Fits (five mostText) n) (bitsOf (five mostText) n) end at (p .0)
   unfolding codeAt
-  count-found = code-lawful (five 4095) .found (bitAt s) (bit-lt s) end at .says (n, p .0) (read-value e g)
+  count-found = code-lawful (five mostText) .found (bitAt s) (bit-lt s) end at .says (n, p .0) (read-value e g)
 
-  pub count-small : n ≤ 4095
+  pub count-small : n ≤ mostText
   unfolding Fits
   count-small = omega (arith, count-found .fits)
 

@@ -5,6 +5,9 @@ use mathlib.Core.Bool.{cond}
 use mathlib.Core.List.{List, [], _∷_, _++_}
 use lib.Dec.{leb, ltb, eqb}
 use lib.ListN.{length}
+use Rattle.numbers.specs.Refusal.{pastEnd}
+use Rattle.numbers.specs.Simple.{ofSimpleOr}
+use Rattle.numbers.specs.Limit.{mostFixed, mostText, mostTimes, unbounded}
 use Rattle.wire.specs.Res.{Res, got, fault, _>>=_, _>>_, atMost}
 use Rattle.wire.specs.Bits.{num, digits}
 use Rattle.signed.specs.Words.{Gap, under, by, gapOf}
@@ -15,26 +18,26 @@ use Rattle.value.specs.Code.{Code, choice, five, signed, some, shifted, 
 abbrev pub nothing : Code
 nothing = choice 0
 
--- a value from b on: up to 65,535 over it in the fixed width, else in vluimsbf5
+-- a value from b on: up to mostFixed over it in the fixed width, else in vluimsbf5
 unfoldable pub spanCode : ℕ → Gap → Code
 spanCode b under = nothing
-spanCode b (by k) = shifted b (cond (leb k 65535) (choice (k + 1)) (five k))
+spanCode b (by k) = shifted b (cond (leb k mostFixed) (choice (k + 1)) (five k))
 
 unfoldable pub rangeCode : ℕ → ℕ → Code
 rangeCode b c = spanCode b (gapOf b c)
 
--- a count with no end, up to 65,535; one of none to most; one of least to most
+-- a count with no end, up to mostTimes; one of none to most; one of least to most
 unfoldable pub unboundedCode : ℕ → Code
-unboundedCode zero = some (five 65535)
-unboundedCode (suc k) = shifted (suc k) (five (65535 - suc k))
+unboundedCode zero = some (five mostTimes)
+unboundedCode (suc k) = shifted (suc k) (five (mostTimes - suc k))
 
 unfoldable pub boundedCode : ℕ → ℕ → Code
 boundedCode zero most = cond (leb most 1) (choice (most + 1)) (some (choice (most + 1)))
 boundedCode (suc k) most = shifted (suc k) (choice (most - suc k + 1))
 
--- 65,536 is unbounded; a row with least over most or over 65,535, or with most over 65,536, lets no count come
+-- a row with least over most or over mostTimes, or with most over unbounded, lets no count come
 unfoldable pub timesCode : ℕ → ℕ → Code
-timesCode least most = cond (ltb (min most 65535) least) nothing (cond (ltb 65536 most) nothing (cond (eqb most 65536) (unboundedCode least) (boundedCode least most)))
+timesCode least most = cond (ltb (min most mostTimes) least) nothing (cond (ltb unbounded most) nothing (cond (eqb most unbounded) (unboundedCode least) (boundedCode least most)))
 
 -- a number, or a text
 pub data Simple : Type 0 where
@@ -42,18 +45,22 @@ pub data Simple : Type 0 where
   text : Simple
 
 unfoldable pub simpleOf : ℕ → ℕ → ℕ → Simple
-simpleOf zero b c = plain (choice 2)
-simpleOf (suc zero) b c = plain (rangeCode b c)
-simpleOf (suc (suc zero)) b c = plain (five (2 ^ 32 - 1))
-simpleOf (suc (suc (suc zero))) b c = plain signed
-simpleOf (suc (suc (suc (suc zero)))) b c = plain (choice b)
-simpleOf (suc (suc (suc (suc (suc zero))))) b c = text
-simpleOf (suc (suc (suc (suc (suc (suc zero)))))) b c = plain (choice (2 ^ 32))
-simpleOf (suc (suc (suc (suc (suc (suc (suc k))))))) b c = plain nothing
+simpleOf kind b c =
+    ofSimpleOr (plain nothing)
+    record {
+      boolean = plain (choice 2);
+      ranged = plain (rangeCode b c);
+      unsigned = plain (five (2 ^ 32 - 1));
+      signed = plain signed;
+      enumeration = plain (choice b);
+      text = text;
+      float = plain (choice (2 ^ 32));
+    }
+    kind
 
 -- a text's byte count
 abbrev pub count : Code
-count = five 4095
+count = five mostText
 
 -- bytes as bits, and the n bytes from a place on
 unfoldable pub bytes : List ℕ → List ℕ
@@ -76,7 +83,7 @@ unless (suc n) = fault (suc n)
 -- after a text's count: its bytes, below the wall, and nothing wrong with them
 unfoldable pub textOf : (ℕ → ℕ) → ℕ → ℕ → ℕ → Res (ℕ × List ℕ × ℕ)
 textOf b wall n p = do
-  atMost (p + 8 * n) wall 5
+  atMost (p + 8 * n) wall pastEnd
   unless (textFault (bytesAt b p n))
   got (n, bytesAt b p n, p + 8 * n)
 

@@ -2,10 +2,12 @@
 use super::Code;
 use super::Form;
 use super::Inner;
+use numbers::limit;
 use signed::Gap;
 use signed::gap;
 ghost use mathlib.Core.Path.{_≡_};
 ghost use Prim.Native.Nat.{_-_, _<_};
+ghost use Rattle.numbers.specs.Limit.{unbounded};
 ghost use Rattle.value.specs.Simple.{rangeCode, timesCode, unboundedCode, boundedCode, simpleOf};
 ghost use Rattle.value.specs.Answer.{codeIs, formIs};
 
@@ -16,7 +18,7 @@ pub fn range(b: u32, c: u32) -> Code
     match gap(b, c) {
         Gap::Under => Code::Plain(Inner::Choice(0)),
         Gap::By(k) => {
-            if k <= 65535 {
+            if k <= limit::MOST_FIXED {
                 return Code::Shifted(b, Inner::Choice(k + 1));
             }
             Code::Shifted(b, Inner::Five(k))
@@ -35,14 +37,14 @@ fn unbounded(least: u32) -> Code
     ensures { λ r. ⌜ codeIs r ≡ unboundedCode least ⌝ }
 {
     if least == 0 {
-        return Code::Some(Inner::Five(65535));
+        return Code::Some(Inner::Five(limit::MOST_TIMES));
     }
-    Code::Shifted(least, Inner::Five(less(65535, least)))
+    Code::Shifted(least, Inner::Five(less(limit::MOST_TIMES, least)))
 }
 
 // A count up to most.
 fn bounded(least: u32, most: u32) -> Code
-    requires { ⌜ most < 65536 ⌝ }
+    requires { ⌜ most < unbounded ⌝ }
     ensures { λ r. ⌜ codeIs r ≡ boundedCode least most ⌝ }
 {
     if least == 0 {
@@ -54,20 +56,20 @@ fn bounded(least: u32, most: u32) -> Code
     Code::Shifted(least, Inner::Choice(less(most, least) + 1))
 }
 
-// How many times an occurs row's child comes; 65,536 is unbounded.
+// How many times an occurs row's child comes; UNBOUNDED has no end.
 pub fn times(least: u32, most: u32) -> Code
     ensures { λ r. ⌜ codeIs r ≡ timesCode least most ⌝ }
 {
     if most < least {
         return Code::Plain(Inner::Choice(0));
     }
-    if 65535 < least {
+    if limit::MOST_TIMES < least {
         return Code::Plain(Inner::Choice(0));
     }
-    if 65536 < most {
+    if limit::UNBOUNDED < most {
         return Code::Plain(Inner::Choice(0));
     }
-    if most == 65536 {
+    if most == limit::UNBOUNDED {
         return unbounded(least);
     }
     bounded(least, most)
@@ -78,13 +80,13 @@ pub fn simple(kind: u32, b: u32, c: u32) -> Form
     ensures { λ r. ⌜ formIs r ≡ simpleOf kind b c ⌝ }
 {
     match kind {
-        0 => Form::Number(Code::Plain(Inner::Choice(2))),
-        1 => Form::Number(range(b, c)),
-        2 => Form::Number(Code::Plain(Inner::Five(4294967295))),
-        3 => Form::Number(Code::Signed),
-        4 => Form::Number(Code::Plain(Inner::Choice(b))),
-        5 => Form::Text,
-        6 => Form::Number(Code::Word),
+        numbers::simple::BOOLEAN => Form::Number(Code::Plain(Inner::Choice(2))),
+        numbers::simple::RANGED => Form::Number(range(b, c)),
+        numbers::simple::UNSIGNED => Form::Number(Code::Plain(Inner::Five(limit::MOST_WORD))),
+        numbers::simple::SIGNED => Form::Number(Code::Signed),
+        numbers::simple::ENUMERATION => Form::Number(Code::Plain(Inner::Choice(b))),
+        numbers::simple::TEXT => Form::Text,
+        numbers::simple::FLOAT => Form::Number(Code::Word),
         _ => Form::Number(Code::Plain(Inner::Choice(0))),
     }
 }

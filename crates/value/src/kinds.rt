@@ -7,6 +7,7 @@ use super::reading::number;
 use super::reading::shifted_number;
 use super::reading::signed_number;
 use super::reading::simple;
+use numbers::limit;
 use signed::Gap;
 use signed::gap;
 use wire::Bits;
@@ -31,7 +32,7 @@ fn ranged(s: &[u8], end: Bits, at: Bits, b: u32, c: u32) -> Read
     match gap(b, c) {
         Gap::Under => choice(s, end, at, 0),
         Gap::By(k) => {
-            if k <= 65535 {
+            if k <= limit::MOST_FIXED {
                 return shifted_number(s, end, at, b, Inner::Choice(k + 1));
             }
             shifted_number(s, end, at, b, Inner::Five(k))
@@ -45,12 +46,12 @@ fn by_kind(s: &[u8], end: Bits, at: Bits, kind: u32, b: u32, c: u32) -> Read
     ensures { λ r. ⌜ readIs r ≡ codeAt (kindCode kind b c) (bitAt (now (s .entry))) (end .0) (at .0) ⌝ }
 {
     match kind {
-        0 => choice(s, end, at, 2),
-        1 => ranged(s, end, at, b, c),
-        2 => number(s, end, at, 4294967295),
-        3 => signed_number(s, end, at),
-        4 => choice(s, end, at, b),
-        6 => fixed(s, end, at, 32),
+        numbers::simple::BOOLEAN => choice(s, end, at, 2),
+        numbers::simple::RANGED => ranged(s, end, at, b, c),
+        numbers::simple::UNSIGNED => number(s, end, at, limit::MOST_WORD),
+        numbers::simple::SIGNED => signed_number(s, end, at),
+        numbers::simple::ENUMERATION => choice(s, end, at, b),
+        numbers::simple::FLOAT => fixed(s, end, at, 32),
         _ => choice(s, end, at, 0),
     }
 }
@@ -60,7 +61,7 @@ pub fn of_kind(s: &[u8], end: Bits, at: Bits, kind: u32, b: u32, c: u32) -> Valu
     requires { ⌜ end .0 ≤ 8 * length (now s) ⌝ }
     ensures { λ r. ⌜ valueIs (bitAt (now (s .entry))) r ≡ simpleAt (simpleOf kind b c) (bitAt (now (s .entry))) (end .0) (at .0) ⌝ }
 {
-    if kind == 5 {
+    if kind == numbers::simple::TEXT {
         return simple(s, end, at, Form::Text);
     }
     match by_kind(s, end, at, kind, b, c) {

@@ -3,6 +3,8 @@ use super::Code;
 use super::Form;
 use super::Inner;
 use super::Value;
+use numbers::limit;
+use numbers::refusal;
 use signed::raised;
 use signed::with_sign;
 use utf8::slanted;
@@ -16,6 +18,7 @@ use wire::reading::vlu5;
 ghost use mathlib.Core.Path.{_≡_};
 ghost use Prim.Native.Nat.{_+_, _*_, _≤_, _<_};
 ghost use lib.ListN.{length};
+ghost use Rattle.numbers.specs.Limit.{mostText};
 ghost use Rattle.wire.specs.Bits.{bitAt, num};
 ghost use Rattle.wire.specs.Answer.{readIs};
 ghost use Rattle.utf8.specs.Text.{textFault};
@@ -34,7 +37,7 @@ pub fn choice(s: &[u8], end: Bits, at: Bits, n: u32) -> Read
             if v < n {
                 return Read::Value(v, p);
             }
-            Read::Refuse(14)
+            Read::Refuse(refusal::NO_SUCH_CODE)
         }
     }
 }
@@ -50,7 +53,7 @@ pub fn number(s: &[u8], end: Bits, at: Bits, most: u32) -> Read
             if v <= most {
                 return Read::Value(v, p);
             }
-            Read::Refuse(13)
+            Read::Refuse(refusal::TOO_LARGE)
         }
     }
 }
@@ -66,7 +69,7 @@ fn inner(s: &[u8], end: Bits, at: Bits, i: Inner) -> Read
     }
 }
 
-// The word of a sign and a magnitude: 13 past the limit, then 15 for minus zero.
+// The word of a sign and a magnitude: the limit is judged before minus zero.
 fn join(sign: u32, magnitude: u32, next: Bits) -> Read
     ensures { λ r. ⌜ readIs r ≡ signedOf sign magnitude (next .0) ⌝ }
 {
@@ -74,13 +77,13 @@ fn join(sign: u32, magnitude: u32, next: Bits) -> Read
         if magnitude < 2147483648 {
             return Read::Value(with_sign(false, magnitude), next);
         }
-        return Read::Refuse(13);
+        return Read::Refuse(refusal::TOO_LARGE);
     }
     if 2147483648 < magnitude {
-        return Read::Refuse(13);
+        return Read::Refuse(refusal::TOO_LARGE);
     }
     if magnitude == 0 {
-        return Read::Refuse(15);
+        return Read::Refuse(refusal::MINUS_ZERO);
     }
     Read::Value(with_sign(true, magnitude), next)
 }
@@ -114,7 +117,7 @@ fn some_number(s: &[u8], end: Bits, at: Bits, i: Inner) -> Read
                 Read::Refuse(e) => Read::Refuse(e),
                 Read::Value(v, q) => {
                     if v == 0 {
-                        return Read::Refuse(14);
+                        return Read::Refuse(refusal::NO_SUCH_CODE);
                     }
                     Read::Value(v, q)
                 }
@@ -170,18 +173,18 @@ pub fn text_fault(s: &[u8], at: Bits, n: Bytes) -> u32
     slanted::text_fault(s, from, to, a % 8)
 }
 
-// A text's bytes after its count: 5, then what is wrong with them.
+// A text's bytes after its count: the wall is judged before what is wrong with them.
 fn text_after(s: &[u8], end: Bits, n: u32, p: Bits) -> Value
-    requires { ⌜ (end .0 ≤ 8 * length (now s)) × (n ≤ 4095) ⌝ }
+    requires { ⌜ (end .0 ≤ 8 * length (now s)) × (n ≤ mostText) ⌝ }
     ensures { λ r. ⌜ valueIs (bitAt (now (s .entry))) r ≡ textOf (bitAt (now (s .entry))) (end .0) n (p .0) ⌝ }
 {
     let e = end.0;
     let from = p.0;
     if e < from {
-        return Value::Refuse(5);
+        return Value::Refuse(refusal::PAST_END);
     }
     if e - from < 8 * n {
-        return Value::Refuse(5);
+        return Value::Refuse(refusal::PAST_END);
     }
     let m = Bytes(n);
     let wrong = text_fault(s, p, m);
@@ -214,7 +217,7 @@ pub fn simple(s: &[u8], end: Bits, at: Bits, f: Form) -> Value
                 }
             }
         },
-        Form::Text => match number(s, end, at, 4095) {
+        Form::Text => match number(s, end, at, limit::MOST_TEXT) {
             Read::Refuse(e) => Value::Refuse(e),
             Read::Value(n, p) => text_after(s, end, n, p),
         },

@@ -4,6 +4,7 @@ use super::Inner;
 use super::Size;
 use super::octets::lay;
 use super::octets::lay_slanted;
+use numbers::refusal;
 use signed::lowered;
 use signed::magnitude;
 use wire::Bits;
@@ -17,7 +18,7 @@ ghost use Rattle.value.specs.Code.{sizeOut, some};
 ghost use Rattle.value.specs.Simple.{bytes};
 ghost use Rattle.value.specs.Answer.{innerIs, codeIs, sizeIs, Under};
 
-// The size of a code that another holds, or 20.
+// The size of a code that another holds, or OUTSIDE_ROW.
 fn inner_size(i: Inner, v: u32) -> Size
     ensures { λ r. ⌜ (sizeIs r ≡ sizeOut (innerIs i) v) × Under 40 r ⌝ }
 {
@@ -27,13 +28,13 @@ fn inner_size(i: Inner, v: u32) -> Size
                 let w = Bits(width(n));
                 return Size::Takes(w);
             }
-            Size::Refuse(20)
+            Size::Refuse(refusal::OUTSIDE_ROW)
         }
         Inner::Five(most) => {
             if v <= most {
                 return Size::Takes(size5(v));
             }
-            Size::Refuse(20)
+            Size::Refuse(refusal::OUTSIDE_ROW)
         }
     }
 }
@@ -55,7 +56,7 @@ fn some_size(i: Inner, v: u32) -> Size
     }
 }
 
-// How many bits a code takes for a value, or 20.
+// How many bits a code takes for a value, or OUTSIDE_ROW.
 pub fn size(c: Code, v: u32) -> Size
     ensures { λ r. ⌜ (sizeIs r ≡ sizeOut (codeIs c) v) × Under 41 r ⌝ }
 {

@@ -2,6 +2,7 @@
 use Prim.Native.Nat.{ℕ}
 use mathlib.Core.Bool.{Bool, cond}
 use lib.Dec.{leb}
+use Rattle.numbers.specs.Refusal.{tooLarge}
 use Rattle.wire.specs.declared.Read.{Read}
 use Rattle.wire.specs.declared.Read.the-variants as read
 use Rattle.wire.specs.declared.Number.{Number}
@@ -17,6 +18,6 @@ unfoldable pub numberIs : Number → Res (ℕ × ℕ × Bool)
 numberIs (number.Value v p short) = got (v, p .0, short)
 numberIs (number.Refuse e) = fault e
 
--- a fixed width that a word holds; a wider one is 13
+-- a fixed width that a word holds; a wider one is too large
 unfoldable pub fixed32 : (ℕ → ℕ) → ℕ → ℕ → ℕ → Res (ℕ × ℕ)
-fixed32 b end at w = cond (leb w 32) (fixedAt b end at w) (fault 13)
+fixed32 b end at w = cond (leb w 32) (fixedAt b end at w) (fault tooLarge)

@@ -9,6 +9,7 @@ use native.Mathlib.Decide.{decLe}
 use borrow.Author.Tests.{le-leb, lt-leb}
 use lib.ListN.{length, length-append}
 use lib.Pow.{pow-mono}
+use Rattle.numbers.specs.Refusal.{pastEnd}
 use Rattle.wire.specs.Res.{Res, got, fault, Ensures, gives, stops}
 use Rattle.wire.specs.Bits.{bitAt, num, fixedAt, digits, Has}
 
@@ -40,7 +41,7 @@ num-same b c at (suc w) h =
 
 -- fixed widths: within the wall, or past it
 module _ (b : ℕ → ℕ) (end at : ℕ) where
-  pub fixed-past : (w : ℕ) → end < at + w → fixedAt b end at w ≡ fault 5
+  pub fixed-past : (w : ℕ) → end < at + w → fixedAt b end at w ≡ fault pastEnd
   unfolding fixedAt
   fixed-past w h = rw (lt-leb _ _ h)
 

@@ -5,6 +5,7 @@ use mathlib.Core.Bool.{cond}
 use mathlib.Core.List.{List, [], _∷_, _++_}
 use lib.ListN.{getD}
 use lib.Dec.{leb}
+use Rattle.numbers.specs.Refusal.{pastEnd}
 use Rattle.wire.specs.Res.{Res, got, fault}
 
 -- bit i of the bytes s, from the most significant bit of byte 0
@@ -16,9 +17,9 @@ unfoldable pub num : (ℕ → ℕ) → ℕ → ℕ → ℕ
 num b at zero = 0
 num b at (suc w) = num b at w * 2 + b (at + w)
 
--- w bits and the place past them, or 5 where one of them is at the wall or past it
+-- w bits and the place past them, or pastEnd where one of them is at the wall or past it
 unfoldable pub fixedAt : (ℕ → ℕ) → ℕ → ℕ → ℕ → Res (ℕ × ℕ)
-fixedAt b end at w = cond (leb (at + w) end) (got (num b at w, at + w)) (fault 5)
+fixedAt b end at w = cond (leb (at + w) end) (got (num b at w, at + w)) (fault pastEnd)
 
 -- the w lowest bits of v, the highest first
 unfoldable pub digits : ℕ → ℕ → List ℕ

@@ -8,6 +8,7 @@ use native.Mathlib.Omega.{arith}
 use native.Mathlib.Decide.{decLt, ℕ-discrete}
 use lib.Pow.{pow-pos}
 use lib.ListN.{length, replicate, length-replicate}
+use Rattle.numbers.specs.Refusal.{notShortest}
 use Rattle.wire.specs.Res.{Res, got, fault, Ensures, gives, stops, bind}
 use Rattle.wire.specs.Bits.{num, fixedAt, digits, Has}
 use Rattle.wire.specs.BitLaws.{num-lt, fixed-in, fixed-gives, has-left, has-right, has-both, num-digits, digits-num, At}
@@ -162,7 +163,7 @@ module _ (b : ℕ → ℕ) (bits : (i : ℕ) → b i < 2) (end at : ℕ) where
   unfolding read5 strict
   read-code5 = bind number-found5 λ r g. short (r .0) (r .1) (r .2) g
     where
-      short : (v p : ℕ) (t : Bool) → Grouped b end at v p t → Ensures {A = ℕ × ℕ} (cond t (got (v, p)) (fault 12)) (λ r. Coded5 b end at (r .0) (r .1))
+      short : (v p : ℕ) (t : Bool) → Grouped b end at v p t → Ensures {A = ℕ × ℕ} (cond t (got (v, p)) (fault notShortest)) (λ r. Coded5 b end at (r .0) (r .1))
       short v p true g =
           let l = yes-short (g .groups) v (sym (g .told)) in
           let is : code5 v ≡ codeOf5 (g .groups) v = code-is (g .groups) v (g .few) (record { holds = g .small; least = l }) in

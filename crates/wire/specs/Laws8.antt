@@ -7,6 +7,7 @@ use native.Mathlib.Omega.{arith}
 use native.Mathlib.Decide.{decLt, ℕ-discrete}
 use borrow.Author.Tests.{lt-ltb, le-ltb, eq-eqb, ne-eqb}
 use lib.ListN.{length, length-append}
+use Rattle.numbers.specs.Refusal.{notShortest}
 use Rattle.wire.specs.Res.{Res, got, fault, Ensures, gives, stops, bind}
 use Rattle.wire.specs.Bits.{num, fixedAt, digits, Has}
 use Rattle.wire.specs.BitLaws.{num-lt, fixed-in, fixed-gives, has-left, has-right, num-digits, length-digits, At, at-both, at-digits}
@@ -91,6 +92,6 @@ module _ (b : ℕ → ℕ) (bits : (i : ℕ) → b i < 2) (end : ℕ) where
     unfolding read8 strict
     read-code8 = bind number-found8 λ r g. short (r .0) (r .1) (r .2) g
       where
-        short : (v p : ℕ) (t : Bool) → (t ≡ true → Coded8 b end at v p) → Ensures {A = ℕ × ℕ} (cond t (got (v, p)) (fault 12)) (λ r. Coded8 b end at (r .0) (r .1))
+        short : (v p : ℕ) (t : Bool) → (t ≡ true → Coded8 b end at v p) → Ensures {A = ℕ × ℕ} (cond t (got (v, p)) (fault notShortest)) (λ r. Coded8 b end at (r .0) (r .1))
         short v p true g = gives (g refl)
         short v p false g = stops

@@ -1,17 +1,18 @@
 -- Number codes of 001, 4.3: vluimsbf5 and vluimsbf8. A reading tells value, place past it, and whether it was in shortest form; a
--- strict reading above it gives 12. And the shortest codes, as bits.
+-- strict reading above it asks for that. And the shortest codes, as bits.
 use Prim.Native.Nat.{ℕ, zero, suc, _+_, _-_, _*_, _/_, _%_, _^_}
 use mathlib.Core.Bool.{Bool, true, false, cond}
 use mathlib.Core.List.{List, [], _∷_, _++_}
 use lib.ListN.{replicate}
 use lib.Dec.{ltb, eqb}
+use Rattle.numbers.specs.Refusal.{pastEnd, notShortest, tooLarge}
 use Rattle.wire.specs.Res.{Res, got, fault, _>>=_}
 use Rattle.wire.specs.Bits.{fixedAt, digits}
 
--- the ones up to a zero, of which k have been read, and the place past the zero; 13 where there are f more
+-- the ones up to a zero, of which k have been read, and the place past the zero; too large where there are f more
 unfoldable pub onesAt : ℕ → (ℕ → ℕ) → ℕ → ℕ → ℕ → Res (ℕ × ℕ)
-onesAt zero b end at k = fault 13
-onesAt (suc f) b end at k = cond (ltb at end) (cond (eqb (b at) 0) (got (k, at + 1)) (onesAt f b end (at + 1) (k + 1))) (fault 5)
+onesAt zero b end at k = fault tooLarge
+onesAt (suc f) b end at k = cond (ltb at end) (cond (eqb (b at) 0) (got (k, at + 1)) (onesAt f b end (at + 1) (k + 1))) (fault pastEnd)
 
 -- of the n + 1 groups that are v the first is not 0, unless it is the only one
 unfoldable pub isShort : ℕ → ℕ → Bool
@@ -26,9 +27,9 @@ groupsAt b end n at = fixedAt b end at (4 * (n + 1)) >>= λ r. got (r .0, r .1, 
 unfoldable pub number5 : (ℕ → ℕ) → ℕ → ℕ → Res (ℕ × ℕ × Bool)
 number5 b end at = onesAt 8 b end at 0 >>= λ r. groupsAt b end (r .0) (r .1)
 
--- the second byte of a vluimsbf8, after seven bits that are x; its top bit set is 13
+-- the second byte of a vluimsbf8, after seven bits that are x; its top bit set is too large
 unfoldable pub second8At : (ℕ → ℕ) → ℕ → ℕ → ℕ → Res (ℕ × ℕ × Bool)
-second8At b end x at = fixedAt b end at 8 >>= λ r. cond (ltb (r .0) 128) (got (x * 128 + r .0, r .1, cond (eqb x 0) false true)) (fault 13)
+second8At b end x at = fixedAt b end at 8 >>= λ r. cond (ltb (r .0) 128) (got (x * 128 + r .0, r .1, cond (eqb x 0) false true)) (fault tooLarge)
 
 -- vluimsbf8 of at most 2 bytes
 unfoldable pub number8 : (ℕ → ℕ) → ℕ → ℕ → Res (ℕ × ℕ × Bool)
@@ -36,7 +37,7 @@ number8 b end at = fixedAt b end at 8 >>= λ r. cond (ltb (r .0) 128) (got (r .0
 
 -- both must be in shortest form
 unfoldable pub strict : Res (ℕ × ℕ × Bool) → Res (ℕ × ℕ)
-strict m = m >>= λ r. cond (r .2) (got (r .0, r .1)) (fault 12)
+strict m = m >>= λ r. cond (r .2) (got (r .0, r .1)) (fault notShortest)
 
 unfoldable pub read5 : (ℕ → ℕ) → ℕ → ℕ → Res (ℕ × ℕ)
 read5 b end at = strict (number5 b end at)

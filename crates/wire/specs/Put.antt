@@ -9,6 +9,7 @@ use native.Mathlib.Decide.{decLt, ℕ-discrete}
 use lib.ListN.{length, getD, set, length-append}
 use lib.Seq.{getD-set-same, getD-set-other, ext-getD}
 use lib.Pow.{pow-pos, shl-exact}
+use Rattle.numbers.specs.Refusal.{outsideRow}
 use Rattle.wire.specs.declared.Read.{Read}
 use Rattle.wire.specs.declared.Read.the-variants as read
 use Rattle.wire.specs.Bits.{bitAt, digits, Has}
@@ -33,7 +34,7 @@ pub record Wrote (s t : List ℕ) (at : ℕ) (l : List ℕ) (p : ℕ) : Type 0 w
 -- the number v is written whole, as the bits l; or it has no code, and nothing is
 abbrev pub WroteOr : (coded uncoded : Type 0) (l : List ℕ) (v : ℕ) (s t : List ℕ) (at : ℕ) → Read → Type 0
 WroteOr coded uncoded l v s t at (read.Value u p) = (u ≡ v) × coded × Wrote s t at l (p .0)
-WroteOr coded uncoded l v s t at (read.Refuse e) = (e ≡ 20) × uncoded × (t ≡ s)
+WroteOr coded uncoded l v s t at (read.Refuse e) = (e ≡ outsideRow) × uncoded × (t ≡ s)
 
 -- a vluimsbf8 would else take a third byte
 abbrev pub Wrote8 : List ℕ → List ℕ → ℕ → ℕ → Read → Type 0

@@ -6,6 +6,7 @@ use mathlib.Core.List.{List}
 use native.Mathlib.Omega.{arith}
 use native.Mathlib.Decide.{decLt}
 use borrow.Author.Tests.{le-leb, lt-leb}
+use Rattle.numbers.specs.Refusal.{pastEnd, notShortest, tooLarge}
 use Rattle.wire.specs.declared.Bits.{Bits}
 use Rattle.wire.specs.declared.Read.{Read}
 use Rattle.wire.specs.declared.Read.the-variants as read
@@ -43,16 +44,16 @@ unfolding fixed32
 wide b end at w h = rw (le-leb _ _ h)
 
 module _ (b : ℕ → ℕ) (end at w : ℕ) where
-  pub way-fixed-wide : 32 < w → readIs (read.Refuse 13) ≡ fixed32 b end at w
+  pub way-fixed-wide : 32 < w → readIs (read.Refuse tooLarge) ≡ fixed32 b end at w
   unfolding fixed32 readIs
   way-fixed-wide h = rw (lt-leb _ _ h)
 
   module _ (n : w ≤ 32) where
-    pub way-fixed-before : end < at → readIs (read.Refuse 5) ≡ fixed32 b end at w
+    pub way-fixed-before : end < at → readIs (read.Refuse pastEnd) ≡ fixed32 b end at w
     unfolding readIs
     way-fixed-before h = sym (wide b end at w n ∙ fixed-past b end at w (omega arith))
 
-    pub way-fixed-past : at ≤ end → end - at < w → readIs (read.Refuse 5) ≡ fixed32 b end at w
+    pub way-fixed-past : at ≤ end → end - at < w → readIs (read.Refuse pastEnd) ≡ fixed32 b end at w
     unfolding readIs
     way-fixed-past h k = sym (wide b end at w n ∙ fixed-past b end at w (omega arith))
 
@@ -87,7 +88,7 @@ module _ (b : ℕ → ℕ) (end at : ℕ) (r : Read) (e : readIs r ≡ fixed32 b
     pub way-eight-two : (q : Number) → 128 ≤ y → numberIs q ≡ second8At b end (y - 128) (p .0) → numberIs q ≡ number8 b end at
     way-eight-two q h f = f ∙ sym (eight-two b end at (read-value byte-is w) h)
 
-    pub way-second-third : (x : ℕ) → 128 ≤ y → numberIs (number.Refuse 13) ≡ second8At b end x at
+    pub way-second-third : (x : ℕ) → 128 ≤ y → numberIs (number.Refuse tooLarge) ≡ second8At b end x at
     unfolding numberIs
     way-second-third x h = sym (second-third b end at x (read-value byte-is w) h)
 
@@ -133,7 +134,7 @@ module _ (n : Number) where
     unfolding readIs
     way-short-yes z = sym (strict-short {v = v} {p = p .0} (number-value refl w ∙ rw z))
 
-    pub way-short-no : t ≡ false → readIs (read.Refuse 12) ≡ strict (numberIs n)
+    pub way-short-no : t ≡ false → readIs (read.Refuse notShortest) ≡ strict (numberIs n)
     unfolding readIs
     way-short-no z = sym (strict-long {v = v} {p = p .0} (number-value refl w ∙ rw z))
 

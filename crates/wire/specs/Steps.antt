@@ -4,12 +4,13 @@ use mathlib.Core.Path.{_≡_, refl}
 use mathlib.Core.Bool.{Bool, true, false}
 use native.Mathlib.Omega.{arith}
 use borrow.Author.Tests.{lt-ltb, le-ltb, eq-eqb, ne-eqb}
+use Rattle.numbers.specs.Refusal.{pastEnd, notShortest, tooLarge}
 use Rattle.wire.specs.Res.{Res, got, fault, _>>=_}
 use Rattle.wire.specs.Bits.{fixedAt}
 use Rattle.wire.specs.Number.{onesAt, isShort, groupsAt, number5, second8At, number8, strict, more}
 
 module _ (b : ℕ → ℕ) (end at : ℕ) where
-  pub ones-past : (f k : ℕ) → 0 < f → end ≤ at → onesAt f b end at k ≡ fault 5
+  pub ones-past : (f k : ℕ) → 0 < f → end ≤ at → onesAt f b end at k ≡ fault pastEnd
   unfolding onesAt
   ones-past zero k e h = absurd (omega arith)
   ones-past (suc f) k e h = rw (le-ltb _ _ h)
@@ -23,7 +24,7 @@ module _ (b : ℕ → ℕ) (end at : ℕ) where
   unfolding onesAt
   ones-one g k e h z = rw (e, lt-ltb _ _ h, ne-eqb _ _ z)
 
-  pub ones-full : {f : ℕ} (k : ℕ) → f ≡ 0 → onesAt f b end at k ≡ fault 13
+  pub ones-full : {f : ℕ} (k : ℕ) → f ≡ 0 → onesAt f b end at k ≡ fault tooLarge
   unfolding onesAt
   ones-full k e = rw e
 
@@ -64,7 +65,7 @@ module _ (b : ℕ → ℕ) (end at : ℕ) where
   second-fault x e = rw e
 
   module _ (x : ℕ) {y p : ℕ} (e : fixedAt b end at 8 ≡ got (y, p)) where
-    pub second-third : 128 ≤ y → second8At b end x at ≡ fault 13
+    pub second-third : 128 ≤ y → second8At b end x at ≡ fault tooLarge
     unfolding second8At _>>=_
     second-third h = rw (e, le-ltb _ _ h)
 
@@ -97,7 +98,7 @@ pub strict-short : {m : Res (ℕ × ℕ × Bool)} {v p : ℕ} → m ≡ got (v, 
 unfolding strict _>>=_
 strict-short h = rw h
 
-pub strict-long : {m : Res (ℕ × ℕ × Bool)} {v p : ℕ} → m ≡ got (v, p, false) → strict m ≡ fault 12
+pub strict-long : {m : Res (ℕ × ℕ × Bool)} {v p : ℕ} → m ≡ got (v, p, false) → strict m ≡ fault notShortest
 unfolding strict _>>=_
 strict-long h = rw h
 

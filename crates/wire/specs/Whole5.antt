@@ -8,6 +8,7 @@ use native.Mathlib.Numerals.{add-one, one-add}
 use native.Mathlib.Omega.{arith}
 use native.Mathlib.Decide.{ℕ-discrete, decLe}
 use lib.Pow.{pow-pos, pow-mono, ones-split, ones-lt, high}
+use Rattle.numbers.specs.Refusal.{pastEnd, tooLarge}
 use Rattle.wire.specs.declared.Bits.{Bits}
 use Rattle.wire.specs.declared.Number.{Number}
 use Rattle.wire.specs.declared.Number.the-variants as number
@@ -78,7 +79,7 @@ module _ (s : List ℕ) (end at n x : ℕ) (e : x ≡ num (bitAt s) at 57) (lead
       sym f ∙ rw (lead-ones, g) (high (2 ^ j - 1) (n - j) (ones-lt (n - j)))
 
   -- the wall among the ones, or right after them
-  pub five-short : at ≤ end → end - at ≤ n → end - at < 8 → number5 (bitAt s) end at ≡ fault 5
+  pub five-short : at ≤ end → end - at ≤ n → end - at < 8 → number5 (bitAt s) end at ≡ fault pastEnd
   five-short h k l =
       let j = end - at in
       let d : j + (8 - j) ≡ 8 = omega arith in
@@ -86,7 +87,7 @@ module _ (s : List ℕ) (end at n x : ℕ) (e : x ≡ num (bitAt s) at 57) (lead
       five-fault (bitAt s) end at (r ∙ ones-past (bitAt s) end (at + j) (8 - j) (0 + j) (omega arith) (omega arith))
 
   -- an eighth one
-  pub five-full : 8 ≤ n → at + 8 ≤ end → number5 (bitAt s) end at ≡ fault 13
+  pub five-full : 8 ≤ n → at + 8 ≤ end → number5 (bitAt s) end at ≡ fault tooLarge
   five-full h k =
       let r = ones-skip (bitAt s) (bit-lt s) end 8 0 at 0 k (lead-fewer 8 h) in
       five-fault (bitAt s) end at (r ∙ ones-full (bitAt s) end (at + 8) (0 + 8) refl)
@@ -107,7 +108,7 @@ module _ (s : List ℕ) (end at n x : ℕ) (e : x ≡ num (bitAt s) at 57) (lead
         r ∙ ones-zero (bitAt s) end (at + n) (8 - n) n (omega arith) l lead-zero
 
     -- the wall among the groups
-    pub five-cut-off : at + n < end → end < at + 5 * (n + 1) → number5 (bitAt s) end at ≡ fault 5
+    pub five-cut-off : at + n < end → end < at + 5 * (n + 1) → number5 (bitAt s) end at ≡ fault pastEnd
     five-cut-off l h =
         five-got (bitAt s) end at (lead-got l)
         ∙ groups-fault (bitAt s) end (at + n + 1) n (fixed-past (bitAt s) end (at + n + 1) (4 * (n + 1)) (omega arith))
@@ -152,7 +153,7 @@ module _ (x n : ℕ) (some : 0 < n) (few : n < 8) where
     way-cut-short z = rw (← e, short-more n v (λ o. omega arith) z)
 
 -- and through `any5`
-pub way-five-before : (b : ℕ → ℕ) (end at : ℕ) → end < at → numberIs (number.Refuse 5) ≡ number5 b end at
+pub way-five-before : (b : ℕ → ℕ) (end at : ℕ) → end < at → numberIs (number.Refuse pastEnd) ≡ number5 b end at
 unfolding numberIs
 way-five-before b end at h = sym (five-fault b end at (ones-past b end at 8 0 (omega arith) (omega arith)))
 
@@ -162,15 +163,15 @@ zero-lead x h = record { few = omega arith; ones = omega arith; then = λ l. ome
 
 module _ (s : List ℕ) (end at x : ℕ) (h : at ≤ end) (e : x ≡ num (bitAt s) at 57) where
   module _ (n : ℕ) (r : Leading (x / 2 ^ 49) n) where
-    pub way-five-full : 8 ≤ n → 8 ≤ end - at → numberIs (number.Refuse 13) ≡ number5 (bitAt s) end at
+    pub way-five-full : 8 ≤ n → 8 ≤ end - at → numberIs (number.Refuse tooLarge) ≡ number5 (bitAt s) end at
     unfolding numberIs
     way-five-full l k = sym (five-full s end at n x e r l (omega arith))
 
-    pub way-five-short : 8 ≤ n → end - at < 8 → numberIs (number.Refuse 5) ≡ number5 (bitAt s) end at
+    pub way-five-short : 8 ≤ n → end - at < 8 → numberIs (number.Refuse pastEnd) ≡ number5 (bitAt s) end at
     unfolding numberIs
     way-five-short l k = sym (five-short s end at n x e r h (omega arith) k)
 
-    pub way-five-off : n < 8 → end - at < 5 * (n + 1) → numberIs (number.Refuse 5) ≡ number5 (bitAt s) end at
+    pub way-five-off : n < 8 → end - at < 5 * (n + 1) → numberIs (number.Refuse pastEnd) ≡ number5 (bitAt s) end at
     unfolding numberIs
     way-five-off l k = elim (decLe (end - at) n) [
       | yes m ↦ sym (five-short s end at n x e r h m (omega arith))
@@ -182,7 +183,7 @@ module _ (s : List ℕ) (end at x : ℕ) (h : at ≤ end) (e : x ≡ num (bitAt 
     way-five-cut p q l k f g = g ∙ rw f (sym (five-whole s end at n x e r l (omega arith)))
 
   module _ (k : x < 2 ^ 56) where
-    pub way-five-none : end - at < 5 → numberIs (number.Refuse 5) ≡ number5 (bitAt s) end at
+    pub way-five-none : end - at < 5 → numberIs (number.Refuse pastEnd) ≡ number5 (bitAt s) end at
     way-five-none l = way-five-off 0 (zero-lead x k) (omega arith) (omega arith)
 
     pub way-five-one : 5 ≤ end - at → (p : Bits) → p .0 ≡ at + 5 → numberIs (number.Value (x / 2 ^ 52) p true) ≡ number5 (bitAt s) end at

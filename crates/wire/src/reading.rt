@@ -4,6 +4,7 @@ use super::Number;
 use super::Read;
 use super::window::cut;
 use super::window::window;
+use numbers::refusal;
 ghost use mathlib.Core.Path.{_≡_};
 ghost use Prim.Native.Nat.{_+_, _*_, _≤_, _<_};
 ghost use lib.ListN.{length};
@@ -24,7 +25,7 @@ pub fn bit(s: &[u8], at: u32) -> u32
     (x >> k) % 2
 }
 
-// The number that w bits are; more than 32 are 13, as no word holds them.
+// The number that w bits are; more than 32 are TOO_LARGE, as no word holds them.
 pub fn fixed(s: &[u8], end: Bits, at: Bits, w: u32) -> Read
     requires { ⌜ end .0 ≤ 8 * length (now s) ⌝ }
     ensures { λ r. ⌜ readIs r ≡ fixed32 (bitAt (now (s .entry))) (end .0) (at .0) w ⌝ }
@@ -32,13 +33,13 @@ pub fn fixed(s: &[u8], end: Bits, at: Bits, w: u32) -> Read
     let a = at.0;
     let e = end.0;
     if w > 32 {
-        return Read::Refuse(13);
+        return Read::Refuse(refusal::TOO_LARGE);
     }
     if e < a {
-        return Read::Refuse(5);
+        return Read::Refuse(refusal::PAST_END);
     }
     if e - a < w {
-        return Read::Refuse(5);
+        return Read::Refuse(refusal::PAST_END);
     }
     let v = cut(s, a, w) as u32;
     let next = Bits(a + w);
@@ -98,13 +99,13 @@ pub fn any5(s: &[u8], end: Bits, at: Bits) -> Number
     let a = at.0;
     let e = end.0;
     if e < a {
-        return Number::Refuse(5);
+        return Number::Refuse(refusal::PAST_END);
     }
     let left = e - a;
     let x = window(s, a);
     if x < 72057594037927936 {
         if left < 5 {
-            return Number::Refuse(5);
+            return Number::Refuse(refusal::PAST_END);
         }
         let next = Bits(a + 5);
         return Number::Value((x >> 52) as u32, next, true);
@@ -112,12 +113,12 @@ pub fn any5(s: &[u8], end: Bits, at: Bits) -> Number
     let n = leading(x >> 49);
     if 8 <= n {
         if left < 8 {
-            return Number::Refuse(5);
+            return Number::Refuse(refusal::PAST_END);
         }
-        return Number::Refuse(13);
+        return Number::Refuse(refusal::TOO_LARGE);
     }
     if left < 5 * (n + 1) {
-        return Number::Refuse(5);
+        return Number::Refuse(refusal::PAST_END);
     }
     let next = Bits(a + 5 * (n + 1));
     cut5(x, n, next)
@@ -148,7 +149,7 @@ fn second8(s: &[u8], end: Bits, x: u32, at: Bits) -> Number
         Read::Refuse(e) => Number::Refuse(e),
         Read::Value(y, p) => {
             if 128 <= y {
-                return Number::Refuse(13);
+                return Number::Refuse(refusal::TOO_LARGE);
             }
             if x == 0 {
                 return Number::Value(y, p, false);
@@ -158,7 +159,7 @@ fn second8(s: &[u8], end: Bits, x: u32, at: Bits) -> Number
     }
 }
 
-// A number in shortest form; any other is 12.
+// A number in shortest form; any other is NOT_SHORTEST.
 pub fn shortest(n: Number) -> Read
     ensures { λ r. ⌜ readIs r ≡ strict (numberIs n) ⌝ }
 {
@@ -168,7 +169,7 @@ pub fn shortest(n: Number) -> Read
             if short {
                 return Read::Value(v, p);
             }
-            Read::Refuse(12)
+            Read::Refuse(refusal::NOT_SHORTEST)
         }
     }
 }

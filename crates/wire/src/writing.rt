@@ -3,6 +3,7 @@ use super::Bits;
 use super::Read;
 use super::window::eight;
 use super::window::store;
+use numbers::refusal;
 ghost use mathlib.Core.Path.{_≡_};
 ghost use mathlib.Core.List.{[], _∷_};
 ghost use Prim.Native.Nat.{_+_, _*_, _/_, _%_, _^_, _≤_, _<_};
@@ -155,13 +156,13 @@ pub fn put5(buf: &mut [u8], at: Bits, v: u32) -> Bits
     Bits(a + 5 * m)
 }
 
-// The shortest vluimsbf8 of v and the place past it; more than two bytes are 20, and nothing is written.
+// The shortest vluimsbf8 of v and the place past it; more than two bytes are OUTSIDE_ROW, and nothing is written.
 pub fn put8(buf: &mut [u8], at: Bits, v: u32) -> Read
     requires { ⌜ Room (now buf) (at .0) (length (code8 v)) ⌝ }
     ensures { λ r. ⌜ Wrote8 (now (buf .entry)) (now (buf .exit)) (at .0) v r ⌝ }
 {
     if 16384 <= v {
-        return Read::Refuse(20);
+        return Read::Refuse(refusal::OUTSIDE_ROW);
     }
     if v < 128 {
         let p = put(buf, at, 8, v);

@@ -8,6 +8,9 @@ use borrow.Author.Tests.{le-leb, lt-leb, eq-eqb, ne-eqb}
 use lib.Dec.{eqb, leb}
 use lib.ListN.{length, getD, drop, length-drop}
 use lib.Seq.{drop-length, drop-cons}
+use Rattle.numbers.specs.Refusal as refusal
+use Rattle.numbers.specs.Refusal.{noReading, payloadRoom, writeMode, textBytes}
+use Rattle.numbers.specs.Limit.{mostEvents, mostName, mostPayload}
 use Rattle.wire.specs.Res.{Res, got, fault, atMost, guard, under-then, under-fault}
 use Rattle.table.specs.First.{Verdict}
 use Rattle.table.specs.First.Verdict.{right, wrong}
@@ -44,14 +47,14 @@ FrontIs t name kind mode L (fv.At n p) = (X : List ℕ) (room : ℕ) → writing
 pub record Fronted (t : List ℕ) (name kind mode : ℕ) (L : List ℕ) (r : faultT.Fault) : Type 0 where
   pub is : FrontIs t name kind mode L r
 
--- 2, first the type, then the name
-asked-type : (types name type : ℕ) → types ≤ type → asked types name type ≡ fault 2
+-- the root: first the type, then the name
+asked-type : (types name type : ℕ) → types ≤ type → asked types name type ≡ fault refusal.root
 unfolding asked
-asked-type types name type h = under-fault 2 _ (omega arith)
+asked-type types name type h = under-fault refusal.root _ (omega arith)
 
-asked-name : (types name type : ℕ) → type < types → 65535 < name → asked types name type ≡ fault 2
+asked-name : (types name type : ℕ) → type < types → mostName < name → asked types name type ≡ fault refusal.root
 unfolding asked atMost guard
-asked-name types name type h k = under-then 2 h (rw (lt-leb name 65535 k))
+asked-name types name type h k = under-then refusal.root h (rw (lt-leb name mostName k))
 
 mode-known : (m : ℕ) → m ≤ 2 → modeAsked m ≡ got (modeIs m)
 unfolding modeAsked modeIs
@@ -60,7 +63,7 @@ mode-known (suc zero) h = refl
 mode-known (suc (suc zero)) h = refl
 mode-known (suc (suc (suc k))) h = absurd (omega arith)
 
-mode-unknown : (m : ℕ) → 2 < m → modeAsked m ≡ fault 22
+mode-unknown : (m : ℕ) → 2 < m → modeAsked m ≡ fault writeMode
 unfolding modeAsked
 mode-unknown zero h = absurd (omega arith)
 mode-unknown (suc zero) h = absurd (omega arith)
@@ -68,7 +71,7 @@ mode-unknown (suc (suc zero)) h = absurd (omega arith)
 mode-unknown (suc (suc (suc k))) h = refl
 
 module _ (t : List ℕ) (name kind mode : ℕ) (L : List ℕ) where
-  pub front-wrong : (v : verdictT.Verdict) → verdictIs v ≡ verdict t → (i : ℕ) → v ≡ vv.Wrong i → Fronted t name kind mode L (fv.At 1 i)
+  pub front-wrong : (v : verdictT.Verdict) → verdictIs v ≡ verdict t → (i : ℕ) → v ≡ vv.Wrong i → Fronted t name kind mode L (fv.At refusal.table i)
   unfolding writing verdictMade
   front-wrong v e i w = record { is = λ X room. let z : verdict t ≡ wrong i = sym e ∙ rw w in rw z }
 
@@ -76,34 +79,34 @@ module _ (t : List ℕ) (name kind mode : ℕ) (L : List ℕ) where
   front-right v e w = sym e ∙ rw w
 
   module _ (v : verdict t ≡ right) (k : ℕ) (e : k ≡ tableOf t .types) where
-    pub front-type : k ≤ kind → Fronted t name kind mode L (fv.At 2 0)
+    pub front-type : k ≤ kind → Fronted t name kind mode L (fv.At refusal.root 0)
     unfolding writing verdictMade orUnmade
     front-type h = record { is = λ X room. rw (v, asked-type (tableOf t .types) name kind (rw e at h)) }
 
     module _ (h : kind < k) where
-      pub front-name : 65535 < name → Fronted t name kind mode L (fv.At 2 0)
+      pub front-name : mostName < name → Fronted t name kind mode L (fv.At refusal.root 0)
       unfolding writing verdictMade orUnmade
       front-name g = record { is = λ X room. rw (v, asked-name (tableOf t .types) name kind (rw e at h) g) }
 
-      module _ (g : name ≤ 65535) where
+      module _ (g : name ≤ mostName) where
         ok : asked (tableOf t .types) name kind ≡ got tt
         ok = asked-then (tableOf t .types) name kind (rw e at h) g
 
-        pub front-mode : 2 < mode → Fronted t name kind mode L (fv.At 22 0)
+        pub front-mode : 2 < mode → Fronted t name kind mode L (fv.At writeMode 0)
         unfolding writing verdictMade orUnmade
         front-mode m = record { is = λ X room. rw (v, ok, mode-unknown mode m) }
 
         module _ (m : mode ≤ 2) where
-          pub front-parts : (n : ℕ) → n ≡ length L / 4 → 0 < length L % 4 → Fronted t name kind mode L (fv.At 18 n)
+          pub front-parts : (n : ℕ) → n ≡ length L / 4 → 0 < length L % 4 → Fronted t name kind mode L (fv.At noReading n)
           unfolding writing verdictMade orUnmade shaped
           front-parts n z p = record { is = λ X room. rw (v, ok, mode-known mode m, ne-eqb (length L % 4) 0 (λ q. omega arith), z) }
 
           module _ (p : length L % 4 ≤ 0) where
-            pub front-many : (n : ℕ) → n ≡ length L / 4 → 2048 < n → Fronted t name kind mode L (fv.At 18 n)
+            pub front-many : (n : ℕ) → n ≡ length L / 4 → mostEvents < n → Fronted t name kind mode L (fv.At noReading n)
             unfolding writing verdictMade orUnmade shaped
-            front-many n z q = record { is = λ X room. rw (v, ok, mode-known mode m, eq-eqb (length L % 4) 0 (omega arith), lt-leb (length L / 4) 2048 (omega arith), z) }
+            front-many n z q = record { is = λ X room. rw (v, ok, mode-known mode m, eq-eqb (length L % 4) 0 (omega arith), lt-leb (length L / 4) mostEvents (omega arith), z) }
 
-            pub front-fine : (n : ℕ) → n ≡ length L / 4 → n ≤ 2048 → Fronted t name kind mode L fv.No
+            pub front-fine : (n : ℕ) → n ≡ length L / 4 → n ≤ mostEvents → Fronted t name kind mode L fv.No
             front-fine n z q = record { is = record { enters = record { table-right = v; type-known = rw e at h; name-small = g }; mode-is = mode-known mode m; mode-small = m; shape = record { whole = omega arith; few = omega arith } } }
 
 pub ruleset checked-ways = (front-type, front-name, front-mode, front-parts, front-many, front-fine)
@@ -117,7 +120,7 @@ ends L X c room m w = spent (eventsIn L) (wrote w (eventsAt L (c .event)) (texts
 pub record Whole (L X : List ℕ) (c : Cursor) (room : ℕ) : Type 0 where
   pub over : c .event ≡ eventsIn L
   pub spent-all : c .used ≡ length X
-  pub fits : 1 + (c .bits + 7) / 8 ≤ min room 8192
+  pub fits : 1 + (c .bits + 7) / 8 ≤ min room mostPayload
   pub gives : (w : List ℕ) (m : Mode) → c .bits ≡ length w → ends L X c room m w ≡ made (modeByte m ∷ pack w) (8 + length w)
 
 abbrev pub SettledIs : List ℕ → List ℕ → Cursor → ℕ → faultT.Fault → Type 0
@@ -135,14 +138,14 @@ module _ (L X : List ℕ) (c : Cursor) (room : ℕ) where
         let n : eventsIn L - suc (length (eventsAt L (c .event + 1))) ≡ c .event = omega (arith, events-count L (c .event + 1)) in
         rw (events-next L (c .event) h, e, n)
 
-    pub left-blank : k ≡ 7 → Settled L X c room (fv.At 19 (c .event))
+    pub left-blank : k ≡ 7 → Settled L X c room (fv.At refusal.blank (c .event))
     left-blank z = record { is = λ w m b. left-one w m ∙ rw (eq-eqb k 7 z) }
 
-    pub left-event : (k ≡ 7 → ⊥) → Settled L X c room (fv.At 18 (c .event))
+    pub left-event : (k ≡ 7 → ⊥) → Settled L X c room (fv.At noReading (c .event))
     left-event z = record { is = λ w m b. left-one w m ∙ rw (ne-eqb k 7 z) }
 
   module _ (h : eventsIn L ≤ c .event) (i : c .event ≤ eventsIn L) where
-    pub left-text : c .used < length X → Settled L X c room (fv.At 23 (c .event))
+    pub left-text : c .used < length X → Settled L X c room (fv.At textBytes (c .event))
     unfolding spent textsAt
     left-text g = record { is = λ w m b. let z : c .event ≡ eventsIn L = omega arith in rw (events-none L (c .event) h, drop-cons X (c .used) 0 g, z) }
 
@@ -151,17 +154,17 @@ module _ (L X : List ℕ) (c : Cursor) (room : ℕ) where
       unfolding spent textsAt
       all-spent w m = let z : c .used ≡ length X = omega arith in rw (events-none L (c .event) h, z, drop-length X)
 
-      too-long : min room 8192 < s → (w : List ℕ) (m : Mode) → c .bits ≡ length w → ends L X c room m w ≡ unmade 21 0
+      too-long : min room mostPayload < s → (w : List ℕ) (m : Mode) → c .bits ≡ length w → ends L X c room m w ≡ unmade payloadRoom 0
       unfolding roomed
-      too-long k w m b = all-spent w m ∙ rw (lt-leb (1 + (length w + 7) / 8) (min room 8192) (rw (e, b) at k))
+      too-long k w m b = all-spent w m ∙ rw (lt-leb (1 + (length w + 7) / 8) (min room mostPayload) (rw (e, b) at k))
 
-      pub left-large : 8192 < s → Settled L X c room (fv.At 21 0)
+      pub left-large : mostPayload < s → Settled L X c room (fv.At payloadRoom 0)
       left-large k = record { is = too-long (omega arith) }
 
-      pub left-narrow : room < s → Settled L X c room (fv.At 21 0)
+      pub left-narrow : room < s → Settled L X c room (fv.At payloadRoom 0)
       left-narrow k = record { is = too-long (omega arith) }
 
-      pub left-none : s ≤ 8192 → s ≤ room → Settled L X c room fv.No
+      pub left-none : s ≤ mostPayload → s ≤ room → Settled L X c room fv.No
       unfolding roomed
       left-none k l = record {
         is = record {
@@ -169,12 +172,12 @@ module _ (L X : List ℕ) (c : Cursor) (room : ℕ) where
           spent-all = omega arith;
           fits = omega arith;
           gives = λ w m b.
-              let f : 1 + (length w + 7) / 8 ≤ min room 8192 = rw b at (small k l) in
-              all-spent w m ∙ rw (le-leb (1 + (length w + 7) / 8) (min room 8192) f);
+              let f : 1 + (length w + 7) / 8 ≤ min room mostPayload = rw b at (small k l) in
+              all-spent w m ∙ rw (le-leb (1 + (length w + 7) / 8) (min room mostPayload) f);
         };
       }
         where
-          small : s ≤ 8192 → s ≤ room → 1 + (c .bits + 7) / 8 ≤ min room 8192
+          small : s ≤ mostPayload → s ≤ room → 1 + (c .bits + 7) / 8 ≤ min room mostPayload
           small k l = omega arith
 
 pub ruleset settled-ways = (left-blank, left-event, left-text, left-large, left-narrow, left-none)

@@ -4,6 +4,8 @@ use mathlib.Core.Path.{_≡_}
 use mathlib.Core.Bool.{Bool, true, false, cond}
 use mathlib.Core.List.{List, [], _∷_}
 use lib.Dec.{ltb}
+use Rattle.numbers.specs.Refusal as refusal
+use Rattle.numbers.specs.Refusal.{noReading}
 use Rattle.table.specs.First.Verdict.{right}
 use Rattle.table.specs.Valid.{verdict}
 use Rattle.table.specs.Words.{particlesIn}
@@ -45,9 +47,9 @@ pub record Within (t : List ℕ) (first step n : ℕ) : Type 0 where
 unfoldable pub flagFor : ℕ → ℕ → ℕ
 flagFor mode q = flagIn (modeIs mode) q
 
--- 6, or 18 where no event is left
+-- too deep, or no reading where no event is left
 unfoldable pub deepAt : List ℕ → ℕ → Step
-deepAt L i = cond (ltb i (eventsIn L)) (Refuse 6 i) (Refuse 18 i)
+deepAt L i = cond (ltb i (eventsIn L)) (Refuse refusal.depth i) (Refuse noReading i)
 
 module _ (t : List ℕ) (mode d : ℕ) where
   unfoldable pub particle· : ℕ → List Bare → List ℕ → Out

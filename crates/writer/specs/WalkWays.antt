@@ -9,6 +9,9 @@ use borrow.Author.Tests.{lt-ltb, le-ltb}
 use mir.Val.{Fits as FitsIn}
 use mir.Syntax.{w32}
 use lib.ListN.{length, getD}
+use Rattle.numbers.specs.Refusal as refusal
+use Rattle.numbers.specs.Refusal.{notHeld, noReading}
+use Rattle.numbers.specs.Kind as kinds
 use Rattle.wire.specs.Res.{Res, got}
 use Rattle.table.specs.First.Verdict.{right}
 use Rattle.table.specs.Valid.{verdict}
@@ -64,11 +67,11 @@ module _ (mode : Mode) (held : ℕ → Bool) (T : Table) where
   attributes-are (a ∷ l) M X = steps.attributes-more mode held T M X a l ∙ (λ j. along (attribute-is a M X j) (λ N U. attributes-are l N U j))
 
 -- too_deep
-pub deep-here : (L : List ℕ) (i : ℕ) → i < eventsIn L → Refuse 6 i ≡ deepAt L i
+pub deep-here : (L : List ℕ) (i : ℕ) → i < eventsIn L → Refuse refusal.depth i ≡ deepAt L i
 unfolding deepAt
 deep-here L i h = rw (lt-ltb i (eventsIn L) h)
 
-pub deep-past : (L : List ℕ) (i : ℕ) → eventsIn L ≤ i → Refuse 18 i ≡ deepAt L i
+pub deep-past : (L : List ℕ) (i : ℕ) → eventsIn L ≤ i → Refuse noReading i ≡ deepAt L i
 unfolding deepAt
 deep-past L i h = rw (le-ltb i (eventsIn L) h)
 
@@ -115,33 +118,33 @@ said false e = sym e
 
 -- element
 module _ (L X : List ℕ) (c : Cursor) (N : List ℕ) (r : Ready L X N c) (t : List ℕ) (mode d name kind : ℕ) (x q b : ℕ) (a : x ≡ getD L (4 * c .event + 2) 0) (z : q ≡ flagFor mode x)
-    (j : b ≡ judged L (c .event) (wanted 1 name q)) where
-  start-is : asStart (modeIs mode) name (eventAt L (c .event)) ≡ wanted 1 name q
+    (j : b ≡ judged L (c .event) (wanted kinds.start name q)) where
+  start-is : asStart (modeIs mode) name (eventAt L (c .event)) ≡ wanted kinds.start name q
   unfolding flagFor
   start-is = rw (z, a)
 
   pub element-unlike : 0 < b → Walks L X (element· t mode d name kind) c N (Refuse b (c .event)) N
   unfolding element· elementOut
-  element-unlike p = record { is = record { out = taken-unlike L (c .event) (wanted 1 name q) (asStart (modeIs mode) name) _ start-is b j p (r .inside); inside = r .inside } }
+  element-unlike p = record { is = record { out = taken-unlike L (c .event) (wanted kinds.start name q) (asStart (modeIs mode) name) _ start-is b j p (r .inside); inside = r .inside } }
 
   module _ (y : b ≤ 0) where
-    like : judged L (c .event) (wanted 1 name q) ≡ 0
+    like : judged L (c .event) (wanted kinds.start name q) ≡ 0
     like = sym j ∙ omega arith
 
     within : c .event < eventsIn L
-    within = judged-in L (c .event) (wanted 1 name q) like
+    within = judged-in L (c .event) (wanted kinds.start name q) like
 
     matched-q : eventAt L (c .event) .q ≡ q
-    matched-q = sym (ap (λ (f : Bare). f .q) (unlike-none (wanted 1 name q) (eventAt L (c .event)) (sym (judged-is L (c .event) (wanted 1 name q) within) ∙ like)))
+    matched-q = sym (ap (λ (f : Bare). f .q) (unlike-none (wanted kinds.start name q) (eventAt L (c .event)) (sym (judged-is L (c .event) (wanted kinds.start name q) within) ∙ like)))
 
     abbrev body : Out
     body = allowed (heldOf t kind) (suc (length (eventsAt L (c .event + 1)))) (sealed (modeIs mode) q (inside· t mode d kind (eventsAt L (c .event + 1)) (textsAt X (c .used))))
 
     element-is : element· t mode d name kind (eventsAt L (c .event)) (textsAt X (c .used)) ≡ body
     unfolding element· elementOut
-    element-is = taken-like L (c .event) (wanted 1 name q) (asStart (modeIs mode) name) _ start-is like ∙ rw matched-q
+    element-is = taken-like L (c .event) (wanted kinds.start name q) (asStart (modeIs mode) name) _ start-is like ∙ rw matched-q
 
-    pub element-unheld : (h : Bool) → h ≡ heldOf t kind → not h ≡ true → Walks L X (element· t mode d name kind) c N (Refuse 9 (c .event)) N
+    pub element-unheld : (h : Bool) → h ≡ heldOf t kind → not h ≡ true → Walks L X (element· t mode d name kind) c N (Refuse notHeld (c .event)) N
     unfolding allowed
     element-unheld h e g =
         let i = within in

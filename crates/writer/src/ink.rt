@@ -14,13 +14,13 @@ ghost use Rattle.writer.specs.Ink.{Zeros};
 fn first(mode: u32) -> u8
     ensures { λ r. ⌜ r ≡ modeByte (modeIs mode) ⌝ }
 {
-    if mode == 0 {
-        return 0x0F;
+    if mode == numbers::mode::NEVER {
+        return numbers::mode::NEVER_BYTE;
     }
-    if mode == 1 {
-        return 0x4F;
+    if mode == numbers::mode::OPTIONAL {
+        return numbers::mode::OPTIONAL_BYTE;
     }
-    0x8F
+    numbers::mode::ALWAYS_BYTE
 }
 
 pub fn draw(payload: &mut [u8], mode: u32, texts: &[u8], notes: &[u32], n: usize)

@@ -10,6 +10,8 @@ use front::settled;
 use ink::draw;
 use notes::Cursor;
 use notes::Step;
+use numbers::limit;
+use numbers::refusal;
 use walk::element;
 use wire::Bits;
 use wire::Bytes;
@@ -53,7 +55,7 @@ fn accepted(mode: u32, events: u32, text: u32, bits: u32) -> Answer
     ensures { λ r. ⌜ answerIs r ≡ says mode events text bits ⌝ }
 {
     Answer {
-        number: 0,
+        number: refusal::ACCEPTED,
         place: 0,
         mode,
         events,
@@ -83,6 +85,12 @@ fn finish(
     accepted(mode, n as u32, c.used as u32, 8 + c.bits)
 }
 
+// Rows that may still be opened below the root.
+const BELOW_ROOT: usize = limit::MOST_OPEN as usize - 1;
+
+// Words of a list that is short: its notes are lent less room, as room is zeroed whole before it is used.
+const FEW_WORDS: usize = 512;
+
 // The walk, with room for every event's note, then what it came to, into a payload that is zero.
 fn noted(
     table: &[u32],
@@ -110,7 +118,7 @@ fn noted(
         mode,
         root_name,
         root_type,
-        63,
+        BELOW_ROOT,
         start,
     );
     match r {
@@ -136,8 +144,8 @@ pub fn write(
     if let Fault::At(n, p) = f {
         return refused(n, p);
     }
-    if events.len() <= 512 {
-        let mut few = [0u32; 512];
+    if events.len() <= FEW_WORDS {
+        let mut few = [0u32; FEW_WORDS];
         return noted(
             table,
             root_name,
@@ -149,7 +157,7 @@ pub fn write(
             payload,
         );
     }
-    let mut all = [0u32; 8192];
+    let mut all = [0u32; limit::MOST_EVENT_WORDS];
     noted(
         table,
         root_name,

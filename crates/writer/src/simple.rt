@@ -4,6 +4,7 @@ use notes::Step;
 use notes::leaves::coded;
 use notes::leaves::mark;
 use notes::leaves::text_value;
+use numbers::kind;
 use table::rows::attribute;
 use table::rows::word;
 use value::Code;
@@ -35,7 +36,7 @@ pub fn value(
     let i = at.event;
     let v = word(events, 4 * i + 1);
     match simple(kind, b, c) {
-        Form::Number(code) => coded(events, texts, notes, at, 3, v, 0, code, v),
+        Form::Number(code) => coded(events, texts, notes, at, kind::VALUE, v, 0, code, v),
         Form::Text => text_value(events, texts, notes, at, v),
     }
 }
@@ -46,7 +47,7 @@ pub fn pick(events: &[u32], texts: &[u8], notes: &mut [u32], count: u32, v: u32,
     ensures { λ r. ⌜ Walks (now (events .entry)) (now (texts .entry)) (alone (picked count)) at (now (notes .entry)) r (now (notes .exit)) ⌝ }
 {
     let code = Code::Plain(Inner::Choice(count));
-    coded(events, texts, notes, at, 4, v, 0, code, v)
+    coded(events, texts, notes, at, kind::PICK, v, 0, code, v)
 }
 
 // A count v of an occurs row.
@@ -63,7 +64,7 @@ pub fn count(
     ensures { λ r. ⌜ Walks (now (events .entry)) (now (texts .entry)) (alone (counted least most)) at (now (notes .entry)) r (now (notes .exit)) ⌝ }
 {
     let code = times(least, most);
-    coded(events, texts, notes, at, 5, v, 0, code, v)
+    coded(events, texts, notes, at, kind::TIMES, v, 0, code, v)
 }
 
 // A required attribute, then its value.
@@ -80,7 +81,7 @@ pub fn required(
     requires { ⌜ Ready (now events) (now texts) (now notes) at ⌝ }
     ensures { λ r. ⌜ Walks (now (events .entry)) (now (texts .entry)) (required· name kind b c) at (now (notes .entry)) r (now (notes .exit)) ⌝ }
 {
-    let r = mark(events, texts, notes, at, 2, name, 1);
+    let r = mark(events, texts, notes, at, kind::ATTRIBUTE, name, 1);
     let Step::Go(e) = r else {
         return r;
     };
@@ -110,7 +111,7 @@ pub fn optional(
     let i = at.event;
     let q = flag(word(events, 4 * i + 2));
     let code = Code::Plain(Inner::Choice(2));
-    let r = coded(events, texts, notes, at, 2, name, q, code, q);
+    let r = coded(events, texts, notes, at, kind::ATTRIBUTE, name, q, code, q);
     let Step::Go(e) = r else {
         return r;
     };

@@ -4,11 +4,14 @@ use notes::Cursor;
 use notes::Step;
 use notes::leaves::close;
 use notes::leaves::unlike;
+use numbers::kind;
+use numbers::refusal;
 use table::Content;
 use table::Particle;
 use table::rows;
 ghost use mathlib.Core.Path.{_≡_};
 ghost use Prim.Native.Nat.{_+_, _-_, _*_, _<_, _≤_};
+ghost use Rattle.numbers.specs.Limit.{mostOpen};
 ghost use Rattle.table.specs.Words.{typesIn, particlesIn};
 ghost use Rattle.notes.specs.Walk.{Ready, Walks};
 ghost use Rattle.writer.specs.Meaning.{Right, Within, flagFor, deepAt, element·, inside·, content·, particle·, choose·, occur·, rounds·};
@@ -17,10 +20,10 @@ ghost use Rattle.writer.specs.Meaning.{Right, Within, flagFor, deepAt, e
 fn flag_in(mode: u32, q: u32) -> u32
     ensures { λ r. ⌜ r ≡ flagFor mode q ⌝ }
 {
-    if mode == 0 {
+    if mode == numbers::mode::NEVER {
         return 0;
     }
-    if mode == 1 {
+    if mode == numbers::mode::OPTIONAL {
         if q < 1 {
             return 0;
         }
@@ -41,18 +44,18 @@ pub fn element(
     depth: usize,
     c: Cursor,
 ) -> Step
-    requires { ⌜ (Ready (now events) (now texts) (now notes) c) × (Right (now table)) × (kind < typesIn (now table)) × (depth ≤ 64) ⌝ }
+    requires { ⌜ (Ready (now events) (now texts) (now notes) c) × (Right (now table)) × (kind < typesIn (now table)) × (depth ≤ mostOpen) ⌝ }
     ensures { λ r. ⌜ Walks (now (events .entry)) (now (texts .entry)) (element· (now (table .entry)) mode depth name kind) c (now (notes .entry)) r (now (notes .exit)) ⌝ }
 {
     let at = c.event;
     let q = flag_in(mode, rows::word(events, 4 * at + 2));
-    let bad = unlike(events, at, 1, name, q);
+    let bad = unlike(events, at, kind::START, name, q);
     if 0 < bad {
         return Step::Refuse(bad, at);
     }
     let held = rows::held(table, kind);
     if !held {
-        return Step::Refuse(9, at);
+        return Step::Refuse(refusal::NOT_HELD, at);
     }
     let o = Cursor {
         event: at + 1,
@@ -77,7 +80,7 @@ pub fn inside(
     depth: usize,
     c: Cursor,
 ) -> Step
-    requires { ⌜ (Ready (now events) (now texts) (now notes) c) × (Right (now table)) × (kind < typesIn (now table)) × (depth ≤ 64) ⌝ }
+    requires { ⌜ (Ready (now events) (now texts) (now notes) c) × (Right (now table)) × (kind < typesIn (now table)) × (depth ≤ mostOpen) ⌝ }
     ensures { λ r. ⌜ Walks (now (events .entry)) (now (texts .entry)) (inside· (now (table .entry)) mode depth kind) c (now (notes .entry)) r (now (notes .exit)) ⌝ }
 {
     let s = rows::span(table, kind);
@@ -101,7 +104,7 @@ pub fn content(
     depth: usize,
     c: Cursor,
 ) -> Step
-    requires { ⌜ (Ready (now events) (now texts) (now notes) c) × (Right (now table)) × (kind < typesIn (now table)) × (depth ≤ 64) ⌝ }
+    requires { ⌜ (Ready (now events) (now texts) (now notes) c) × (Right (now table)) × (kind < typesIn (now table)) × (depth ≤ mostOpen) ⌝ }
     ensures { λ r. ⌜ Walks (now (events .entry)) (now (texts .entry)) (content· (now (table .entry)) mode depth kind) c (now (notes .entry)) r (now (notes .exit)) ⌝ }
 {
     match rows::content(table, kind) {
@@ -111,14 +114,14 @@ pub fn content(
     }
 }
 
-// 6, where an event is left.
+// DEPTH, where an event is left.
 fn too_deep(events: &[u32], at: usize) -> Step
     ensures { λ r. ⌜ r ≡ deepAt (now (events .entry)) at ⌝ }
 {
     if at < events.len() / 4 {
-        return Step::Refuse(6, at);
+        return Step::Refuse(refusal::DEPTH, at);
     }
-    Step::Refuse(18, at)
+    Step::Refuse(refusal::NO_READING, at)
 }
 
 // The particle row i, where depth rows may still be opened.
@@ -132,7 +135,7 @@ pub fn particle(
     depth: usize,
     c: Cursor,
 ) -> Step
-    requires { ⌜ (Ready (now events) (now texts) (now notes) c) × (Right (now table)) × (i < particlesIn (now table)) × (depth ≤ 64) ⌝ }
+    requires { ⌜ (Ready (now events) (now texts) (now notes) c) × (Right (now table)) × (i < particlesIn (now table)) × (depth ≤ mostOpen) ⌝ }
     ensures { λ r. ⌜ Walks (now (events .entry)) (now (texts .entry)) (particle· (now (table .entry)) mode depth i) c (now (notes .entry)) r (now (notes .exit)) ⌝ }
 {
     if depth == 0 {
@@ -176,7 +179,7 @@ pub fn choose(
     depth: usize,
     c: Cursor,
 ) -> Step
-    requires { ⌜ (Ready (now events) (now texts) (now notes) c) × (Right (now table)) × (first + count ≤ particlesIn (now table)) × (depth ≤ 64) ⌝ }
+    requires { ⌜ (Ready (now events) (now texts) (now notes) c) × (Right (now table)) × (first + count ≤ particlesIn (now table)) × (depth ≤ mostOpen) ⌝ }
     ensures { λ r. ⌜ Walks (now (events .entry)) (now (texts .entry)) (choose· (now (table .entry)) mode depth first count) c (now (notes .entry)) r (now (notes .exit)) ⌝ }
 {
     let at = c.event;
@@ -201,7 +204,7 @@ pub fn occur(
     depth: usize,
     c: Cursor,
 ) -> Step
-    requires { ⌜ (Ready (now events) (now texts) (now notes) c) × (Right (now table)) × (child < particlesIn (now table)) × (depth ≤ 64) ⌝ }
+    requires { ⌜ (Ready (now events) (now texts) (now notes) c) × (Right (now table)) × (child < particlesIn (now table)) × (depth ≤ mostOpen) ⌝ }
     ensures { λ r. ⌜ Walks (now (events .entry)) (now (texts .entry)) (occur· (now (table .entry)) mode depth child least most) c (now (notes .entry)) r (now (notes .exit)) ⌝ }
 {
     let at = c.event;
@@ -226,7 +229,7 @@ pub fn rounds(
     depth: usize,
     c: Cursor,
 ) -> Step
-    requires { ⌜ (Ready (now events) (now texts) (now notes) c) × (Right (now table)) × (Within (now table) first step n) × (depth ≤ 64) ⌝ }
+    requires { ⌜ (Ready (now events) (now texts) (now notes) c) × (Right (now table)) × (Within (now table) first step n) × (depth ≤ mostOpen) ⌝ }
     ensures { λ r. ⌜ Walks (now (events .entry)) (now (texts .entry)) (rounds· (now (table .entry)) mode depth n first step) c (now (notes .entry)) r (now (notes .exit)) ⌝ }
 {
     let mut at = c;

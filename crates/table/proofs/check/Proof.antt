@@ -1,5 +1,4 @@
 -- `check`: the order of the check, and one answer by hand, since `search` loses its way in so many facts.
-use native.Mathlib.Omega.{arith}
 use Rattle.table.proofs.Order.{check-ways, length-wrong}
 use borrow.Author.Needs.{needs}
 use Rattle.table.proofs.check.Statement.{statement}
@@ -26,37 +25,13 @@ word-requires-2 c κs = tt
 word-requires-3 : tie.Need-word-requires-3
 word-requires-3 c κs = tt
 
-cast-size : tie.Need-cast-size
-cast-size c = omega arith
-
-mul-size : tie.Need-mul-size
-mul-size c = omega arith
-
-add-size : tie.Need-add-size
-add-size c = omega arith
-
-cast-size-2 : tie.Need-cast-size-2
-cast-size-2 c = omega arith
-
-mul-size-2 : tie.Need-mul-size-2
-mul-size-2 c = omega arith
-
-add-size-2 : tie.Need-add-size-2
-add-size-2 c = omega arith
-
-cast-size-3 : tie.Need-cast-size-3
-cast-size-3 c = omega arith
-
-mul-size-3 : tie.Need-mul-size-3
-mul-size-3 c = omega arith
-
-add-size-3 : tie.Need-add-size-3
-add-size-3 c = omega arith
+particle-at-requires : tie.Need-particle-at-requires
+particle-at-requires c κs = tt
 
 returns-2 : tie.Need-returns-2
 returns-2 c =
-    length-wrong _ _ (c .before .before .before .before .before .before .given .ensures) (c .before .before .before .before .enum-told .given .1) _ _ _
-    (c .before .before .before .word .ensures) (c .before .before .word2 .ensures) (c .before .word3 .ensures) (c .if1 .taken)
+    length-wrong _ _ (c .before .before .before .before .before .before .before .given .ensures) (c .before .before .before .before .before .enum-told .given .1) _ _ _
+    (c .before .before .before .before .word .ensures) (c .before .before .before .word2 .ensures) (c .before .before .word3 .ensures) _ (c .before .particle-at .ensures) (c .if1 .taken)
 
 every-row-requires : tie.Need-every-row-requires
 every-row-requires c κs = tt
@@ -75,15 +50,7 @@ check-spec =
     word-requires
     word-requires-2
     word-requires-3
-    cast-size
-    mul-size
-    add-size
-    cast-size-2
-    mul-size-2
-    add-size-2
-    cast-size-3
-    mul-size-3
-    add-size-3
+    particle-at-requires
     returns-2
     every-row-requires
     returns-3)

@@ -4,29 +4,14 @@ use borrow.Author.Needs.{needs}
 use Rattle.table.proofs.attribute_rows.row.Statement.{statement}
 use Rattle.table.proofs.attribute_rows.row.Tie as tie
 
-mul-base : tie.Need-mul-base
-mul-base c = search needs
-
-add-base : tie.Need-add-base
-add-base c = search needs
-
-mul-base-2 : tie.Need-mul-base-2
-mul-base-2 c = search needs
-
-add-base-2 : tie.Need-add-base-2
-add-base-2 c = search needs
+attribute-at-requires : tie.Need-attribute-at-requires
+attribute-at-requires c κs = search needs
 
 four-from-requires : tie.Need-four-from-requires
 four-from-requires c κs = search needs
 
-cast-simple : tie.Need-cast-simple
-cast-simple c = search needs
-
-mul-simple : tie.Need-mul-simple
-mul-simple c = search needs
-
-add-simple : tie.Need-add-simple
-add-simple c = search needs
+type-at-requires : tie.Need-type-at-requires
+type-at-requires c κs = search needs
 
 four-from-requires-2 : tie.Need-four-from-requires-2
 four-from-requires-2 c κs = search needs
@@ -40,8 +25,8 @@ enum-told c = search needs
 enum-known-k : tie.Need-enum-known-k
 enum-known-k c = search needs
 
-add-t17 : tie.Need-add-t17
-add-t17 c = search attribute-row-ways
+add-place : tie.Need-add-place
+add-place c = search attribute-row-ways
 
 returns : tie.Need-returns
 returns c = search attribute-row-ways
@@ -53,18 +38,13 @@ pub row-spec : {M : Type 1} → statement M
 row-spec =
     tie.close
     (tie.spec
-    mul-base
-    add-base
-    mul-base-2
-    add-base-2
+    attribute-at-requires
     four-from-requires
-    cast-simple
-    mul-simple
-    add-simple
+    type-at-requires
     four-from-requires-2
     words-requires
     enum-told
     enum-known-k
-    add-t17
+    add-place
     returns
     returns-2)

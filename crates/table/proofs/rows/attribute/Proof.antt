@@ -7,20 +7,8 @@ use Rattle.table.proofs.rows.attribute.Tie as tie
 word-requires : tie.Need-word-requires
 word-requires c κs = tt
 
-cast-base : tie.Need-cast-base
-cast-base c = omega arith
-
-mul-base : tie.Need-mul-base
-mul-base c = omega arith
-
-add-base : tie.Need-add-base
-add-base c = omega arith
-
-mul-base-2 : tie.Need-mul-base-2
-mul-base-2 c = omega arith
-
-add-base-2 : tie.Need-add-base-2
-add-base-2 c = omega arith
+attribute-at-requires : tie.Need-attribute-at-requires
+attribute-at-requires c κs = tt
 
 word-requires-2 : tie.Need-word-requires-2
 word-requires-2 c κs = tt
@@ -37,14 +25,8 @@ add-word-2 c = omega arith
 word-requires-4 : tie.Need-word-requires-4
 word-requires-4 c κs = tt
 
-cast-simple : tie.Need-cast-simple
-cast-simple c = omega arith
-
-mul-simple : tie.Need-mul-simple
-mul-simple c = omega arith
-
-add-simple : tie.Need-add-simple
-add-simple c = omega arith
+type-at-requires : tie.Need-type-at-requires
+type-at-requires c κs = tt
 
 add-word-3 : tie.Need-add-word-3
 add-word-3 c = omega arith
@@ -72,19 +54,13 @@ attribute-spec =
     tie.close
     (tie.spec
     word-requires
-    cast-base
-    mul-base
-    add-base
-    mul-base-2
-    add-base-2
+    attribute-at-requires
     word-requires-2
     add-word
     word-requires-3
     add-word-2
     word-requires-4
-    cast-simple
-    mul-simple
-    add-simple
+    type-at-requires
     add-word-3
     word-requires-5
     add-word-4

@@ -1,15 +1,12 @@
 -- `content`: decoded from the words read.
 use native.Mathlib.Omega.{arith}
-use Rattle.table.specs.Rows.{tableOf, contentOf}
+use Rattle.table.specs.Rows.{tableOf}
 use Rattle.table.proofs.Decoded.{read-ways}
 use Rattle.table.proofs.rows.content.Statement.{statement}
 use Rattle.table.proofs.rows.content.Tie as tie
 
-mul-base : tie.Need-mul-base
-mul-base c = omega arith
-
-add-base : tie.Need-add-base
-add-base c = omega arith
+type-at-requires : tie.Need-type-at-requires
+type-at-requires c κs = tt
 
 add-word : tie.Need-add-word
 add-word c = omega arith
@@ -18,7 +15,7 @@ word-requires : tie.Need-word-requires
 word-requires c κs = tt
 
 returns : tie.Need-returns
-unfolding tableOf contentOf
+unfolding tableOf
 returns c = search read-ways
 
 add-word-2 : tie.Need-add-word-2
@@ -40,19 +37,18 @@ word-requires-4 : tie.Need-word-requires-4
 word-requires-4 c κs = tt
 
 returns-2 : tie.Need-returns-2
-unfolding tableOf contentOf
+unfolding tableOf
 returns-2 c = search read-ways
 
 returns-3 : tie.Need-returns-3
-unfolding tableOf contentOf
+unfolding tableOf
 returns-3 c = search read-ways
 
 pub content-spec : {M : Type 1} → statement M
 content-spec =
     tie.close
     (tie.spec
-    mul-base
-    add-base
+    type-at-requires
     add-word
     word-requires
     returns

@@ -1,15 +1,11 @@
 -- `span`: two words of the type row.
 use native.Mathlib.Omega.{arith}
 use Rattle.table.specs.Rows.{firstOf, countOf}
-use borrow.Author.Needs.{needs}
 use Rattle.table.proofs.rows.span.Statement.{statement}
 use Rattle.table.proofs.rows.span.Tie as tie
 
-mul-base : tie.Need-mul-base
-mul-base c = omega arith
-
-add-base : tie.Need-add-base
-add-base c = omega arith
+type-at-requires : tie.Need-type-at-requires
+type-at-requires c κs = tt
 
 add-word : tie.Need-add-word
 add-word c = omega arith
@@ -25,9 +21,9 @@ word-requires-2 c κs = tt
 
 returns : tie.Need-returns
 unfolding firstOf countOf
-returns c = search needs
+returns c = record { first-is = cc; count-is = cc }
 
 pub span-spec : {M : Type 1} → statement M
 span-spec =
     tie.close
-    (tie.spec mul-base add-base add-word word-requires add-word-2 word-requires-2 returns)
+    (tie.spec type-at-requires add-word word-requires add-word-2 word-requires-2 returns)

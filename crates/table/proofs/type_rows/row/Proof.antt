@@ -4,11 +4,8 @@ use borrow.Author.Needs.{needs}
 use Rattle.table.proofs.type_rows.row.Statement.{statement}
 use Rattle.table.proofs.type_rows.row.Tie as tie
 
-mul-base : tie.Need-mul-base
-mul-base c = search needs
-
-add-base : tie.Need-add-base
-add-base c = search needs
+type-at-requires : tie.Need-type-at-requires
+type-at-requires c κs = search needs
 
 seven-from-requires : tie.Need-seven-from-requires
 seven-from-requires c κs = search needs
@@ -19,8 +16,8 @@ front-requires c κs = search needs
 enum-known-h : tie.Need-enum-known-h
 enum-known-h c = search needs
 
-add-t12 : tie.Need-add-t12
-add-t12 c = search type-row-ways
+add-place : tie.Need-add-place
+add-place c = search type-row-ways
 
 returns : tie.Need-returns
 returns c = search type-row-ways
@@ -37,8 +34,8 @@ enum-told-2 c = search needs
 enum-known-k : tie.Need-enum-known-k
 enum-known-k c = search needs
 
-add-t15 : tie.Need-add-t15
-add-t15 c = search type-row-ways
+add-place-2 : tie.Need-add-place-2
+add-place-2 c = search type-row-ways
 
 returns-2 : tie.Need-returns-2
 returns-2 c = search type-row-ways
@@ -50,17 +47,16 @@ pub row-spec : {M : Type 1} → statement M
 row-spec =
     tie.close
     (tie.spec
-    mul-base
-    add-base
+    type-at-requires
     seven-from-requires
     front-requires
     enum-known-h
-    add-t12
+    add-place
     returns
     enum-told
     by-content-requires
     enum-told-2
     enum-known-k
-    add-t15
+    add-place-2
     returns-2
     returns-3)

@@ -1,0 +1,7 @@
+pub mod Content
+pub mod Kind
+pub mod Limit
+pub mod Mode
+pub mod Particle
+pub mod Refusal
+pub mod Simple

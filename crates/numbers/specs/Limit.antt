@@ -1,0 +1,65 @@
+-- Sizes, and how much there may be of each thing. What each is stands in src/limit.rt.
+use Prim.Native.Nat.{ℕ}
+
+abbrev pub area : ℕ
+area = 152
+
+abbrev pub bitsArea : ℕ
+bitsArea = 12
+
+abbrev pub event : ℕ
+event = 16
+
+abbrev pub mostEvents : ℕ
+mostEvents = 2048
+
+abbrev pub mostEventWords : ℕ
+mostEventWords = 8192
+
+abbrev pub mostPayload : ℕ
+mostPayload = 8192
+
+abbrev pub mostTable : ℕ
+mostTable = 35856
+
+abbrev pub mostTableWords : ℕ
+mostTableWords = 8964
+
+abbrev pub mostOpen : ℕ
+mostOpen = 64
+
+abbrev pub mostNames : ℕ
+mostNames = 64
+
+abbrev pub mostTypes : ℕ
+mostTypes = 256
+
+abbrev pub mostAttributes : ℕ
+mostAttributes = 1024
+
+abbrev pub mostParticles : ℕ
+mostParticles = 1024
+
+abbrev pub mostChildren : ℕ
+mostChildren = 64
+
+abbrev pub mostValues : ℕ
+mostValues = 65536
+
+abbrev pub mostName : ℕ
+mostName = 65535
+
+abbrev pub mostTimes : ℕ
+mostTimes = 65535
+
+abbrev pub unbounded : ℕ
+unbounded = 65536
+
+abbrev pub mostFixed : ℕ
+mostFixed = 65535
+
+abbrev pub mostText : ℕ
+mostText = 4095
+
+abbrev pub mostWord : ℕ
+mostWord = 4294967295

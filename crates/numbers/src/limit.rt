@@ -1,0 +1,44 @@
+// Sizes, and how much there may be of each thing.
+
+// The bytes of an answer area: six words, then MOST_NAMES names of two bytes.
+pub const AREA: usize = 152;
+// The bytes of the lent bit reader's area: three words.
+pub const BITS_AREA: usize = 12;
+// The bytes of an event: four words.
+pub const EVENT: usize = 16;
+// The most events of a reading or a list: what is lent for events and notes on the stack has room for so many.
+pub const MOST_EVENTS: usize = 2048;
+// Their words.
+pub const MOST_EVENT_WORDS: usize = 4 * MOST_EVENTS;
+// The most bytes of a payload: its bits are counted in a word, 8 times over.
+pub const MOST_PAYLOAD: usize = 8192;
+// The bytes of the largest table that is right, with MOST_TYPES, MOST_ATTRIBUTES and MOST_PARTICLES rows.
+pub const MOST_TABLE: usize = 35856;
+// Its words: what is lent for a table on the stack has room for so many.
+pub const MOST_TABLE_WORDS: usize = MOST_TABLE / 4;
+// The most elements and particle rows that are open at once: reader and writer call themselves once for each, so the stack depends on it.
+pub const MOST_OPEN: u32 = 64;
+// The most names of a path: of the rows that are open each may be an element.
+pub const MOST_NAMES: usize = 64;
+// The most types, attribute rows and particle rows of a table.
+pub const MOST_TYPES: u32 = 256;
+
+pub const MOST_ATTRIBUTES: u32 = 1024;
+
+pub const MOST_PARTICLES: u32 = 1024;
+// The most child rows of a sequence or a choice.
+pub const MOST_CHILDREN: u32 = 64;
+// The most values of an enumeration.
+pub const MOST_VALUES: u32 = 65536;
+// The greatest name of an element or an attribute: the path holds it in two bytes.
+pub const MOST_NAME: u32 = 65535;
+// The greatest count of an occurs row; where its most is UNBOUNDED too.
+pub const MOST_TIMES: u32 = 65535;
+// The most of an occurs row that has no end.
+pub const UNBOUNDED: u32 = 65536;
+// A range whose ends lie at most so far apart has a fixed width, any other a vluimsbf5.
+pub const MOST_FIXED: u32 = 65535;
+// The most bytes of a text.
+pub const MOST_TEXT: u32 = 4095;
+// The greatest word: an unsigned value, a length and a place go up to it.
+pub const MOST_WORD: u32 = 4294967295;

@@ -1,0 +1,16 @@
+// The simple kinds, and what the word p of a Value is.
+
+// 0 or 1.
+pub const BOOLEAN: u32 = 0;
+// From b to c, all three in two's complement.
+pub const RANGED: u32 = 1;
+// 0 to MOST_WORD.
+pub const UNSIGNED: u32 = 2;
+// In two's complement.
+pub const SIGNED: u32 = 3;
+// One of b, from 0.
+pub const ENUMERATION: u32 = 4;
+// Its bytes of UTF-8, which stand in the texts.
+pub const TEXT: u32 = 5;
+// The bits of an IEEE 754 single.
+pub const FLOAT: u32 = 6;
