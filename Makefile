@@ -5,7 +5,7 @@ PREFIX = /usr/local
 CFLAGS = -O2
 # What every C file here is compiled with, besides.
 STRICT = -std=c99 -pedantic -Wall -Wextra -Wconversion -Wsign-conversion -Werror -Iinclude -Itools
-ARCHIVE = target/staticlib/libhost.a
+ARCHIVE = target/staticlib/libbim.a
 PROGRAMS = host explain holds pack
 TRIALS = refusals faults bits exact stack
 # The programs whose C code runs under the sanitizers. Not stack: it brings a stack of its own, of which they know nothing.
@@ -38,8 +38,8 @@ target/sanitized/%: %.c $(ARCHIVE) $(wildcard include/*.h tools/*.h tests/*.h)
 # The C calls, proved and then compiled: some minutes from nothing. Any change below crates/ proves them again.
 $(ARCHIVE): crates.txt $(shell find crates -path '*/src/*.rt' -o -path '*/specs/*.antt' -o -path '*/proofs/*.antt')
 	@mkdir -p target
-	@echo "rt staticlib host (proves the C calls first)"
-	@rt staticlib host >target/host.log 2>&1 || { cat target/host.log; exit 1; }
+	@echo "rt staticlib bim (proves the C calls first)"
+	@rt staticlib bim >target/bim.log 2>&1 || { cat target/bim.log; exit 1; }
 	@touch $@
 
 # Library, headers and pkg-config file.

@@ -1,4 +1,4 @@
-//! The vectors of examples/codes.txt and examples/payloads.txt as the proved program `cases` takes them, and the lines it
+//! The vectors of examples/codes.txt and examples/payloads.txt as the proved program `test_cases` takes them, and the lines it
 //! has to print.
 //!
 //! A code case is a byte that says what is asked, the number of its bytes, five words, the highest byte first, and the bytes.
@@ -10,7 +10,7 @@ use crate::call::{Call, Read};
 use crate::vectors::case_of;
 use crate::words::{big_endian, unhex};
 
-/// What `cases` is asked, and what it has to print.
+/// What `test_cases` is asked, and what it has to print.
 #[derive(Clone, Debug, PartialEq, Eq)]
 pub struct CodeCase {
     /// Its bytes on standard input.
@@ -19,7 +19,7 @@ pub struct CodeCase {
     pub line: String,
 }
 
-/// The case of one line of codes.txt. `None` where the line has another form, or a word that `cases` cannot take: a width
+/// The case of one line of codes.txt. `None` where the line has another form, or a word that `test_cases` cannot take: a width
 /// of 2^32 choices.
 pub fn code_case(vector: &str) -> Option<CodeCase> {
     let (asked, answer) = vector.trim_end().split_once(" = ")?;

@@ -12,7 +12,7 @@ use lib.ListN.{length, getD, set, take}
 use lib.Seq.{paste, paste-suc, take-paste, take-length, length-take-le}
 use Rattle.io.specs.Counts.{Counts}
 use Rattle.io.specs.Digits.{digits, Fewest}
-use Rattle.signed.specs.Laws.{ordered}
+use Rattle.signed.proofs.Laws.{ordered}
 use Rattle.list.specs.Text.{places, decimal}
 
 pub put-more : (o s out : List ℕ) (at i : ℕ) → at + i < length o → i < length s → out ≡ paste o at s i → set out (at + i) (getD s i 0) ≡ paste o at s (i + 1)

@@ -10,15 +10,15 @@ use lib.ListN.{length, take, drop, length-take, length-drop}
 use lib.Seq.{take-all}
 use Rattle.numbers.specs.Refusal as refusal
 use Rattle.numbers.specs.Limit.{mostTableWords}
-use Rattle.signed.specs.Laws.{ordered}
+use Rattle.signed.proofs.Laws.{ordered}
 use Rattle.table.specs.First.{first, judge, _then_}
 use Rattle.table.specs.Valid.{given, headerWords, verdict, verdictFrom}
 use Rattle.model.specs.Whole.{Reply, reading, afterVerdict}
 use Rattle.model.specs.Whole.Reply.{declined}
 use Rattle.reader.specs.Answers.{Replies}
 use Rattle.reader.specs.declared.Answer.{Answer}
-use Rattle.words.specs.Bytes.{halfFrom, wordsOf}
-use Rattle.words.specs.BytesLaws.{words-length}
+use Rattle.buffers.specs.Bytes.{halfFrom, wordsOf}
+use Rattle.buffers.proofs.BytesLaws.{words-length}
 use Rattle.list.specs.Listing.{countIn, nameAt, typeAt, payloadAt, tableIn, payloadIn, listed, listing}
 
 module _ (W B : ℕ) (r : Answer) (E T : List ℕ) where

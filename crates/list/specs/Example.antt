@@ -19,10 +19,10 @@ use Rattle.model.specs.Model
 use Rattle.model.specs.Items
 use Rattle.model.specs.Read
 use Rattle.model.specs.Whole
-use Rattle.model.specs.Example
-use Rattle.model.specs.Example.{words, worked}
-use Rattle.words.specs.Bytes
-use Rattle.words.specs.Bytes.{bytesOf, two}
+use Rattle.model.proofs.Example
+use Rattle.model.proofs.Example.{words, worked}
+use Rattle.buffers.specs.Bytes
+use Rattle.buffers.specs.Bytes.{bytesOf, two}
 use Rattle.list.specs.Ascii.{ascii}
 use Rattle.list.specs.Listing
 use Rattle.list.specs.Text

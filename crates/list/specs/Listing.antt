@@ -8,7 +8,7 @@ use Rattle.numbers.specs.Refusal as refusal
 use Rattle.numbers.specs.Limit.{mostTableWords}
 use Rattle.model.specs.Whole.{Reply, reading}
 use Rattle.model.specs.Whole.Reply.{declined}
-use Rattle.words.specs.Bytes.{wordFrom, halfFrom, wordsOf}
+use Rattle.buffers.specs.Bytes.{wordFrom, halfFrom, wordsOf}
 
 -- the word count, and where the root name, the root type and the payload stand behind the words
 abbrev pub countIn : List ℕ → ℕ

@@ -1,10 +1,10 @@
 // The input taken apart, and read.
+use buffers::half;
+use buffers::load;
+use buffers::word;
 use numbers::limit;
 use reader::Answer;
 use reader::read;
-use words::half;
-use words::load;
-use words::word;
 ghost use mathlib.Core.Path.{_≡_};
 ghost use mathlib.Core.List.{[]};
 ghost use Prim.Native.Nat.{_+_, _≤_, min};

@@ -1,69 +1,19 @@
--- The writing as the code goes it, one function for a particle row, for rows one after another, for an attribute, a value, content, what is inside
--- an element; and what each is at each case. A proof of code cites these laws and never sees a plan.
-use Prim.Native.Nat.{ℕ, zero, suc, _+_}
-use mathlib.Core.Path.{_≡_, refl, sym, _∙_}
-use mathlib.Core.Bool.{Bool, true, false}
-use mathlib.Core.List.{List, [], _∷_}
-use native.Mathlib.Omega.{arith}
+-- The writing as the code goes it: one function for each part of an element that the code writes by itself.
+use Prim.Native.Nat.{ℕ, suc, _+_}
+use mathlib.Core.Bool.{Bool}
+use mathlib.Core.List.{List, []}
 use lib.ListN.{length}
-use Rattle.wire.specs.Res.{got}
-use Rattle.table.specs.Rows.{Row, Content, Attribute, Table, attributeOf, attributesFrom}
-use Rattle.table.specs.Rows.Content.{empty, simple, particles}
-use Rattle.value.specs.Code.{choice}
-use Rattle.value.specs.Simple.{plain, simpleOf, timesCode}
-use Rattle.model.specs.Model.{Item, Plan, value, maybe, attribute, attributes, contents, rows, within, due, plan}
-use Rattle.model.specs.Model.Plan.{done, deep, item, element}
-use Rattle.model.specs.Model.Item.{required, optional, valued, picked, counted}
-use Rattle.model.specs.Items.{Mode, formOf}
-use Rattle.model.specs.Write.{Bare, Out, wrote, put, along, taken, wordOf, asItem, simpleOut, formOut, itemOut, coded, tooDeep, elementOut, write}
-use Rattle.model.specs.OutLaws.{put-none, along-put, along-along, along-done, taken-along, coded-along}
-use Rattle.model.specs.Join.{join, plan-join, attribute-join, attributes-join}
-
--- which code each item has
-module _ (v : ℕ) (T : List ℕ) where
-  pub out-required : (name : ℕ) → itemOut (required name) v T ≡ got ([], T)
-  unfolding itemOut formOf formOut
-  out-required name = refl
-
-  pub out-optional : (name : ℕ) → itemOut (optional name) v T ≡ simpleOut (plain (choice 2)) v T
-  unfolding itemOut formOf formOut
-  out-optional name = refl
-
-  pub out-valued : (k x y : ℕ) → itemOut (valued k x y) v T ≡ simpleOut (simpleOf k x y) v T
-  unfolding itemOut formOf formOut
-  out-valued k x y = refl
-
-  pub out-picked : (n : ℕ) → itemOut (picked n) v T ≡ simpleOut (plain (choice n)) v T
-  unfolding itemOut formOf formOut
-  out-picked n = refl
-
-  pub out-counted : (least most : ℕ) → itemOut (counted least most) v T ≡ simpleOut (plain (timesCode least most)) v T
-  unfolding itemOut formOf formOut
-  out-counted least most = refl
+use Rattle.table.specs.Rows.{Row, Content, Attribute, Table}
+use Rattle.model.specs.Model.{Item, value, attribute, attributes, contents, rows, within, plan}
+use Rattle.model.specs.Model.Plan.{done}
+use Rattle.model.specs.Items.{Mode}
+use Rattle.model.specs.Write.{Bare, Out, put, taken, wordOf, asItem, itemOut, coded, write}
 
 -- the next event as an item's, and then, with its value and what is left, the rest
 abbrev pub itemThen : Item → List Bare → List ℕ → (ℕ → List Bare → List ℕ → Out) → Out
 itemThen i M T k = taken (asItem i) M (λ e N. coded (itemOut i (wordOf i e) T) (suc (length N)) (λ (w, U). put w (k (wordOf i e) N U)))
 
-item-along : (i : Item) (M : List Bare) (T : List ℕ) (k : ℕ → List Bare → List ℕ → Out) (l : List Bare → List ℕ → Out)
-    → along (itemThen i M T k) l ≡ itemThen i M T (λ v N U. along (k v N U) l)
-item-along i M T k l =
-    taken-along (asItem i) M _ l
-    ∙ (λ j. taken (asItem i) M (λ e N. coded-along (itemOut i (wordOf i e) T) (suc (length N)) (λ (w, U). put w (k (wordOf i e) N U)) l j))
-    ∙ (λ j. taken (asItem i) M (λ e N. coded (itemOut i (wordOf i e) T) (suc (length N)) (λ (w, U). sym (along-put w (k (wordOf i e) N U) l) j)))
-
 module _ (mode : Mode) (held : ℕ → Bool) where
-  pub write-join : (P Q : Plan) (M : List Bare) (T : List ℕ) → write mode held (join P Q) M T ≡ along (write mode held P M T) (λ N U. write mode held Q N U)
-  unfolding write join along tooDeep
-  write-join done Q M T = sym (put-none (write mode held Q M T))
-  write-join deep Q [] T = refl
-  write-join deep Q (e ∷ M) T = refl
-  write-join (item i k) Q M T =
-      (λ j. itemThen i M T (λ v N U. write-join (k v) Q N U j)) ∙ sym (item-along i M T (λ v N U. write mode held (k v) N U) (λ N U. write mode held Q N U))
-  write-join (element name type f P) Q M T =
-      let o : Out = elementOut mode held (λ N U. write mode held (f type) N U) name type M T in
-      (λ j. along o (λ N U. write-join P Q N U j)) ∙ sym (along-along o (λ N U. write mode held P N U) (λ N U. write mode held Q N U))
-
   module _ (T : Table) where
     abbrev pub particleOut : ℕ → Row → List Bare → List ℕ → Out
     particleOut d row M X = write mode held (plan T d row done) M X
@@ -91,102 +41,3 @@ module _ (mode : Mode) (held : ℕ → Bool) where
 
     abbrev pub insideOut : ℕ → ℕ → List Bare → List ℕ → Out
     insideOut d t M X = write mode held (within T (plan T d) t) M X
-
-    module _ (M : List Bare) (X : List ℕ) where
-      pub particle-deep : (row : Row) → particleOut zero row M X ≡ tooDeep M
-      unfolding plan write
-      particle-deep row = refl
-
-      pub particle-element : (d name type : ℕ) → particleOut (suc d) (Row.element name type) M X ≡ elementOut mode held (insideOut d type) name type M X
-      unfolding plan due write
-      particle-element d name type = along-done (elementOut mode held (insideOut d type) name type M X)
-
-      pub particle-sequence : (d first count : ℕ) → particleOut (suc d) (Row.sequence first count) M X ≡ childrenOut d count first M X
-      unfolding plan due
-      particle-sequence d first count = refl
-
-      pub particle-choice : (d first count : ℕ) → particleOut (suc d) (Row.choice first count) M X
-          ≡ itemThen (picked count) M X (λ v N U. particleOut d (T .row (first + v)) N U)
-      unfolding plan due write
-      particle-choice d first count = refl
-
-      pub particle-occurs : (d child least most : ℕ) → particleOut (suc d) (Row.occurs child least most) M X
-          ≡ itemThen (counted least most) M X (λ v N U. repeatsOut d v child N U)
-      unfolding plan due write
-      particle-occurs d child least most = refl
-
-      pub rounds-none : (d : ℕ) (g : ℕ → Row) → roundsOut d zero g M X ≡ wrote [] M X
-      unfolding rows write
-      rounds-none d g = refl
-
-      pub rounds-more : (d n : ℕ) (g : ℕ → Row) → roundsOut d (suc n) g M X ≡ along (particleOut d (g 0) M X) (λ N U. roundsOut d n (λ i. g (suc i)) N U)
-      unfolding rows
-      rounds-more d n g =
-          let rest : Plan = rows (plan T d) n (λ i. g (suc i)) done in
-          rw (plan-join T d (g 0) rest) (write-join (plan T d (g 0) done) rest M X)
-
-      pub children-more : (d n first : ℕ) → childrenOut d (suc n) first M X ≡ along (particleOut d (T .row first) M X) (λ N U. childrenOut d n (first + 1) N U)
-      children-more d n first =
-          let zero-on : first + 0 ≡ first = omega arith in
-          let one-on : (i : ℕ) → first + suc i ≡ first + 1 + i = λ i. omega arith in
-          rounds-more d n (λ i. T .row (first + i)) ∙ (λ j. along (particleOut d (T .row (zero-on j)) M X) (λ N U. roundsOut d n (λ i. T .row (one-on i j)) N U))
-
-      pub repeats-more : (d n child : ℕ) → repeatsOut d (suc n) child M X ≡ along (particleOut d (T .row child) M X) (λ N U. repeatsOut d n child N U)
-      repeats-more d n child = rounds-more d n (λ i. T .row child)
-
-      pub value-is : (k x y : ℕ) → valueOut k x y M X ≡ itemThen (valued k x y) M X (λ v N U. wrote [] N U)
-      unfolding value write
-      value-is k x y = refl
-
-      pub attribute-required : (a : Attribute) → a .must ≡ true → attributeOut a M X ≡ itemThen (required (a .name)) M X (λ v N U. valueOut (a .kind) (a .b) (a .c) N U)
-      unfolding attribute write
-      attribute-required a e = rw e
-
-      pub attribute-optional : (a : Attribute) → a .must ≡ false
-          → attributeOut a M X ≡ itemThen (optional (a .name)) M X (λ v N U. write mode held (maybe v (value (a .kind) (a .b) (a .c) done) done) N U)
-      unfolding attribute write
-      attribute-optional a e = rw e
-
-      pub maybe-absent : (a : Attribute) → write mode held (maybe 0 (value (a .kind) (a .b) (a .c) done) done) M X ≡ wrote [] M X
-      unfolding maybe write
-      maybe-absent a = refl
-
-      pub maybe-present : (v : ℕ) (a : Attribute) → write mode held (maybe (suc v) (value (a .kind) (a .b) (a .c) done) done) M X ≡ valueOut (a .kind) (a .b) (a .c) M X
-      unfolding maybe
-      maybe-present v a = refl
-
-      pub attributes-none : attributesOut [] M X ≡ wrote [] M X
-      unfolding attributes write
-      attributes-none = refl
-
-      pub attributes-more : (a : Attribute) (l : List Attribute) → attributesOut (a ∷ l) M X ≡ along (attributeOut a M X) (λ N U. attributesOut l N U)
-      unfolding attributes
-      attributes-more a l = rw (attribute-join (a .must) a (attributes l done)) (write-join (attribute (a .must) a done) (attributes l done) M X)
-
-      -- by attribute rows of a table's words
-      pub attributes-from : (t : List ℕ) (n i : ℕ) → attributesOut (attributesFrom t (suc n) i) M X
-          ≡ along (attributeOut (attributeOf t i) M X) (λ N U. attributesOut (attributesFrom t n (i + 1)) N U)
-      unfolding attributesFrom
-      attributes-from t n i = attributes-more (attributeOf t i) (attributesFrom t n (i + 1))
-
-      pub attributes-from-none : (t : List ℕ) (i : ℕ) → attributesOut (attributesFrom t zero i) M X ≡ wrote [] M X
-      unfolding attributesFrom
-      attributes-from-none t i = attributes-none
-
-      pub content-empty : (d : ℕ) → contentOut d empty M X ≡ wrote [] M X
-      unfolding contents write
-      content-empty d = refl
-
-      pub content-simple : (d k x y : ℕ) → contentOut d (simple k x y) M X ≡ valueOut k x y M X
-      unfolding contents
-      content-simple d k x y = refl
-
-      pub content-particles : (d i : ℕ) → contentOut d (particles i) M X ≡ particleOut d (T .row i) M X
-      unfolding contents
-      content-particles d i = refl
-
-      pub inside-is : (d t : ℕ) → insideOut d t M X ≡ along (attributesOut (T .attributes t) M X) (λ N U. contentOut d (T .content t) N U)
-      unfolding within
-      inside-is d t =
-          rw (attributes-join (T .attributes t) (contents (plan T d) (T .row) (T .content t)))
-          (write-join (attributes (T .attributes t) done) (contents (plan T d) (T .row) (T .content t)) M X)

@@ -1,1 +1,1 @@
-// The definitions that reader and writer are held to, and the theorems about them, are all in specs/.
+// No code: the definitions that reader and writer are held to are in specs/, what is proved of each by itself in proofs/.

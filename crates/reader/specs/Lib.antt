@@ -1,10 +1,5 @@
-pub mod Rest
 pub mod Front
 pub mod Told
 pub mod Meaning
-pub mod Strides
-pub mod Asked
-pub mod Ways
 pub mod Answers
-pub mod Root
-pub mod TwoTables
+pub mod Cleared

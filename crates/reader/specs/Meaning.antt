@@ -18,12 +18,12 @@ use Rattle.model.specs.Model.Item.{picked, counted}
 use Rattle.model.specs.Items.{itemAt, headAt}
 use Rattle.model.specs.Read.{Room, after, code, stored, entered, opened, mark}
 use Rattle.model.specs.Steps.{particleAt, roundsAt, contentAt, insideAt}
-use Rattle.parts.specs.Heads.{modeIs}
-use Rattle.parts.specs.Out.{roomOf, outcome, ending}
-use Rattle.parts.specs.declared.Cursor.{Cursor}
-use Rattle.parts.specs.declared.Head.{Head}
-use Rattle.parts.specs.declared.Head.the-variants.{Bare, Sized, Wrong}
-use Rattle.parts.specs.declared.Mode.{Mode}
+use Rattle.reader_parts.specs.Heads.{modeIs}
+use Rattle.reader_parts.specs.Out.{roomOf, outcome, ending}
+use Rattle.reader_parts.specs.declared.Cursor.{Cursor}
+use Rattle.reader_parts.specs.declared.Head.{Head}
+use Rattle.reader_parts.specs.declared.Head.the-variants.{Bare, Sized, Wrong}
+use Rattle.reader_parts.specs.declared.Mode.{Mode}
 use Rattle.reader.specs.Told.{view}
 use Rattle.reader.specs.declared.cycle.Reach.{Reach}
 use Rattle.reader.specs.declared.cycle.Reach.the-variants as reach

@@ -1,6 +1,6 @@
 // Both lent buffers made all zero.
-use words::clear;
-use words::clear_words;
+use buffers::clear;
+use buffers::clear_words;
 ghost use mathlib.Core.Path.{_≡_};
 ghost use lib.ListN.{length, replicate};
 

@@ -2,7 +2,7 @@
 use numbers::limit;
 use numbers::mode;
 use numbers::refusal;
-use parts::Mode;
+use reader_parts::Mode;
 ghost use mathlib.Core.Path.{_≡_};
 ghost use Rattle.model.specs.Whole.{modeOf};
 ghost use Rattle.reader.specs.Front.{foundIs};

@@ -11,9 +11,9 @@ use front::Found;
 use front::mode_of;
 use numbers::limit;
 use numbers::refusal;
-use parts::Cursor;
-use parts::Mode;
-use parts::Path;
+use reader_parts::Cursor;
+use reader_parts::Mode;
+use reader_parts::Path;
 use rest::padding;
 use table::Particle;
 use table::Verdict;
@@ -32,10 +32,10 @@ ghost use Rattle.table.specs.First.Verdict.{right};
 ghost use Rattle.table.specs.Valid.{verdict};
 ghost use Rattle.model.specs.Entries.{Entered};
 ghost use Rattle.model.specs.Whole.{modeNumber, modeOf, declines, reading};
-ghost use Rattle.parts.specs.Heads.{modeIs};
-ghost use Rattle.parts.specs.Paths.{back, namesOf};
+ghost use Rattle.reader_parts.specs.Heads.{modeIs};
+ghost use Rattle.reader_parts.specs.Paths.{back, namesOf};
 ghost use Rattle.reader.specs.Answers.{pathIs, answerIs, told, Replies};
-ghost use Rattle.reader.specs.Root.{Zeros};
+ghost use Rattle.reader.specs.Cleared.{Zeros};
 
 // The whole answer. On acceptance number and place are 0 and the path is empty; on a refusal all but number, place and path is 0.
 pub struct Answer {

@@ -1,13 +1,13 @@
 // What a walk through elements answers. The path of a refusal is told once, by the innermost open element: a success copies no path.
-use parts::Cursor;
-use parts::Path;
-use parts::Step;
+use reader_parts::Cursor;
+use reader_parts::Path;
+use reader_parts::Step;
 use wire::Bits;
 ghost use mathlib.Core.Path.{_≡_};
 ghost use Prim.Native.Nat.{_≤_, _<_};
 ghost use lib.ListN.{length};
 ghost use Rattle.numbers.specs.Limit.{mostName, mostNames};
-ghost use Rattle.parts.specs.Paths.{namesOf};
+ghost use Rattle.reader_parts.specs.Paths.{namesOf};
 ghost use Rattle.reader.specs.Told.{walks, Named};
 
 // Gone on; refused, with number and place, in the innermost open element; or so refused inside one that has told its path, and how many names.

@@ -10,8 +10,8 @@ use borrow.Author.Tests.{ltb-true}
 use mir.Syntax.{w32, w64}
 use mir.Val.{Fits, SFits, toZ, ofZ}
 use mir.Facts.{toZ-pos, toZ-ofZ, sfits-toZ, sfits-widen}
-use Rattle.signed.specs.Laws.{ordered}
-use Rattle.signed.specs.Numbers.{sub-over, sub-under}
+use Rattle.signed.proofs.Laws.{ordered}
+use Rattle.signed.proofs.Numbers.{sub-over, sub-under}
 
 -- what is read back from the bits of a number
 abbrev pub held : ℤ → ℤ

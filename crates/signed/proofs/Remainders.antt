@@ -9,7 +9,7 @@ use borrow.Author.Tests.{ltb-true}
 use mir.Syntax.{w64}
 use mir.Val.{SFits}
 use Rattle.signed.specs.Words.{wrapped}
-use Rattle.signed.specs.Numbers.{sub-over}
+use Rattle.signed.proofs.Numbers.{sub-over}
 use Rattle.signed.proofs.Held.{minus-small}
 
 pub wrapped-small : (v : ℤ) → wrapped v < 2 ^ 32

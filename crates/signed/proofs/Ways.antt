@@ -10,8 +10,9 @@ use mir.Val.{Fits, SFits, toZ}
 use mir.Facts.{toZ-ofZ}
 use Rattle.signed.specs.Words.{rank, under, by, gapOf, up, down, wordOf, wrapped}
 use Rattle.signed.specs.Views.{bit, Parts}
-use Rattle.signed.specs.Laws.{ordered, sign-low, sign-high, magnitude-low, magnitude-high}
-use Rattle.signed.specs.Numbers.{low, high, sub-under, number-difference, gap-difference, gapAs, wrapped-sum, wrapped-difference, wrapped-plus, wrapped-minus}
+use Rattle.signed.proofs.Laws.{ordered, sign-low, sign-high, magnitude-low, magnitude-high}
+use Rattle.signed.specs.Numbers.{gapAs}
+use Rattle.signed.proofs.Numbers.{low, high, sub-under, number-difference, gap-difference, wrapped-sum, wrapped-difference, wrapped-plus, wrapped-minus}
 use Rattle.signed.proofs.Held.{held, small-fits, small-held, widened, value-held, sub-small, minus-small, sum-fits, negative, natural, Narrow, narrow-pos, narrow-tested, narrow-held, narrow-ways}
 use Rattle.signed.proofs.Remainders.{wrapped-small, quotient-fits, rest-small, rest-is, rest-under}
 

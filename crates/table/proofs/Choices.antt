@@ -7,7 +7,7 @@ use native.Mathlib.Omega.{arith}
 use borrow.Author.Tests.{le-leb, lt-leb, eq-eqb, ne-eqb}
 use Rattle.signed.specs.Words.{gapOf}
 use Rattle.signed.specs.Views.{gapIs}
-use Rattle.signed.specs.Laws.{over-gap, under-gap}
+use Rattle.signed.proofs.Laws.{over-gap, under-gap}
 use Rattle.signed.specs.declared.answers.Gap as signed
 use Rattle.signed.specs.declared.answers.Gap.the-variants.{Under, By}
 use Rattle.table.specs.First.{Verdict, first}

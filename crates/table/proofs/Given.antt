@@ -8,7 +8,7 @@ use lib.ListN.{length}
 use Rattle.table.specs.Words.{wordAt}
 use Rattle.table.specs.First.{Verdict, first, judge}
 use Rattle.table.specs.First.Verdict.{right, wrong}
-use Rattle.table.specs.FirstLaws.{judge-right, judge-wrong}
+use Rattle.table.proofs.FirstLaws.{judge-right, judge-wrong}
 use Rattle.table.specs.Valid.{given}
 use Rattle.table.specs.Views.{verdictIs}
 use Rattle.table.specs.declared.answers.Verdict as code

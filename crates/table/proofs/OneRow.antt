@@ -10,9 +10,9 @@ use lib.ListN.{length}
 use Rattle.table.specs.Words.{typeAt, attributeAt, particleAt, wordAt}
 use Rattle.table.specs.First.{Verdict, first}
 use Rattle.table.specs.First.Verdict.{right, wrong}
-use Rattle.table.specs.FirstLaws.{first-append, first-below, moved-right, moved-wrong, then-right, then-wrong}
+use Rattle.table.proofs.FirstLaws.{first-append, first-below, moved-right, moved-wrong, then-right, then-wrong}
 use Rattle.table.specs.Valid.{frontWords, contentWords, attributeWords, particleWords, typeRow, attributeRow, particleRow}
-use Rattle.table.specs.Lines.{content-length, particle-length}
+use Rattle.table.proofs.Lines.{content-length, particle-length}
 use Rattle.table.specs.Views.{verdictIs}
 use Rattle.table.specs.Runs.{FourAt, SevenAt}
 use Rattle.table.specs.declared.runs.Four as four

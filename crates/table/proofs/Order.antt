@@ -8,9 +8,9 @@ use lib.ListN.{length}
 use Rattle.table.specs.Words.{sizeOf, wordAt, typesIn, attributesIn, particlesIn}
 use Rattle.table.specs.First.{Verdict, first, judge, _then_}
 use Rattle.table.specs.First.Verdict.{wrong}
-use Rattle.table.specs.FirstLaws.{then-right, then-wrong}
+use Rattle.table.proofs.FirstLaws.{then-right, then-wrong}
 use Rattle.table.specs.Valid.{headerWords, rowWords, verdictFrom, verdict}
-use Rattle.table.specs.Lines.{typesVerdict, attributesVerdict, particlesVerdict, rows-in-parts}
+use Rattle.table.proofs.Lines.{typesVerdict, attributesVerdict, particlesVerdict, rows-in-parts}
 use Rattle.table.specs.Views.{verdictIs}
 use Rattle.table.specs.declared.answers.Verdict as code
 use Rattle.table.specs.declared.answers.Verdict.the-variants.{Right, Wrong}

@@ -7,9 +7,9 @@ use native.Mathlib.Omega.{arith}
 use native.Mathlib.Numerals.{add-one}
 use Rattle.table.specs.First.{first, _then_}
 use Rattle.table.specs.First.Verdict.{right}
-use Rattle.table.specs.FirstLaws.{then-right, then-wrong}
+use Rattle.table.proofs.FirstLaws.{then-right, then-wrong}
 use Rattle.table.specs.Valid.{rows}
-use Rattle.table.specs.Lines.{Lined, rows-step}
+use Rattle.table.proofs.Lines.{Lined, rows-step}
 use Rattle.table.specs.Views.{verdictIs}
 use Rattle.table.specs.declared.answers.Verdict as code
 use Rattle.table.specs.declared.answers.Verdict.the-variants.{Right, Wrong}

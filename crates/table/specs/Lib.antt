@@ -3,12 +3,7 @@ pub mod First
 pub mod Valid
 pub mod Rows
 pub mod Views
-pub mod Walk
-pub mod Example
-pub mod FirstLaws
-pub mod Lines
 pub mod Faults
 pub mod Keeps
-pub mod Laws
 pub mod Held
 pub mod Runs

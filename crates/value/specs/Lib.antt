@@ -1,14 +1,6 @@
 pub mod Code
-pub mod CodeLaws
 pub mod Simple
-pub mod SimpleLaws
 pub mod Values
 pub mod Answer
-pub mod FormWays
-pub mod Octets
-pub mod ReadWays
-pub mod KindWays
-pub mod WriteWays
-pub mod LayWays
-pub mod ValueLaws
-pub mod Cases
+pub mod Found
+pub mod Kinds

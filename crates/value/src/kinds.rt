@@ -22,7 +22,7 @@ ghost use Rattle.wire.specs.Answer.{readIs};
 ghost use Rattle.value.specs.Code.{codeAt};
 ghost use Rattle.value.specs.Simple.{rangeCode, simpleOf, simpleAt};
 ghost use Rattle.value.specs.Answer.{valueIs};
-ghost use Rattle.value.specs.KindWays.{kindCode};
+ghost use Rattle.value.specs.Kinds.{kindCode};
 
 // A value from b to c, both signed.
 fn ranged(s: &[u8], end: Bits, at: Bits, b: u32, c: u32) -> Read

@@ -12,7 +12,7 @@ ghost use Rattle.wire.specs.Bits.{bitAt};
 ghost use Rattle.wire.specs.Number.{isShort, second8At, number5, number8, strict, read5, read8};
 ghost use Rattle.wire.specs.Answer.{readIs, numberIs, fixed32};
 ghost use Rattle.wire.specs.Res.{got};
-ghost use Rattle.wire.specs.Whole5.{Leading, cutGroups};
+ghost use Rattle.wire.specs.Leading.{Leading, cutGroups};
 
 // The bit at a place.
 pub fn bit(s: &[u8], at: u32) -> u32

@@ -1,10 +1,9 @@
 -- What the entry promises: its answer, in document 01's numbers, and what it leaves in the lent payload.
-use Prim.Native.Nat.{ℕ, _≤_, _-_}
-use mathlib.Core.Path.{_≡_, refl, sym, ap, _∙_}
+use Prim.Native.Nat.{ℕ}
+use mathlib.Core.Path.{_≡_}
 use mathlib.Core.List.{List, []}
-use lib.ListN.{length, replicate}
-use Rattle.model.specs.Whole.{Made, made, unmade, Outcome, declines, outcomeMade, payloadLeft}
-use Rattle.notes.specs.declared.Cursor.{Cursor}
+use Rattle.model.specs.Whole.{Made, made, Outcome, outcomeMade, payloadLeft}
+use Rattle.writer_parts.specs.declared.Cursor.{Cursor}
 use Rattle.writer.specs.declared.Answer as code
 
 abbrev pub answerIs : code.Answer → Outcome
@@ -22,8 +21,3 @@ says mode events text bits = record { number = 0; place = 0; mode = mode; events
 pub record Writes (m : Made) (mode events text room : ℕ) (r : code.Answer) (P : List ℕ) : Type 0 where
   pub answer : answerIs r ≡ outcomeMade mode events text m
   pub left : P ≡ payloadLeft room m
-
--- a refusal, with the payload zero
-pub unmade-writes : (m : Made) (mode events text room n p : ℕ) (r : code.Answer) (P : List ℕ) → m ≡ unmade n p → answerIs r ≡ declines n p [] → P ≡ replicate room 0 → Writes m mode events text room r P
-unfolding outcomeMade payloadLeft
-unmade-writes m mode events text room n p r P e a x = record { answer = rw e a; left = rw e x }

@@ -1,8 +1,4 @@
 pub mod Meaning
-pub mod Leads
-pub mod SimpleWays
-pub mod WalkWays
-pub mod Ink
 pub mod Answers
 pub mod Front
-pub mod EntryWays
+pub mod Cleared

@@ -13,10 +13,10 @@ use Rattle.table.specs.Rows.{Attribute, tableOf, heldOf}
 use Rattle.model.specs.Model.Item.{required, optional, valued, picked, counted}
 use Rattle.model.specs.Write.{Bare, Out, wrote, along, flagIn, elementOut}
 use Rattle.model.specs.WriteSteps.{itemThen, particleOut, roundsOut, contentOut, insideOut}
-use Rattle.notes.specs.declared.Step.{Step}
-use Rattle.notes.specs.declared.Step.the-variants.{Refuse}
-use Rattle.notes.specs.Notes.{modeIs}
-use Rattle.notes.specs.Walk.{eventsIn, alone}
+use Rattle.writer_parts.specs.declared.Step.{Step}
+use Rattle.writer_parts.specs.declared.Step.the-variants.{Refuse}
+use Rattle.writer_parts.specs.Notes.{modeIs}
+use Rattle.writer_parts.specs.Walk.{eventsIn, alone}
 
 -- the value of an attribute that is there, or nothing
 unfoldable pub present : ℕ → (kind b c : ℕ) → List Bare → List ℕ → Out

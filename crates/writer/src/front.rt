@@ -1,5 +1,4 @@
 // What is judged before the walk: table, root, mode, the list's shape; and after it: what is left over, the room.
-use notes::Cursor;
 use numbers::kind;
 use numbers::limit;
 use numbers::refusal;
@@ -7,13 +6,14 @@ use table::Verdict;
 use table::check;
 use table::rows::types;
 use table::rows::word;
+use writer_parts::Cursor;
 ghost use mathlib.Core.Path.{_≡_};
 ghost use Prim.Native.Nat.{_≤_, _*_};
 ghost use lib.ListN.{length};
 ghost use Rattle.numbers.specs.Limit.{mostEvents};
 ghost use Rattle.table.specs.First.Verdict.{right};
 ghost use Rattle.table.specs.Valid.{verdict};
-ghost use Rattle.notes.specs.Walk.{eventsIn};
+ghost use Rattle.writer_parts.specs.Walk.{eventsIn};
 ghost use Rattle.writer.specs.Front.{Fronted, Settled};
 
 // Nothing, or number and place of a refusal.

@@ -1,14 +1,14 @@
 // The mode byte and the notes of n events, into a payload that is zero.
-use notes::pen::put_notes;
 use wire::Bits;
+use writer_parts::pen::put_notes;
 ghost use mathlib.Core.Path.{_≡_};
 ghost use mathlib.Core.List.{_∷_};
 ghost use Prim.Native.Nat.{_+_, _*_, _/_, _≤_};
 ghost use lib.ListN.{length};
 ghost use Rattle.model.specs.Pack.{pack};
 ghost use Rattle.model.specs.Whole.{modeByte, filled};
-ghost use Rattle.notes.specs.Notes.{spells, modeIs};
-ghost use Rattle.writer.specs.Ink.{Zeros};
+ghost use Rattle.writer_parts.specs.Notes.{spells, modeIs};
+ghost use Rattle.writer.specs.Cleared.{Zeros};
 
 // The mode byte.
 fn first(mode: u32) -> u8

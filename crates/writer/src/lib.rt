@@ -4,29 +4,29 @@ mod ink; // ink.rt: the mode byte and the notes, into the payload
 pub mod simple; // simple.rt: values and attributes
 pub mod walk; // walk.rt: the cycle element, content, particle, rounds
 
+use buffers::clear;
 use front::Fault;
 use front::asked;
 use front::settled;
 use ink::draw;
-use notes::Cursor;
-use notes::Step;
 use numbers::limit;
 use numbers::refusal;
 use walk::element;
 use wire::Bits;
 use wire::Bytes;
-use words::clear;
+use writer_parts::Cursor;
+use writer_parts::Step;
 ghost use mathlib.Core.Path.{_≡_};
 ghost use mathlib.Core.List.{[]};
 ghost use Prim.Native.Nat.{_*_, _≤_};
 ghost use lib.ListN.{length};
 ghost use Rattle.model.specs.Write.{wrote};
 ghost use Rattle.model.specs.Whole.{declines, roomed, spent, writing};
-ghost use Rattle.notes.specs.Notes.{modeIs};
-ghost use Rattle.notes.specs.Walk.{eventsIn, eventsAt, textsAt, between, Ready};
+ghost use Rattle.writer_parts.specs.Notes.{modeIs};
+ghost use Rattle.writer_parts.specs.Walk.{eventsIn, eventsAt, textsAt, between, Ready};
 ghost use Rattle.writer.specs.Answers.{answerIs, says, Writes, origin};
 ghost use Rattle.writer.specs.Front.{Fine};
-ghost use Rattle.writer.specs.Ink.{Zeros};
+ghost use Rattle.writer.specs.Cleared.{Zeros};
 
 // The whole answer; no path, as no element is open. On a refusal all but number and place is 0.
 pub struct Answer {

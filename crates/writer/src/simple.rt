@@ -1,9 +1,4 @@
 // Values and attributes: what is walked without opening a row.
-use notes::Cursor;
-use notes::Step;
-use notes::leaves::coded;
-use notes::leaves::mark;
-use notes::leaves::text_value;
 use numbers::kind;
 use table::rows::attribute;
 use table::rows::word;
@@ -12,12 +7,17 @@ use value::Form;
 use value::Inner;
 use value::forms::simple;
 use value::forms::times;
+use writer_parts::Cursor;
+use writer_parts::Step;
+use writer_parts::leaves::coded;
+use writer_parts::leaves::mark;
+use writer_parts::leaves::text_value;
 ghost use mathlib.Core.Path.{_≡_};
 ghost use Prim.Native.Nat.{_+_, _*_, _<_, min};
 ghost use lib.ListN.{getD};
 ghost use Rattle.table.specs.Rows.{attributeOf, attributesFrom};
 ghost use Rattle.model.specs.Model.Item.{valued, picked, counted};
-ghost use Rattle.notes.specs.Walk.{Ready, Walks, alone};
+ghost use Rattle.writer_parts.specs.Walk.{Ready, Walks, alone};
 ghost use Rattle.writer.specs.Meaning.{required·, optional·, attribute·, attributes·};
 
 // A simple value.

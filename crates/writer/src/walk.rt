@@ -1,19 +1,19 @@
 // The cycle element, inside, content, particle, choose, occur, rounds: rows still allowed open, `depth`, fall at each call.
 use super::simple;
-use notes::Cursor;
-use notes::Step;
-use notes::leaves::close;
-use notes::leaves::unlike;
 use numbers::kind;
 use numbers::refusal;
 use table::Content;
 use table::Particle;
 use table::rows;
+use writer_parts::Cursor;
+use writer_parts::Step;
+use writer_parts::leaves::close;
+use writer_parts::leaves::unlike;
 ghost use mathlib.Core.Path.{_≡_};
 ghost use Prim.Native.Nat.{_+_, _-_, _*_, _<_, _≤_};
 ghost use Rattle.numbers.specs.Limit.{mostOpen};
 ghost use Rattle.table.specs.Words.{typesIn, particlesIn};
-ghost use Rattle.notes.specs.Walk.{Ready, Walks};
+ghost use Rattle.writer_parts.specs.Walk.{Ready, Walks};
 ghost use Rattle.writer.specs.Meaning.{Right, Within, flagFor, deepAt, element·, inside·, content·, particle·, choose·, occur·, rounds·};
 
 // A Start's second word that is wanted where the event has q.

@@ -1,6 +1,6 @@
 -- `accepted` tells the cursor, field by field.
 use borrow.Author.Needs.{needs}
-use Rattle.reader.specs.Answers.{told-all}
+use Rattle.reader.proofs.Answers.{told-all}
 use Rattle.reader.proofs.accepted.Statement.{statement}
 use Rattle.reader.proofs.accepted.Tie as tie
 

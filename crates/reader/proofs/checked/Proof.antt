@@ -1,6 +1,6 @@
 -- `checked` judges 2, 3 and 4, in order, then reads the root. Each answer is a way of specs/Root.
 use borrow.Author.Needs.{needs}
-use Rattle.reader.specs.Root.{entry-ways}
+use Rattle.reader.proofs.RootLaws.{entry-ways}
 use Rattle.reader.proofs.checked.Statement.{statement}
 use Rattle.reader.proofs.checked.Tie as tie
 

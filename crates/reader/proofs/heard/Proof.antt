@@ -1,6 +1,6 @@
 -- The names told are the path's.
 use borrow.Author.Needs.{needs}
-use Rattle.reader.specs.Told.{heard-names}
+use Rattle.reader.proofs.ToldLaws.{heard-names}
 use Rattle.reader.proofs.heard.Statement.{statement}
 use Rattle.reader.proofs.heard.Tie as tie
 

@@ -1,6 +1,6 @@
 -- `number_of` is the mode's number, case by case.
 use borrow.Author.Needs.{needs}
-use Rattle.reader.specs.Answers.{number-ways}
+use Rattle.reader.proofs.Answers.{number-ways}
 use Rattle.reader.proofs.number_of.Statement.{statement}
 use Rattle.reader.proofs.number_of.Tie as tie
 

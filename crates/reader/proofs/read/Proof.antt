@@ -1,6 +1,6 @@
 -- `read` answers as `reading` says, on every input. Each answer is a way of specs/Root.
 use borrow.Author.Needs.{needs}
-use Rattle.reader.specs.Root.{entry-ways, verdict-right, zeros-cleared}
+use Rattle.reader.proofs.RootLaws.{entry-ways, verdict-right, zeros-cleared}
 use Rattle.reader.proofs.read.Statement.{statement}
 use Rattle.reader.proofs.read.Tie as tie
 

@@ -2,7 +2,7 @@
 use mathlib.Core.Path.{_∙_}
 use native.Mathlib.Omega.{arith}
 use borrow.Author.Needs.{needs}
-use Rattle.reader.specs.Root.{root-ways, payload-short, root-given, root-refused, root-told, root-left}
+use Rattle.reader.proofs.RootLaws.{root-ways, payload-short, root-given, root-refused, root-told, root-left}
 use Rattle.reader.proofs.root.Statement.{statement}
 use Rattle.reader.proofs.root.Tie as tie
 

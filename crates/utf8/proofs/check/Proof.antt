@@ -1,5 +1,5 @@
 -- `utf8::check`: octets that begin with their bytes are the bytes.
-use Rattle.utf8.specs.SlantedLaws.{octets-all}
+use Rattle.utf8.proofs.SlantedLaws.{octets-all}
 use borrow.Author.Needs.{needs}
 use Rattle.utf8.proofs.check.Statement.{statement}
 use Rattle.utf8.proofs.check.Tie as tie

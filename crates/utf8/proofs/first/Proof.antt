@@ -1,7 +1,7 @@
 -- `utf8::first`: each arm is a row of `Start`; what is left lies between the first two rows, or past the last.
 use borrow.Author.Needs.{needs}
 use Rattle.utf8.specs.Steps.{rows}
-use Rattle.utf8.specs.Rows.{among, start-among, start-between, start-past}
+use Rattle.utf8.proofs.Rows.{among, start-among, start-between, start-past}
 use Rattle.utf8.proofs.first.Statement.{statement}
 use Rattle.utf8.proofs.first.Tie as tie
 

@@ -1,6 +1,6 @@
 -- `utf8::later`: each way out is a law of `look` at one row.
 use borrow.Author.Needs.{needs}
-use Rattle.utf8.specs.Look.{look-ways}
+use Rattle.utf8.proofs.Look.{look-ways}
 use Rattle.utf8.proofs.later.Statement.{statement}
 use Rattle.utf8.proofs.later.Tie as tie
 

@@ -3,7 +3,7 @@ use Prim.Native.Nat.{ℕ}
 use mathlib.Core.Path.{_≡_}
 use borrow.Author.Needs.{needs}
 use Rattle.utf8.specs.Steps.{next, rows}
-use Rattle.utf8.specs.Look.{look-none}
+use Rattle.utf8.proofs.Look.{look-none}
 use Rattle.utf8.specs.declared.State.{State}
 use Rattle.utf8.proofs.step.Statement.{statement}
 use Rattle.utf8.proofs.step.Tie as tie

@@ -1,5 +1,5 @@
 -- A refusal after the walk, or the payload drawn.
-use Rattle.writer.specs.EntryWays.{finish-ways}
+use Rattle.writer.proofs.EntryWays.{finish-ways}
 use borrow.Author.Needs.{needs}
 use Rattle.writer.proofs.finish.Statement.{statement}
 use Rattle.writer.proofs.finish.Tie as tie

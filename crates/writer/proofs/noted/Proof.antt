@@ -1,5 +1,5 @@
 -- What the walk came to: a refusal, or what `finish` says of it.
-use Rattle.writer.specs.EntryWays.{write-ways, write-on, write-bits, write-mode, write-stopped, write-done}
+use Rattle.writer.proofs.EntryWays.{write-ways, write-on, write-bits, write-mode, write-stopped, write-done}
 use borrow.Author.Needs.{needs}
 use Rattle.writer.proofs.noted.Statement.{statement}
 use Rattle.writer.proofs.noted.Tie as tie

@@ -1,6 +1,6 @@
 -- A refusal before the walk, or the walk with room for few notes or for all.
 use native.Mathlib.Omega.{arith}
-use Rattle.writer.specs.EntryWays.{front-ways, write-fine, write-room, write-into, zeros-are}
+use Rattle.writer.proofs.EntryWays.{front-ways, write-fine, write-room, write-into, zeros-are}
 use borrow.Author.Needs.{needs}
 use Rattle.writer.proofs.write.Statement.{statement}
 use Rattle.writer.proofs.write.Tie as tie

@@ -4,7 +4,7 @@ use mathlib.Core.Path.{refl}
 use Prim.Native.Nat.{_+_, _*_, _-_}
 use lib.ListN.{take, drop, length-take, length-drop}
 use Rattle.list.proofs.Inputs.{parts-read}
-use Rattle.words.specs.BytesLaws.{loaded-front}
+use Rattle.buffers.proofs.BytesLaws.{loaded-front}
 use borrow.Author.Needs.{needs}
 use Rattle.list.proofs.listing.read_parts.Statement.{statement}
 use Rattle.list.proofs.listing.read_parts.Tie as tie

@@ -8,11 +8,11 @@ use lib.ListN.{length}
 use borrow.Author.Needs.{needs}
 use denote.Enum.Declared
 use Rattle.table.specs.Words.{particlesIn}
-use Rattle.parts.specs.Paths.{namesOf}
+use Rattle.reader_parts.specs.Paths.{namesOf}
 use Rattle.reader.specs.Meaning.{Reaches}
-use Rattle.reader.specs.Asked.{asked-ways, branch-row, occurs-rows, path-open, round-fits, round-row, row-fits}
-use Rattle.reader.specs.Told.{stopped}
-use Rattle.reader.specs.Ways.{Left, rounds-again, rounds-stop, whole-stop, choose-ways, content-ways, element-ways, enter-ways, inside-ways, occur-ways, particle-ways, rounds-ways, whole-ways}
+use Rattle.reader.proofs.Asked.{asked-ways, branch-row, occurs-rows, path-open, round-fits, round-row, row-fits}
+use Rattle.reader.proofs.ToldLaws.{stopped}
+use Rattle.reader.proofs.Ways.{Left, rounds-again, rounds-stop, whole-stop, choose-ways, content-ways, element-ways, enter-ways, inside-ways, occur-ways, particle-ways, rounds-ways, whole-ways}
 use Rattle.reader.specs.declared.told.Walk as walk
 use Rattle.reader.proofs.told.Walk as code
 use borrow.Fn.Kinds.{In}
@@ -44,12 +44,12 @@ use Rattle.reader.proofs.cycle.+choose+content+element+enter+inside+occ
 use Rattle.reader.proofs.cycle.whole.Reads as whole
 use Rattle.reader.proofs.cycle.whole.Kinds as whole-kinds
 use Rattle.reader.proofs.cycle.+choose+content+element+enter+inside+occur+particle+rounds+whole.Lts-whole as whole-lts
-use Rattle.parts.proofs.Path.push.Reads as push-reads
-use Rattle.parts.proofs.attributes.all.Reads as all-reads
-use Rattle.parts.proofs.ends.close.Reads as close-reads
-use Rattle.parts.proofs.heads.head.Reads as head-reads
-use Rattle.parts.proofs.storing.store.Reads as store-reads
-use Rattle.parts.proofs.values.value.Reads as value-reads
+use Rattle.reader_parts.proofs.Path.push.Reads as push-reads
+use Rattle.reader_parts.proofs.attributes.all.Reads as all-reads
+use Rattle.reader_parts.proofs.ends.close.Reads as close-reads
+use Rattle.reader_parts.proofs.heads.head.Reads as head-reads
+use Rattle.reader_parts.proofs.storing.store.Reads as store-reads
+use Rattle.reader_parts.proofs.values.value.Reads as value-reads
 use Rattle.reader.proofs.cycle.flag.Reads as flag-reads
 use Rattle.reader.proofs.cycle.reached.Reads as reached-reads
 use Rattle.reader.proofs.told.named.Reads as named-reads

@@ -1,6 +1,6 @@
 -- What a head says, case by case.
 use borrow.Author.Needs.{needs}
-use Rattle.reader.specs.Ways.{reached-ways}
+use Rattle.reader.proofs.Ways.{reached-ways}
 use Rattle.reader.proofs.cycle.reached.Statement.{statement}
 use Rattle.reader.proofs.cycle.reached.Tie as tie
 

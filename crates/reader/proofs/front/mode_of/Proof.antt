@@ -1,6 +1,6 @@
 -- `front::mode_of` finds what `modeOf` says: each answer by its way.
 use borrow.Author.Needs.{needs}
-use Rattle.reader.specs.Front.{front-ways}
+use Rattle.reader.proofs.FrontLaws.{front-ways}
 use Rattle.reader.proofs.front.mode_of.Statement.{statement}
 use Rattle.reader.proofs.front.mode_of.Tie as tie
 

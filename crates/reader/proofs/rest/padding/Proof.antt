@@ -3,7 +3,7 @@ use Prim.Native.Nat.{_-_, _*_, _≤_}
 use mathlib.Core.Path.{_≡_}
 use lib.ListN.{length}
 use borrow.Author.Needs.{needs}
-use Rattle.reader.specs.Rest.{Left, rest-ways}
+use Rattle.reader.proofs.RestLaws.{Left, rest-ways}
 use Rattle.reader.proofs.rest.padding.Statement.{statement}
 use Rattle.reader.proofs.rest.padding.Tie as tie
 

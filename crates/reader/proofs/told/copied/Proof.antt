@@ -4,7 +4,7 @@ use mathlib.Core.Path.{_≡_, sym, _∙_}
 use native.Mathlib.Omega.{arith}
 use borrow.Author.Needs.{needs}
 use lib.ListN.{length, length-set}
-use Rattle.reader.specs.Told.{Over, over-more, over-all}
+use Rattle.reader.proofs.ToldLaws.{Over, over-more, over-all}
 use Rattle.reader.proofs.told.copied.Statement.{statement}
 use Rattle.reader.proofs.told.copied.Tie as tie
 

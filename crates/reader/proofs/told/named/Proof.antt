@@ -1,6 +1,6 @@
 -- A refusal is told, with the name; all else is passed on.
 use borrow.Author.Needs.{needs}
-use Rattle.reader.specs.Told.{named-ways}
+use Rattle.reader.proofs.ToldLaws.{named-ways}
 use Rattle.reader.proofs.told.named.Statement.{statement}
 use Rattle.reader.proofs.told.named.Tie as tie
 

@@ -1,6 +1,6 @@
 -- A leaf's step as a walk, case by case.
 use borrow.Author.Needs.{needs}
-use Rattle.reader.specs.Told.{walked-ways}
+use Rattle.reader.proofs.ToldLaws.{walked-ways}
 use Rattle.reader.proofs.told.walked.Statement.{statement}
 use Rattle.reader.proofs.told.walked.Tie as tie
 

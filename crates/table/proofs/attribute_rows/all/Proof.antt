@@ -4,7 +4,7 @@ use native.Mathlib.Omega.{arith}
 use borrow.Author.Needs.{needs}
 use Rattle.table.specs.Words.{attributeAt, wordAt}
 use Rattle.table.specs.Valid.{attributeRow}
-use Rattle.table.specs.Lines.{attributes-lined}
+use Rattle.table.proofs.Lines.{attributes-lined}
 use Rattle.table.proofs.Turns.{Left, turns-start, turns-done, turn-wrong, turn-right}
 use Rattle.table.proofs.attribute_rows.all.Statement.{statement}
 use Rattle.table.proofs.attribute_rows.all.Tie as tie

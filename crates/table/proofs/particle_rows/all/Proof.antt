@@ -4,7 +4,7 @@ use native.Mathlib.Omega.{arith}
 use borrow.Author.Needs.{needs}
 use Rattle.table.specs.Words.{particleAt, wordAt}
 use Rattle.table.specs.Valid.{particleRow}
-use Rattle.table.specs.Lines.{particles-lined}
+use Rattle.table.proofs.Lines.{particles-lined}
 use Rattle.table.proofs.Turns.{Left, turns-start, turns-done, turn-wrong, turn-right}
 use Rattle.table.proofs.particle_rows.all.Statement.{statement}
 use Rattle.table.proofs.particle_rows.all.Tie as tie

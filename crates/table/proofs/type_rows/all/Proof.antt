@@ -4,7 +4,7 @@ use native.Mathlib.Omega.{arith}
 use borrow.Author.Needs.{needs}
 use Rattle.table.specs.Words.{typeAt, wordAt}
 use Rattle.table.specs.Valid.{typeRow}
-use Rattle.table.specs.Lines.{types-lined}
+use Rattle.table.proofs.Lines.{types-lined}
 use Rattle.table.proofs.Turns.{Left, turns-start, turns-done, turn-wrong, turn-right}
 use Rattle.table.proofs.type_rows.all.Statement.{statement}
 use Rattle.table.proofs.type_rows.all.Tie as tie

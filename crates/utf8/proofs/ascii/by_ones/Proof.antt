@@ -1,7 +1,7 @@
 -- The bytes passed have no bit k.
 use Prim.Native.Nat.{_-_}
 use Rattle.utf8.specs.Slanted.{Passed}
-use Rattle.utf8.specs.SlantedLaws.{passed-none, passed-one}
+use Rattle.utf8.proofs.SlantedLaws.{passed-none, passed-one}
 use borrow.Author.Needs.{needs}
 use Rattle.utf8.proofs.ascii.by_ones.Statement.{statement}
 use Rattle.utf8.proofs.ascii.by_ones.Tie as tie

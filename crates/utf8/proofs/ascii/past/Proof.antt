@@ -1,5 +1,5 @@
 -- By sixteens, and then one by one.
-use Rattle.utf8.specs.SlantedLaws.{passed-none, passed-both}
+use Rattle.utf8.proofs.SlantedLaws.{passed-none, passed-both}
 use borrow.Author.Needs.{needs}
 use Rattle.utf8.proofs.ascii.past.Statement.{statement}
 use Rattle.utf8.proofs.ascii.past.Tie as tie

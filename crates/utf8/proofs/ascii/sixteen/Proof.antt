@@ -3,7 +3,7 @@ use Prim.Native.Nat.{ℕ, _+_, _-_, _/_, _%_, _^_, _≤_}
 use mathlib.Core.Path.{_≡_}
 use native.Mathlib.Omega.{arith}
 use Rattle.utf8.specs.Slanted.{Without}
-use Rattle.utf8.specs.SlantedLaws.{over-none, over-more, over-all}
+use Rattle.utf8.proofs.SlantedLaws.{over-none, over-more, over-all}
 use borrow.Author.Needs.{needs}
 use Rattle.utf8.proofs.ascii.sixteen.Statement.{statement}
 use Rattle.utf8.proofs.ascii.sixteen.Tie as tie

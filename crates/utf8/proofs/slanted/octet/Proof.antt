@@ -1,7 +1,7 @@
 -- A byte, or the low bits of one and the high bits of the next.
 use Prim.Native.Nat.{_+_}
 use native.Mathlib.Omega.{arith}
-use Rattle.utf8.specs.SlantedLaws.{octet-whole, octet-joined, joined-fits}
+use Rattle.utf8.proofs.SlantedLaws.{octet-whole, octet-joined, joined-fits}
 use borrow.Author.Needs.{needs}
 use Rattle.utf8.proofs.slanted.octet.Statement.{statement}
 use Rattle.utf8.proofs.slanted.octet.Tie as tie

@@ -1,5 +1,5 @@
 -- Nothing is passed within a character.
-use Rattle.utf8.specs.SlantedLaws.{skipped-past, skipped-none}
+use Rattle.utf8.proofs.SlantedLaws.{skipped-past, skipped-none}
 use borrow.Author.Needs.{needs}
 use Rattle.utf8.proofs.slanted.skip.Statement.{statement}
 use Rattle.utf8.proofs.slanted.skip.Tie as tie

@@ -4,7 +4,7 @@ use mathlib.Core.Path.{_≡_}
 use native.Mathlib.Omega.{arith}
 use Rattle.utf8.specs.Steps.{run}
 use Rattle.utf8.specs.Slanted.{octetsAt}
-use Rattle.utf8.specs.SlantedLaws.{start-run, again-run, all-run}
+use Rattle.utf8.proofs.SlantedLaws.{start-run, again-run, all-run}
 use Rattle.utf8.specs.declared.State.the-variants.{Start}
 use borrow.Author.Needs.{needs}
 use Rattle.utf8.proofs.slanted.text_fault.Statement.{statement}

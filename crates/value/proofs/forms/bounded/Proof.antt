@@ -1,5 +1,5 @@
 -- By where the counts begin.
-use Rattle.value.specs.FormWays.{bound-ways}
+use Rattle.value.proofs.FormWays.{bound-ways}
 use borrow.Author.Needs.{needs}
 use Rattle.value.proofs.forms.bounded.Statement.{statement}
 use Rattle.value.proofs.forms.bounded.Tie as tie

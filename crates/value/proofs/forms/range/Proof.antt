@@ -1,5 +1,5 @@
 -- By the gap of the ends.
-use Rattle.value.specs.FormWays.{range-ways}
+use Rattle.value.proofs.FormWays.{range-ways}
 use borrow.Author.Needs.{needs}
 use Rattle.value.proofs.forms.range.Statement.{statement}
 use Rattle.value.proofs.forms.range.Tie as tie

@@ -1,5 +1,5 @@
 -- Kind by kind.
-use Rattle.value.specs.FormWays.{simple-ways}
+use Rattle.value.proofs.FormWays.{simple-ways}
 use borrow.Author.Needs.{needs}
 use Rattle.value.proofs.forms.simple.Statement.{statement}
 use Rattle.value.proofs.forms.simple.Tie as tie

@@ -1,5 +1,5 @@
 -- By the row's bounds.
-use Rattle.value.specs.FormWays.{times-ways}
+use Rattle.value.proofs.FormWays.{times-ways}
 use borrow.Author.Needs.{needs}
 use Rattle.value.proofs.forms.times.Statement.{statement}
 use Rattle.value.proofs.forms.times.Tie as tie

@@ -1,5 +1,5 @@
 -- By where the counts begin.
-use Rattle.value.specs.FormWays.{open-ways}
+use Rattle.value.proofs.FormWays.{open-ways}
 use borrow.Author.Needs.{needs}
 use Rattle.value.proofs.forms.unbounded.Statement.{statement}
 use Rattle.value.proofs.forms.unbounded.Tie as tie

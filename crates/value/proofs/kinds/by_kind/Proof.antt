@@ -1,5 +1,5 @@
 -- Kind by kind.
-use Rattle.value.specs.KindWays.{kind-ways}
+use Rattle.value.proofs.KindWays.{kind-ways}
 use borrow.Author.Needs.{needs}
 use Rattle.value.proofs.kinds.by_kind.Statement.{statement}
 use Rattle.value.proofs.kinds.by_kind.Tie as tie

@@ -1,5 +1,5 @@
 -- A text, or a number.
-use Rattle.value.specs.KindWays.{of-kind-ways}
+use Rattle.value.proofs.KindWays.{of-kind-ways}
 use borrow.Author.Needs.{needs}
 use Rattle.value.proofs.kinds.of_kind.Statement.{statement}
 use Rattle.value.proofs.kinds.of_kind.Tie as tie

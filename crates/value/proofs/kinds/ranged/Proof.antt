@@ -1,5 +1,5 @@
 -- By the difference of the ends.
-use Rattle.value.specs.KindWays.{ranged-ways}
+use Rattle.value.proofs.KindWays.{ranged-ways}
 use borrow.Author.Needs.{needs}
 use Rattle.value.proofs.kinds.ranged.Statement.{statement}
 use Rattle.value.proofs.kinds.ranged.Tie as tie

@@ -5,7 +5,7 @@ use native.Mathlib.Omega.{arith}
 use lib.ListN.{length, take, length-set}
 use Rattle.wire.specs.Put.{Wrote}
 use Rattle.value.specs.Simple.{bytes}
-use Rattle.value.specs.LayWays.{lay-start, lay-turn, lay-end}
+use Rattle.value.proofs.LayWays.{lay-start, lay-turn, lay-end}
 use borrow.Author.Needs.{needs}
 use Rattle.value.proofs.octets.lay.Statement.{statement}
 use Rattle.value.proofs.octets.lay.Tie as tie

@@ -1,5 +1,5 @@
 -- The octet at its byte and bit.
-use Rattle.value.specs.Octets.{byte-found}
+use Rattle.value.proofs.OctetsLaws.{byte-found}
 use borrow.Author.Needs.{needs}
 use Rattle.value.proofs.reading.byte.Statement.{statement}
 use Rattle.value.proofs.reading.byte.Tie as tie

@@ -1,5 +1,5 @@
 -- A fixed width, and then the limit.
-use Rattle.value.specs.ReadWays.{choice-ways}
+use Rattle.value.proofs.ReadWays.{choice-ways}
 use borrow.Author.Needs.{needs}
 use Rattle.value.proofs.reading.choice.Statement.{statement}
 use Rattle.value.proofs.reading.choice.Tie as tie

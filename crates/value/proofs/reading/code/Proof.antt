@@ -1,5 +1,5 @@
 -- Code by code.
-use Rattle.value.specs.ReadWays.{code-ways}
+use Rattle.value.proofs.ReadWays.{code-ways}
 use borrow.Author.Needs.{needs}
 use Rattle.value.proofs.reading.code.Statement.{statement}
 use Rattle.value.proofs.reading.code.Tie as tie

@@ -1,5 +1,5 @@
 -- Code by code.
-use Rattle.value.specs.ReadWays.{inner-ways}
+use Rattle.value.proofs.ReadWays.{inner-ways}
 use borrow.Author.Needs.{needs}
 use Rattle.value.proofs.reading.inner.Statement.{statement}
 use Rattle.value.proofs.reading.inner.Tie as tie

@@ -1,5 +1,5 @@
 -- By the sign, and then the limits.
-use Rattle.value.specs.ReadWays.{join-ways}
+use Rattle.value.proofs.ReadWays.{join-ways}
 use borrow.Author.Needs.{needs}
 use Rattle.value.proofs.reading.join.Statement.{statement}
 use Rattle.value.proofs.reading.join.Tie as tie

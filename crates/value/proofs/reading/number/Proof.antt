@@ -1,5 +1,5 @@
 -- A vluimsbf5, and then the limit.
-use Rattle.value.specs.ReadWays.{number-ways}
+use Rattle.value.proofs.ReadWays.{number-ways}
 use borrow.Author.Needs.{needs}
 use Rattle.value.proofs.reading.number.Statement.{statement}
 use Rattle.value.proofs.reading.number.Tie as tie

@@ -1,5 +1,5 @@
 -- The inner code, raised.
-use Rattle.value.specs.ReadWays.{shifted-ways}
+use Rattle.value.proofs.ReadWays.{shifted-ways}
 use borrow.Author.Needs.{needs}
 use Rattle.value.proofs.reading.shifted_number.Statement.{statement}
 use Rattle.value.proofs.reading.shifted_number.Tie as tie

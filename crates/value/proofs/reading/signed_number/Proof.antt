@@ -1,5 +1,5 @@
 -- The sign, and then the magnitude.
-use Rattle.value.specs.ReadWays.{signed-ways}
+use Rattle.value.proofs.ReadWays.{signed-ways}
 use borrow.Author.Needs.{needs}
 use Rattle.value.proofs.reading.signed_number.Statement.{statement}
 use Rattle.value.proofs.reading.signed_number.Tie as tie

@@ -1,5 +1,5 @@
 -- By the form.
-use Rattle.value.specs.ReadWays.{simple-ways}
+use Rattle.value.proofs.ReadWays.{simple-ways}
 use borrow.Author.Needs.{needs}
 use Rattle.value.proofs.reading.simple.Statement.{statement}
 use Rattle.value.proofs.reading.simple.Tie as tie

@@ -1,5 +1,5 @@
 -- The bit, and then the number.
-use Rattle.value.specs.ReadWays.{some-ways}
+use Rattle.value.proofs.ReadWays.{some-ways}
 use borrow.Author.Needs.{needs}
 use Rattle.value.proofs.reading.some_number.Statement.{statement}
 use Rattle.value.proofs.reading.some_number.Tie as tie

@@ -1,5 +1,5 @@
 -- The wall, and then what is wrong with the bytes.
-use Rattle.value.specs.ReadWays.{text-ways, way-text-read}
+use Rattle.value.proofs.ReadWays.{text-ways, way-text-read}
 use mathlib.Core.Path.{refl}
 use borrow.Author.Needs.{needs}
 use Rattle.value.proofs.reading.text_after.Statement.{statement}

@@ -1,5 +1,5 @@
 -- The text at its byte and bit.
-use Rattle.value.specs.Octets.{text-found}
+use Rattle.value.proofs.OctetsLaws.{text-found}
 use borrow.Author.Needs.{needs}
 use Rattle.value.proofs.reading.text_fault.Statement.{statement}
 use Rattle.value.proofs.reading.text_fault.Tie as tie

@@ -1,5 +1,5 @@
 -- Code by code.
-use Rattle.value.specs.WriteWays.{inner-size-ways}
+use Rattle.value.proofs.WriteWays.{inner-size-ways}
 use borrow.Author.Needs.{needs}
 use Rattle.value.proofs.writing.inner_size.Statement.{statement}
 use Rattle.value.proofs.writing.inner_size.Tie as tie

@@ -1,5 +1,5 @@
 -- From a byte on, or from a bit of one.
-use Rattle.value.specs.LayWays.{laid, laid-slanted}
+use Rattle.value.proofs.LayWays.{laid, laid-slanted}
 use borrow.Author.Needs.{needs}
 use Rattle.value.proofs.writing.put_bytes.Statement.{statement}
 use Rattle.value.proofs.writing.put_bytes.Tie as tie

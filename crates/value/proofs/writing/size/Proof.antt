@@ -1,5 +1,5 @@
 -- Code by code.
-use Rattle.value.specs.WriteWays.{size-ways}
+use Rattle.value.proofs.WriteWays.{size-ways}
 use borrow.Author.Needs.{needs}
 use Rattle.value.proofs.writing.size.Statement.{statement}
 use Rattle.value.proofs.writing.size.Tie as tie

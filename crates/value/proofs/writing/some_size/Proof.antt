@@ -1,5 +1,5 @@
 -- None, or one bit more than how many.
-use Rattle.value.specs.WriteWays.{some-size-ways}
+use Rattle.value.proofs.WriteWays.{some-size-ways}
 use borrow.Author.Needs.{needs}
 use Rattle.value.proofs.writing.some_size.Statement.{statement}
 use Rattle.value.proofs.writing.some_size.Tie as tie

@@ -1,6 +1,6 @@
 -- By the least power of 2 that holds n.
 use native.Mathlib.Omega.{arith}
-use Rattle.wire.specs.Width.{width-one, narrow-is}
+use Rattle.wire.proofs.Width.{width-one, narrow-is}
 use Rattle.wire.proofs.choices.narrow.Statement.{statement}
 use Rattle.wire.proofs.choices.narrow.Tie as tie
 

@@ -1,6 +1,6 @@
 -- The bits of the narrow part, and those counted apart.
 use native.Mathlib.Omega.{arith}
-use Rattle.wire.specs.Width.{width-more}
+use Rattle.wire.proofs.Width.{width-more}
 use borrow.Author.Needs.{needs}
 use Rattle.wire.proofs.choices.width.Statement.{statement}
 use Rattle.wire.proofs.choices.width.Tie as tie

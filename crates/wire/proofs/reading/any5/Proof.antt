@@ -1,7 +1,7 @@
 -- By the ones that its window begins with, and by what is left below the wall.
 use mathlib.Core.Path.{refl}
 use native.Mathlib.Omega.{arith}
-use Rattle.wire.specs.Whole5.{some-ones, window-fits, way-five-before, way-five-full, way-five-short, way-five-off, way-five-cut, way-five-none, way-five-one}
+use Rattle.wire.proofs.Whole5.{some-ones, window-fits, way-five-before, way-five-full, way-five-short, way-five-off, way-five-cut, way-five-none, way-five-one}
 use borrow.Author.Needs.{needs}
 use Rattle.wire.proofs.reading.any5.Statement.{statement}
 use Rattle.wire.proofs.reading.any5.Tie as tie

@@ -1,5 +1,5 @@
 -- By the first byte, and then the second.
-use Rattle.wire.specs.ReadWays.{eight-ways}
+use Rattle.wire.proofs.ReadWays.{eight-ways}
 use borrow.Author.Needs.{needs}
 use Rattle.wire.proofs.reading.any8.Statement.{statement}
 use Rattle.wire.proofs.reading.any8.Tie as tie

@@ -1,7 +1,7 @@
 -- The groups are a quotient's remainder; the first of them tells whether they are the shortest.
 use native.Mathlib.Omega.{arith}
-use Rattle.wire.specs.Window.{mask-some}
-use Rattle.wire.specs.Whole5.{cut-is, cut-fits, way-cut-long, way-cut-short}
+use Rattle.wire.proofs.WindowLaws.{mask-some}
+use Rattle.wire.proofs.Whole5.{cut-is, cut-fits, way-cut-long, way-cut-short}
 use borrow.Author.Needs.{needs}
 use Rattle.wire.proofs.reading.cut5.Statement.{statement}
 use Rattle.wire.proofs.reading.cut5.Tie as tie

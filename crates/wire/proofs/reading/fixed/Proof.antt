@@ -1,6 +1,6 @@
 -- The w bits at the place, cut out.
 use native.Mathlib.Omega.{arith}
-use Rattle.wire.specs.ReadWays.{fixed-ways, num-fits}
+use Rattle.wire.proofs.ReadWays.{fixed-ways, num-fits}
 use borrow.Author.Needs.{needs}
 use Rattle.wire.proofs.reading.fixed.Statement.{statement}
 use Rattle.wire.proofs.reading.fixed.Tie as tie

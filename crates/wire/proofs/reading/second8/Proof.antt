@@ -1,5 +1,5 @@
 -- By the ways of its one reading.
-use Rattle.wire.specs.ReadWays.{second-ways}
+use Rattle.wire.proofs.ReadWays.{second-ways}
 use borrow.Author.Needs.{needs}
 use Rattle.wire.proofs.reading.second8.Statement.{statement}
 use Rattle.wire.proofs.reading.second8.Tie as tie

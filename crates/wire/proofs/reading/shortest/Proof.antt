@@ -1,5 +1,5 @@
 -- By the number's three cases.
-use Rattle.wire.specs.ReadWays.{short-ways}
+use Rattle.wire.proofs.ReadWays.{short-ways}
 use borrow.Author.Needs.{needs}
 use Rattle.wire.proofs.reading.shortest.Statement.{statement}
 use Rattle.wire.proofs.reading.shortest.Tie as tie

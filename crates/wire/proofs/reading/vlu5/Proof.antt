@@ -1,5 +1,5 @@
 -- A strict reading of a number.
-use Rattle.wire.specs.ReadWays.{strict-ways}
+use Rattle.wire.proofs.ReadWays.{strict-ways}
 use borrow.Author.Needs.{needs}
 use Rattle.wire.proofs.reading.vlu5.Statement.{statement}
 use Rattle.wire.proofs.reading.vlu5.Tie as tie

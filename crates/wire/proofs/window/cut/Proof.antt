@@ -1,5 +1,5 @@
 -- The first w bits of what `window` gives.
-use Rattle.wire.specs.Window.{window-is, first-is}
+use Rattle.wire.proofs.WindowLaws.{window-is, first-is}
 use borrow.Author.Needs.{needs}
 use Rattle.wire.proofs.window.cut.Statement.{statement}
 use Rattle.wire.proofs.window.cut.Tie as tie

@@ -1,6 +1,6 @@
 -- The two fours.
 use native.Mathlib.Omega.{arith}
-use Rattle.wire.specs.Window.{four-fits, eight-is}
+use Rattle.wire.proofs.WindowLaws.{four-fits, eight-is}
 use borrow.Author.Needs.{needs}
 use Rattle.wire.proofs.window.eight.Statement.{statement}
 use Rattle.wire.proofs.window.eight.Tie as tie

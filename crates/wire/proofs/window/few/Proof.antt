@@ -3,7 +3,7 @@ use Prim.Native.Nat.{_≤_, _-_, _*_}
 use mathlib.Core.Path.{_≡_}
 use native.Mathlib.Omega.{arith}
 use Rattle.wire.specs.Bits.{bitAt, num}
-use Rattle.wire.specs.Window.{few-fits, few-turn, few-end}
+use Rattle.wire.proofs.WindowLaws.{few-fits, few-turn, few-end}
 use borrow.Author.Needs.{needs}
 use Rattle.wire.proofs.window.few.Statement.{statement}
 use Rattle.wire.proofs.window.few.Tie as tie

@@ -1,5 +1,5 @@
 -- The four bytes, one after another.
-use Rattle.wire.specs.Window.{four-is}
+use Rattle.wire.proofs.WindowLaws.{four-is}
 use borrow.Author.Needs.{needs}
 use Rattle.wire.proofs.window.four.Statement.{statement}
 use Rattle.wire.proofs.window.four.Tie as tie

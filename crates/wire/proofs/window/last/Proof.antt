@@ -1,5 +1,5 @@
 -- The last eight bytes, and zeros past the end.
-use Rattle.wire.specs.Window.{last-is, past-is}
+use Rattle.wire.proofs.WindowLaws.{last-is, past-is}
 use borrow.Author.Needs.{needs}
 use Rattle.wire.proofs.window.last.Statement.{statement}
 use Rattle.wire.proofs.window.last.Tie as tie

@@ -1,7 +1,7 @@
 -- Byte after byte, the highest first.
 use native.Mathlib.Omega.{arith}
 use lib.ListN.{length-set}
-use Rattle.wire.specs.Store.{stored-first, stored-more, stored-last}
+use Rattle.wire.proofs.Store.{stored-first, stored-more, stored-last}
 use borrow.Author.Needs.{needs}
 use Rattle.wire.proofs.window.store.Statement.{statement}
 use Rattle.wire.proofs.window.store.Tie as tie

@@ -1,5 +1,5 @@
 -- Eight bytes, shifted left past the bits before the place, and right until 57 are left.
-use Rattle.wire.specs.Window.{window-is}
+use Rattle.wire.proofs.WindowLaws.{window-is}
 use borrow.Author.Needs.{needs}
 use Rattle.wire.proofs.window.window.Statement.{statement}
 use Rattle.wire.proofs.window.window.Tie as tie

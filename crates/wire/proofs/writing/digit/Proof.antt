@@ -1,5 +1,5 @@
 -- A word has no bit past its 64th.
-use Rattle.wire.specs.WriteWays.{high-digit}
+use Rattle.wire.proofs.WriteWays.{high-digit}
 use borrow.Author.Needs.{needs}
 use Rattle.wire.proofs.writing.digit.Statement.{statement}
 use Rattle.wire.proofs.writing.digit.Tie as tie

@@ -1,6 +1,6 @@
 -- By the least power of 16 that v is below.
 use native.Mathlib.Omega.{arith}
-use Rattle.wire.specs.WriteWays.{extra-is}
+use Rattle.wire.proofs.WriteWays.{extra-is}
 use Rattle.wire.proofs.writing.extra.Statement.{statement}
 use Rattle.wire.proofs.writing.extra.Tie as tie
 

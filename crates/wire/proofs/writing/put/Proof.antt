@@ -1,5 +1,5 @@
 -- The bits, and the place past them.
-use Rattle.wire.specs.WriteWays.{wrote-is}
+use Rattle.wire.proofs.WriteWays.{wrote-is}
 use borrow.Author.Needs.{needs}
 use Rattle.wire.proofs.writing.put.Statement.{statement}
 use Rattle.wire.proofs.writing.put.Tie as tie

@@ -1,6 +1,6 @@
 -- The ones, the zero and the groups as one number.
 use native.Mathlib.Omega.{arith}
-use Rattle.wire.specs.WriteWays.{shl-two, five-fits, length-code5, put5-done}
+use Rattle.wire.proofs.WriteWays.{shl-two, five-fits, length-code5, put5-done}
 use borrow.Author.Needs.{needs}
 use Rattle.wire.proofs.writing.put5.Statement.{statement}
 use Rattle.wire.proofs.writing.put5.Tie as tie

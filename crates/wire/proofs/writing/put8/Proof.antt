@@ -1,7 +1,7 @@
 -- One byte, or two.
 use mathlib.Core.Path.{refl}
 use native.Mathlib.Omega.{arith}
-use Rattle.wire.specs.WriteWays.{length-short8, length-long8, put8-short, put8-long}
+use Rattle.wire.proofs.WriteWays.{length-short8, length-long8, put8-short, put8-long}
 use borrow.Author.Needs.{needs}
 use Rattle.wire.proofs.writing.put8.Statement.{statement}
 use Rattle.wire.proofs.writing.put8.Tie as tie

@@ -3,7 +3,7 @@ use Prim.Native.Nat.{_/_}
 use denote.Ref.{now}
 use native.Mathlib.Omega.{arith}
 use Rattle.wire.specs.Bits.{bitAt}
-use Rattle.wire.specs.Put.{put-up, put-down, put-same, up-byte, down-byte}
+use Rattle.wire.proofs.Put.{put-up, put-down, put-same, up-byte, down-byte}
 use borrow.Author.Needs.{needs}
 use Rattle.wire.proofs.writing.put_bit.Statement.{statement}
 use Rattle.wire.proofs.writing.put_bit.Tie as tie

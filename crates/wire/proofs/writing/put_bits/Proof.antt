@@ -1,5 +1,5 @@
 -- A word, or bit by bit.
-use Rattle.wire.specs.WriteWays.{put-zero}
+use Rattle.wire.proofs.WriteWays.{put-zero}
 use borrow.Author.Needs.{needs}
 use Rattle.wire.proofs.writing.put_bits.Statement.{statement}
 use Rattle.wire.proofs.writing.put_bits.Tie as tie

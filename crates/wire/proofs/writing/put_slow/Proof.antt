@@ -5,7 +5,7 @@ use native.Mathlib.Omega.{arith}
 use lib.ListN.{length}
 use Rattle.wire.specs.Bits.{bitAt, digits}
 use Rattle.wire.specs.Put.{Put}
-use Rattle.wire.specs.WriteWays.{put-start, put-turn, put-end}
+use Rattle.wire.proofs.WriteWays.{put-start, put-turn, put-end}
 use borrow.Author.Needs.{needs}
 use Rattle.wire.proofs.writing.put_slow.Statement.{statement}
 use Rattle.wire.proofs.writing.put_slow.Tie as tie

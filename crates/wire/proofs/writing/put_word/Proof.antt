@@ -1,7 +1,7 @@
 -- The field of the word that is stored.
 use native.Mathlib.Omega.{arith}
-use Rattle.wire.specs.Window.{mask-some}
-use Rattle.wire.specs.Store.{old-under, changed-fits, changed-put}
+use Rattle.wire.proofs.WindowLaws.{mask-some}
+use Rattle.wire.proofs.Store.{old-under, changed-fits, changed-put}
 use borrow.Author.Needs.{needs}
 use Rattle.wire.proofs.writing.put_word.Statement.{statement}
 use Rattle.wire.proofs.writing.put_word.Tie as tie

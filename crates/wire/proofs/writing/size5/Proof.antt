@@ -1,5 +1,5 @@
 -- Five bits a group.
-use Rattle.wire.specs.WriteWays.{size5-is}
+use Rattle.wire.proofs.WriteWays.{size5-is}
 use borrow.Author.Needs.{needs}
 use Rattle.wire.proofs.writing.size5.Statement.{statement}
 use Rattle.wire.proofs.writing.size5.Tie as tie

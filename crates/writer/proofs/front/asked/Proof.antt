@@ -1,5 +1,5 @@
 -- By the table's verdict.
-use Rattle.writer.specs.Front.{asked-ways}
+use Rattle.writer.proofs.FrontLaws.{asked-ways}
 use borrow.Author.Needs.{needs}
 use Rattle.writer.proofs.front.asked.Statement.{statement}
 use Rattle.writer.proofs.front.asked.Tie as tie

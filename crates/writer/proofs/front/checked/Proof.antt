@@ -1,5 +1,5 @@
 -- By the first thing wrong.
-use Rattle.writer.specs.Front.{checked-ways}
+use Rattle.writer.proofs.FrontLaws.{checked-ways}
 use borrow.Author.Needs.{needs}
 use Rattle.writer.proofs.front.checked.Statement.{statement}
 use Rattle.writer.proofs.front.checked.Tie as tie

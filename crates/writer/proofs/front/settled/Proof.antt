@@ -1,5 +1,5 @@
 -- By the first thing left over, then the room.
-use Rattle.writer.specs.Front.{settled-ways}
+use Rattle.writer.proofs.FrontLaws.{settled-ways}
 use borrow.Author.Needs.{needs}
 use Rattle.writer.proofs.front.settled.Statement.{statement}
 use Rattle.writer.proofs.front.settled.Tie as tie

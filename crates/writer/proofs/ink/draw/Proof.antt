@@ -2,7 +2,7 @@
 use native.Mathlib.Omega.{arith}
 use mathlib.Core.Path.{_∙_}
 use lib.ListN.{length-set}
-use Rattle.writer.specs.Ink.{draw-ways, draw-done}
+use Rattle.writer.proofs.InkLaws.{draw-ways, draw-done}
 use borrow.Author.Needs.{needs}
 use Rattle.writer.proofs.ink.draw.Statement.{statement}
 use Rattle.writer.proofs.ink.draw.Tie as tie

@@ -1,5 +1,5 @@
 -- By the mode.
-use Rattle.writer.specs.Ink.{first-ways}
+use Rattle.writer.proofs.InkLaws.{first-ways}
 use borrow.Author.Needs.{needs}
 use Rattle.writer.proofs.ink.first.Statement.{statement}
 use Rattle.writer.proofs.ink.first.Tie as tie

@@ -4,10 +4,10 @@ use mathlib.Core.Path.{_≡_, refl, _∙_}
 use native.Mathlib.Omega.{arith}
 use lib.ListN.{length}
 use Rattle.table.specs.Rows.{attributesFrom}
-use Rattle.notes.specs.Walk.{eventsAt, textsAt, Ready}
+use Rattle.writer_parts.specs.Walk.{eventsAt, textsAt, Ready}
 use Rattle.writer.specs.Meaning.{attributes·}
-use Rattle.writer.specs.Leads.{Leads}
-use Rattle.writer.specs.SimpleWays.{all-ways, left}
+use Rattle.writer.proofs.Leads.{Leads}
+use Rattle.writer.proofs.SimpleWays.{all-ways, left}
 use borrow.Author.Needs.{needs}
 use Rattle.writer.proofs.simple.all.Statement.{statement}
 use Rattle.writer.proofs.simple.all.Tie as tie

@@ -1,5 +1,5 @@
 -- A count is an event noted.
-use Rattle.writer.specs.SimpleWays.{counted-way}
+use Rattle.writer.proofs.SimpleWays.{counted-way}
 use borrow.Author.Needs.{needs}
 use Rattle.writer.proofs.simple.count.Statement.{statement}
 use Rattle.writer.proofs.simple.count.Tie as tie

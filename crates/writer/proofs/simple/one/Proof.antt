@@ -1,5 +1,5 @@
 -- By the row's mark.
-use Rattle.writer.specs.SimpleWays.{one-ways}
+use Rattle.writer.proofs.SimpleWays.{one-ways}
 use borrow.Author.Needs.{needs}
 use Rattle.writer.proofs.simple.one.Statement.{statement}
 use Rattle.writer.proofs.simple.one.Tie as tie

@@ -1,5 +1,5 @@
 -- The flag, then the value or nothing.
-use Rattle.writer.specs.SimpleWays.{optional-ways, optional-absent}
+use Rattle.writer.proofs.SimpleWays.{optional-ways, optional-absent}
 use borrow.Author.Needs.{needs}
 use Rattle.writer.proofs.simple.optional.Statement.{statement}
 use Rattle.writer.proofs.simple.optional.Tie as tie

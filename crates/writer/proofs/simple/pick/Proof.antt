@@ -1,5 +1,5 @@
 -- A branch is an event noted.
-use Rattle.writer.specs.SimpleWays.{picked-way}
+use Rattle.writer.proofs.SimpleWays.{picked-way}
 use borrow.Author.Needs.{needs}
 use Rattle.writer.proofs.simple.pick.Statement.{statement}
 use Rattle.writer.proofs.simple.pick.Tie as tie

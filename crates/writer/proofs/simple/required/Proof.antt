@@ -1,5 +1,5 @@
 -- The mark, then the value.
-use Rattle.writer.specs.SimpleWays.{required-ways}
+use Rattle.writer.proofs.SimpleWays.{required-ways}
 use borrow.Author.Needs.{needs}
 use Rattle.writer.proofs.simple.required.Statement.{statement}
 use Rattle.writer.proofs.simple.required.Tie as tie

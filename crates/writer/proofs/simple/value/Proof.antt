@@ -1,5 +1,5 @@
 -- A value is an event noted, as number or text.
-use Rattle.writer.specs.SimpleWays.{value-ways}
+use Rattle.writer.proofs.SimpleWays.{value-ways}
 use borrow.Author.Needs.{needs}
 use Rattle.writer.proofs.simple.value.Statement.{statement}
 use Rattle.writer.proofs.simple.value.Tie as tie

@@ -4,10 +4,10 @@ use mathlib.Core.Path.{_≡_, refl}
 use native.Mathlib.Omega.{arith}
 use lib.ListN.{length}
 use borrow.Author.Needs.{needs}
-use Rattle.notes.specs.Walk.{eventsAt, textsAt, Ready}
+use Rattle.writer_parts.specs.Walk.{eventsAt, textsAt, Ready}
 use Rattle.writer.specs.Meaning.{rounds·}
-use Rattle.writer.specs.Leads.{Leads}
-use Rattle.writer.specs.WalkWays.{choose-ways, content-ways, element-ways, inside-ways, occur-ways, particle-ways, rounds-ways, leftR, row-type, row-sequence, row-choice, row-child, element-unheld, element-stop, element-sealing, element-kept, element-go}
+use Rattle.writer.proofs.Leads.{Leads}
+use Rattle.writer.proofs.WalkWays.{choose-ways, content-ways, element-ways, inside-ways, occur-ways, particle-ways, rounds-ways, leftR, row-type, row-sequence, row-choice, row-child, element-unheld, element-stop, element-sealing, element-kept, element-go}
 use borrow.Fn.Kinds.{In}
 use borrow.Fn.PlainCycle.{Measures, is, falls, and}
 use Rattle.writer.proofs.walk.choose.Reads as choose
@@ -31,8 +31,8 @@ use Rattle.writer.proofs.walk.+choose+content+element+inside+occur+part
 use Rattle.writer.proofs.walk.rounds.Reads as rounds
 use Rattle.writer.proofs.walk.rounds.Kinds as rounds-kinds
 use Rattle.writer.proofs.walk.+choose+content+element+inside+occur+particle+rounds.Lts-rounds as rounds-lts
-use Rattle.notes.proofs.leaves.close.Reads as close-reads
-use Rattle.notes.proofs.leaves.unlike.Reads as unlike-reads
+use Rattle.writer_parts.proofs.leaves.close.Reads as close-reads
+use Rattle.writer_parts.proofs.leaves.unlike.Reads as unlike-reads
 use Rattle.table.proofs.rows.content.Reads as content-reads
 use Rattle.table.proofs.rows.held.Reads as held-reads
 use Rattle.table.proofs.rows.particle.Reads as particle-reads

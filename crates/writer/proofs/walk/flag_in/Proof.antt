@@ -1,5 +1,5 @@
 -- By the mode.
-use Rattle.writer.specs.WalkWays.{flag-ways}
+use Rattle.writer.proofs.WalkWays.{flag-ways}
 use borrow.Author.Needs.{needs}
 use Rattle.writer.proofs.walk.flag_in.Statement.{statement}
 use Rattle.writer.proofs.walk.flag_in.Tie as tie

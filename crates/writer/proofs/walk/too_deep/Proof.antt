@@ -1,5 +1,5 @@
 -- By whether an event is left.
-use Rattle.writer.specs.WalkWays.{deep-here, deep-past}
+use Rattle.writer.proofs.WalkWays.{deep-here, deep-past}
 use borrow.Author.Needs.{needs}
 use Rattle.writer.proofs.walk.too_deep.Statement.{statement}
 use Rattle.writer.proofs.walk.too_deep.Tie as tie

@@ -1,0 +1,131 @@
+-- DEMAND 3 of `bim_read`, both halves.
+use Prim.Native.Nat.{ℕ, _+_, _*_, _/_, _≤_}
+use mathlib.Core.Path.{_≡_, refl, sym, ap, _∙_}
+use mathlib.Core.Bool.{Bool}
+use mathlib.Core.List.{List, [], _∷_, _++_}
+use mathlib.Core.Option.{Option, none, some}
+use native.Mathlib.Omega.{arith}
+use lib.ListN.{length, length-append}
+use Rattle.table.specs.First.Verdict.{right}
+use Rattle.buffers.specs.Bytes.{wordsOf}
+use Rattle.model.specs.Model.{Mark, Nodes, Path, Plan}
+use Rattle.model.specs.Items.{Mode}
+use Rattle.model.specs.Grammar.{Is, nothing, an-item, an-element, a-blank}
+use Rattle.model.proofs.Plain.{item-plain}
+use Rattle.theorems.specs.Less.{outermost, replaced, firstBare}
+use Rattle.theorems.specs.Open.{StillOpen, Excuse}
+use Rattle.model.specs.Whole.{Reply, accepted, declined, outcome, textsLeft, afterVerdict, reading}
+use Rattle.theorems.specs.Demand3 as model
+use Rattle.theorems.proofs.Demand3 as model-laws
+use Rattle.bim.specs.Area.{areaOf, capped}
+use Rattle.bim.specs.Calls.{Back, tableVerdict, readBytes, eventsBack, readCall}
+use Rattle.bim.proofs.Paths.{path-most}
+use Rattle.bim.specs.Demands.{less, Pair, Reading, Reads, new, SecondAccepts, OnlyFirstAccepts}
+use Rattle.bim.proofs.WholeTables.{right-whole, checked-right}
+use Rattle.bim.proofs.Demand2.{tells, call-tells, is-accepted, accepts-only}
+
+pair-words : (t t′ : List ℕ) → Pair t t′ → model.Pair (wordsOf t) (wordsOf t′)
+pair-words t t′ p = record {
+  first-right = right-whole t (checked-right t (p .first-valid)) .1;
+  second-right = right-whole t′ (checked-right t′ (p .second-valid)) .1;
+  alike = p .alike;
+  holds = p .holds;
+}
+
+tells-less : (e x : ℕ) (mode : Mode) (o : Option (Mark × Path)) (tree : Nodes) (used : ℕ)
+    → tells e x (model.saysLess mode o tree used) ≡ less e x mode o tree used
+unfolding model.saysLess less outcome eventsBack textsLeft
+tells-less e x mode none tree used = refl
+tells-less e x mode (some (m, π)) tree used = refl
+
+-- a place in an element that a tree shows as a Blank is one of the tree's
+open-within : {mode : Mode} {held : ℕ → Bool} {P : Plan} {at : ℕ} {ns : Nodes} {w : List ℕ}
+    (new : ℕ → Bool) (p : ℕ) (ρ π : Path) → Is mode held P at ns w → StillOpen new p ρ π ns
+    → p ≤ at + length w
+open-within new p ρ π (an-item {i} {v} {w} {x} h j) (StillOpen.here k n b lo hi) = absurd (item-plain i v (length w) k)
+open-within new p ρ π (an-item {i} {v} {w} {x} h j) (StillOpen.past o) =
+    let r = open-within new p ρ π j o in omega (arith, length-append w x)
+open-within new p ρ π (an-element {s} {w} {x} h z g m j) (StillOpen.inside o) =
+    let r = open-within new p ρ _ g o in omega (arith, length-append s w, length-append (s ++ w) x)
+open-within new p ρ π (an-element {s} {w} {x} h z g m j) (StillOpen.beyond o) =
+    let r = open-within new p ρ π j o in omega (arith, length-append (s ++ w) x)
+open-within new p ρ π (a-blank {s} {x} w h z u j) (StillOpen.here k n b lo hi) = omega (arith, length-append (s ++ w) x)
+open-within new p ρ π (a-blank {s} {x} w h z u j) (StillOpen.past o) =
+    let r = open-within new p ρ π j o in omega (arith, length-append (s ++ w) x)
+
+capped-small : (p : ℕ) → p ≤ 4294967295 → capped p ≡ p
+capped-small p h = omega arith
+
+capped-twice : (p : ℕ) → capped (capped p) ≡ capped p
+capped-twice p = omega arith
+
+module _ (t t′ : List ℕ) (name type : ℕ) (s : List ℕ) (e x : ℕ) (pair : Pair t t′) where
+  abbrev N : ℕ → Bool
+  N = new t t′
+
+  pub second-accepts : readCall t′ name type s e x 152 .number ≡ 0 → SecondAccepts t t′ name type s e x
+  second-accepts c =
+      let r = accepts-only t′ name type s e x c in
+      let is = is-accepted t′ name type s e x (r .reading) in
+      record {
+        mode = r .mode;
+        tree = r .tree;
+        used = r .used;
+        reading = r .reading;
+        second = r .shows;
+        first = call-tells t name type s e x (checked-right t (pair .first-valid))
+            ∙ ap (tells e x) (model-laws.second-accepts (wordsOf t) (wordsOf t′) (pair-words t t′ pair) name type s (e / 4) x
+            (r .mode) (r .tree) (r .used) is)
+            ∙ tells-less e x (r .mode) (firstBare (outermost N [] (r .tree))) (replaced N (r .tree)) (r .used);
+      }
+
+  -- the place in the area excuses as the place itself does
+  capped-excuse : (mode : Mode) (tree : Nodes) (used n p : ℕ) (ρ : Path) → Reading t name type s e x mode tree used
+      → Excuse N [] tree n p ρ → Excuse N [] tree n (capped p) ρ
+  capped-excuse mode tree used n p ρ r (Excuse.no-slot k) = Excuse.no-slot k
+  capped-excuse mode tree used n p ρ r (Excuse.no-bytes k) = Excuse.no-bytes k
+  capped-excuse mode tree used n p ρ r (Excuse.still-open o) =
+      let i = r .is .is in
+      let f = i .found in
+      let below = open-within N p ρ [] (f .is) o in
+      let next = f .stands .next in
+      let within = f .within in
+      let few = i .mode-byte .few in
+      rw (capped-small p (omega arith)) (Excuse.still-open o)
+
+  pub only-first-accepts : readCall t name type s e x 152 .number ≡ 0
+      → (readCall t′ name type s e x 152 .number ≡ 0 → ⊥) → OnlyFirstAccepts t t′ name type s e x
+  unfolding readBytes afterVerdict outcome eventsBack textsLeft areaOf
+  only-first-accepts c z = go (reading (wordsOf t′) name type s (e / 4) x) refl z
+    where
+      R : Reads t name type s e x
+      R = accepts-only t name type s e x c
+
+      right′ : tableVerdict t′ ≡ right
+      right′ = checked-right t′ (pair .second-valid)
+
+      path-short : (q : Reply) → reading (wordsOf t′) name type s (e / 4) x ≡ q → length (outcome q .path) ≤ 64
+      path-short q y = rw (right′, y) at (path-most t′ name type s e x)
+
+      go : (q : Reply) → reading (wordsOf t′) name type s (e / 4) x ≡ q
+          → (readCall t′ name type s e x 152 .number ≡ 0 → ⊥) → OnlyFirstAccepts t t′ name type s e x
+      go (accepted mode ns used) y z =
+          absurd (z (ap (λ (b : Back). b .number) (call-tells t′ name type s e x right′ ∙ ap (tells e x) y)))
+      go (declined n p π) y z =
+          let is = is-accepted t name type s e x (R .reading) in
+          let k = model-laws.only-first-accepts (wordsOf t) (wordsOf t′) (pair-words t t′ pair) name type s (e / 4) x
+          (R .mode) (R .tree) (R .used) n p π is y in
+          record {
+            mode = R .mode;
+            tree = R .tree;
+            used = R .used;
+            reading = R .reading;
+            first = R .shows;
+            number = n;
+            place = capped p;
+            path = π;
+            second = call-tells t′ name type s e x right′ ∙ ap (tells e x) y ∙ rw (capped-twice p);
+            place-fits = omega arith;
+            path-fits = path-short (declined n p π) y;
+            excuse = capped-excuse (R .mode) (R .tree) (R .used) n p π (R .reading) k;
+          }

@@ -1,0 +1,62 @@
+-- A table's bytes judged by the words that are lent of it.
+use Prim.Native.Nat.{ℕ, _/_, _%_, _≤_, _<_, min}
+use mathlib.Core.Path.{_≡_, sym, ap, subst, _∙_}
+use mathlib.Core.List.{List, _++_}
+use native.Mathlib.Omega.{arith}
+use borrow.Author.Tests.{eq-eqb, ne-eqb, le-leb, lt-leb}
+use lib.ListN.{length, take, drop}
+use Rattle.table.specs.First.{Verdict}
+use Rattle.table.specs.Valid.{verdict}
+use Rattle.table.specs.Views.{verdictIs}
+use Rattle.table.specs.declared.answers.Verdict as code
+use Rattle.table.specs.declared.answers.Verdict.the-variants.{Right, Wrong}
+use Rattle.buffers.specs.Bytes.{wordsOf}
+use Rattle.buffers.proofs.BytesLaws.{loaded-front}
+use Rattle.bim.specs.Calls.{tableVerdict}
+use Rattle.bim.specs.TableRoom.{wordsLent, placed}
+use Rattle.bim.proofs.TableLaws.{moved, Told, told, verdict-lent}
+
+-- how many words are lent
+abbrev Lent : ℕ → ℕ → Type 0
+Lent b r = (r ≡ wordsLent b) × (r ≤ b / 4) × (r ≤ 8964)
+
+module _ (b : ℕ) where
+  module _ (e : b % 4 ≡ 0) where
+    pub all-words : b / 4 ≤ 8964 → Lent b (b / 4)
+    all-words h = (sym (rw (eq-eqb _ _ e, le-leb _ _ h)), omega arith, h)
+
+    pub long-four : 8964 < b / 4 → Lent b 4
+    long-four h = (sym (rw (eq-eqb _ _ e, lt-leb _ _ h)), omega arith, omega arith)
+
+  module _ (e : b % 4 ≡ 0 → ⊥) where
+    odd : (r : ℕ) → r ≡ min (b / 4) 4 → Lent b r
+    odd r h = (h ∙ sym (rw (ne-eqb _ _ e)), omega arith, omega arith)
+
+    pub odd-few : b / 4 < 4 → Lent b (b / 4)
+    odd-few h = odd (b / 4) (omega arith)
+
+    pub odd-four : 4 ≤ b / 4 → Lent b 4
+    odd-four h = odd 4 (omega arith)
+
+pub ruleset lent-ways = (all-words, long-four, odd-few, odd-four)
+
+pub placed-moved : (seen given place : ℕ) → place ≡ seen → given ≡ placed seen given place
+placed-moved seen given place e = sym (rw (eq-eqb place seen e))
+
+pub placed-kept : (seen given place : ℕ) → (place ≡ seen → ⊥) → place ≡ placed seen given place
+placed-kept seen given place e = sym (rw (ne-eqb place seen e))
+
+pub ruleset placed-ways = (placed-moved, placed-kept)
+
+-- the check
+module _ (t room words : List ℕ) (k : ℕ) (n : k ≡ wordsLent (length t)) (b : k ≤ length t / 4) (l : words ≡ take k (wordsOf t) ++ drop k room) (v : code.Verdict) (e : verdictIs v ≡ verdict (take k words)) where
+  judged-is : tableVerdict t ≡ moved k (length t / 4) (verdictIs v)
+  judged-is = verdict-lent t k (subst (Told t) (sym n) (told t)) ∙ ap (λ (x : List ℕ). moved k (length t / 4) (verdict x)) (sym (loaded-front t room words k l b)) ∙ ap (moved k (length t / 4)) (sym e)
+
+  pub judged-right : v ≡ Right → verdictIs Right ≡ tableVerdict t
+  judged-right r = sym (judged-is ∙ ap (λ (x : code.Verdict). moved k (length t / 4) (verdictIs x)) r)
+
+  pub judged-wrong : (i p : ℕ) → v ≡ Wrong i → p ≡ placed k (length t / 4) i → verdictIs (Wrong p) ≡ tableVerdict t
+  judged-wrong i p r q = ap (λ (x : ℕ). verdictIs (Wrong x)) q ∙ sym (judged-is ∙ ap (λ (x : code.Verdict). moved k (length t / 4) (verdictIs x)) r)
+
+pub ruleset judged-ways = (judged-right, judged-wrong)

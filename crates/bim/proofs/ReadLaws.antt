@@ -1,0 +1,106 @@
+-- The reading of bytes, from the reading of the words that are lent.
+use Prim.Native.Nat.{ℕ, zero, suc, _-_, _*_, _/_, _≤_, min}
+use mathlib.Core.Path.{_≡_, refl, sym, ap, _∙_}
+use mathlib.Core.List.{List, [], _++_}
+use native.Mathlib.Omega.{arith}
+use lib.ListN.{length, take, drop, length-append}
+use lib.Seq.{take-at}
+use Rattle.numbers.specs.Refusal as refusal
+use Rattle.numbers.specs.Limit.{mostEvents}
+use Rattle.table.specs.First.{Verdict}
+use Rattle.table.specs.First.Verdict.{right, wrong}
+use Rattle.table.specs.Valid.{verdict}
+use Rattle.table.specs.Rows.{heldOf, tableOf}
+use Rattle.model.specs.Model.{events, rooted}
+use Rattle.model.specs.Whole.{Reply, Outcome, outcome, reading, afterVerdict, afterAsked, asked, payload, eventsLeft, textsLeft, eventWords, filled}
+use Rattle.model.specs.Whole.Reply.{accepted, declined}
+use Rattle.model.proofs.Entries.{words-length as event-words}
+use Rattle.buffers.specs.Bytes.{wordsOf, spelled, bytesOf}
+use Rattle.buffers.proofs.BytesLaws.{bytes-length}
+use Rattle.bim.specs.Calls.{zeros, readBytes, eventsBack}
+use Rattle.bim.specs.TableRoom.{placed}
+use Rattle.bim.proofs.TableLaws.{placed-same, Told, whole, part}
+use Rattle.bim.specs.EventRoom.{slotWords, placedIn}
+
+pub placed-in-same : (k : ℕ) (o : Outcome) → placedIn k k o ≡ o
+placed-in-same k o = λ i. record { number = o .number; place = placed-same k (o .place) i; mode = o .mode; events = o .events; text = o .text; bits = o .bits; path = o .path }
+
+-- as much room as the bytes have
+same-room : (l : List ℕ) (name type : ℕ) (s : List ℕ) (e x : ℕ) → reading l name type s (e / 4) x ≡ reading l name type s (slotWords e) x
+unfolding reading
+same-room l name type s e x =
+    let h : min (e / 4 / 4) mostEvents ≡ min (slotWords e / 4) mostEvents = omega arith in
+    ap (λ (n : ℕ). afterVerdict (verdict l) (afterAsked (asked (tableOf l .types) name type) (payload (heldOf l) (rooted (tableOf l) name type) s (record { slots = n; bytes = x })))) h
+
+-- what the reading of the words lent tells of the reading of the bytes
+pub record Read (R R′ : Reply) (k m e x : ℕ) : Type 0 where
+  pub answer : outcome R ≡ placedIn k m (outcome R′)
+  pub events : eventsBack e R ≡ eventsBack e R′
+  pub texts : textsLeft x R ≡ textsLeft x R′
+
+same-reply : (R R′ : Reply) (k m e x : ℕ) → R ≡ R′ → k ≡ m → Read R R′ k m e x
+same-reply R R′ k m e x r g =
+    record {
+      answer = ap outcome r ∙ sym (placed-in-same k (outcome R′)) ∙ ap (λ (j : ℕ). placedIn k j (outcome R′)) g;
+      events = ap (eventsBack e) r;
+      texts = ap (textsLeft x) r;
+    }
+
+both-declined : (R R′ : Reply) (k m e x i : ℕ) → R ≡ declined refusal.table (placed k m i) [] → R′ ≡ declined refusal.table i [] → Read R R′ k m e x
+unfolding outcome eventsBack textsLeft
+both-declined R R′ k m e x i r r′ =
+    record {
+      answer = ap outcome r ∙ sym (ap (λ (z : Reply). placedIn k m (outcome z)) r′);
+      events = ap (eventsBack e) r ∙ sym (ap (eventsBack e) r′);
+      texts = ap (textsLeft x) r ∙ sym (ap (textsLeft x) r′);
+    }
+
+-- a verdict that stands twice stands once
+once : (v : Verdict) (r : Reply) → afterVerdict v (afterVerdict v r) ≡ afterVerdict v r
+unfolding afterVerdict
+once right r = refl
+once (wrong i) r = refl
+
+pub read-lent : (t : List ℕ) (name type : ℕ) (s : List ℕ) (e x k : ℕ) → Told t k
+    → Read (readBytes t name type s e x) (reading (take k (wordsOf t)) name type s (slotWords e) x) k (length t / 4) e x
+unfolding readBytes reading afterVerdict
+read-lent t name type s e x k (whole v f g) =
+    let one : readBytes t name type s e x ≡ reading (wordsOf t) name type s (e / 4) x =
+    ap (λ (u : Verdict). afterVerdict u (reading (wordsOf t) name type s (e / 4) x)) v ∙ once (verdict (wordsOf t)) _ in
+    same-reply _ _ k (length t / 4) e x (one ∙ same-room (wordsOf t) name type s e x ∙ ap (λ (l : List ℕ). reading l name type s (slotWords e) x) (sym f)) g
+read-lent t name type s e x k (part i v f) =
+    both-declined _ _ k (length t / 4) e x i (ap (λ (u : Verdict). afterVerdict u (reading (wordsOf t) name type s (e / 4) x)) f) (rw v)
+
+-- the words of the events as bytes at the front of a buffer that was cleared
+as-many : (a b : ℕ) → a ≡ b → zeros a ≡ zeros b
+as-many a b e = ap zeros e
+
+zeros-dropped : (k n : ℕ) → drop k (zeros n) ≡ zeros (n - k)
+zeros-dropped zero n = as-many n (n - 0) (omega arith)
+zeros-dropped (suc k) zero = as-many 0 (0 - suc k) (omega arith)
+zeros-dropped (suc k) (suc n) = zeros-dropped k n ∙ as-many (n - k) (suc n - suc k) (omega arith)
+
+filled-bytes : (e : ℕ) (w : List ℕ) → bytesOf w ++ drop (4 * length w) (zeros e) ≡ filled e (bytesOf w)
+unfolding filled
+filled-bytes e w =
+    ap (λ (z : List ℕ). bytesOf w ++ z) (zeros-dropped (4 * length w) e ∙ as-many (e - 4 * length w) (e - length (bytesOf w)) (omega (arith, bytes-length w)))
+
+-- the words of the events that were read are among the words lent
+pub events-fit : (m : ℕ) (R : Reply) (E : List ℕ) → E ≡ eventsLeft m R → length E ≡ m → 4 * outcome R .events ≤ m
+unfolding eventsLeft outcome filled
+events-fit m (accepted mode ns q) E f n =
+    let w = eventWords (events ns) in
+    omega (arith, event-words (events ns), ap length f, length-append w (zeros (m - length w)))
+events-fit m (declined n′ p π) E f n = omega arith
+
+-- and they alone are stored over zeros
+pub events-stored : (e m k : ℕ) (R : Reply) (E : List ℕ) → E ≡ eventsLeft m R → k ≡ 4 * outcome R .events → bytesOf (take k E) ++ drop (4 * k) (zeros e) ≡ eventsBack e R
+unfolding eventsLeft eventsBack outcome filled spelled
+events-stored e m k (accepted mode ns q) E f h =
+    let w = eventWords (events ns) in
+    let n : length w ≡ k = event-words (events ns) ∙ sym h in
+    ap (λ (z : List ℕ). bytesOf (take k z) ++ drop (4 * k) (zeros e)) f
+    ∙ ap (λ (z : List ℕ). bytesOf z ++ drop (4 * k) (zeros e)) (take-at w (zeros (m - length w)) k n)
+    ∙ ap (λ (j : ℕ). bytesOf w ++ drop (4 * j) (zeros e)) (sym n)
+    ∙ filled-bytes e w
+events-stored e m k (declined n′ p π) E f h = let z : k ≡ 0 = omega arith in rw z

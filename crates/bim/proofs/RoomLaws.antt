@@ -1,0 +1,68 @@
+-- More room for events changes no reading but one that was refused for lack of it, 7.
+use Prim.Native.Nat.{ℕ, _≤_}
+use mathlib.Core.Path.{_≡_, refl}
+use mathlib.Core.Bool.{Bool}
+use mathlib.Core.List.{List}
+use native.Mathlib.Omega.{arith}
+use Rattle.model.specs.Model.{Plan, Nodes, Path}
+use Rattle.model.specs.Items.{Mode}
+use Rattle.model.specs.Read.{Room, less, lessOne}
+use Rattle.model.proofs.Reads.{Extent, Goes, an-item, an-element, a-blank, nothing, more, Stop, too-deep, no-item, no-bytes, no-slot, no-head, unheld, no-start, no-blank, Refuses, here, inside, unmet, no-end, later}
+use Rattle.model.specs.Whole.{Reply, outcome, roomOf, reading}
+use Rattle.model.proofs.Replies.{Replies, no-table, no-root, no-mode, stopped, unpadded, whole, reading-replies, replies-reading}
+
+-- no fewer events, as many text bytes
+record Wider (r r′ : Room) : Type 0 where
+  slots : r .slots ≤ r′ .slots
+  bytes : r .bytes ≡ r′ .bytes
+
+module _ {b : ℕ → ℕ} {mode : Mode} {held : ℕ → Bool} where
+  goes-wider : {x : Extent} {P Q : Plan} {r : Room} {wall at q : ℕ} {ns : Nodes} → Goes b mode held x P r wall at ns q Q
+      → (r′ : Room) → Wider r r′ → Goes b mode held x P r′ wall at ns q Q
+  goes-wider (an-item e h k) r′ w = an-item {r = r′} e (omega arith) (omega arith)
+  goes-wider (an-element x g e h) r′ w =
+      an-element {r = r′} x (goes-wider g (lessOne r′) (record { slots = omega arith; bytes = w .bytes })) e (omega arith)
+  goes-wider (a-blank n e z h) r′ w = a-blank {r = r′} n e z (omega arith)
+  goes-wider nothing r′ w = nothing
+  goes-wider (more {ns} f g) r′ w =
+      more (goes-wider f r′ w) (goes-wider g (less r′ ns) (record { slots = omega arith; bytes = omega arith }))
+
+  stop-wider : {P : Plan} {r : Room} {wall at n : ℕ} → Stop b mode held r wall at P n → (r′ : Room) → Wider r r′
+      → (n ≡ 7 → ⊥) → Stop b mode held r′ wall at P n
+  stop-wider too-deep r′ w z = too-deep
+  stop-wider (no-item e) r′ w z = no-item e
+  stop-wider (no-bytes e h) r′ w z = no-bytes e (omega arith)
+  stop-wider (no-slot e h k) r′ w z = absurd (z refl)
+  stop-wider (no-head e) r′ w z = no-head e
+  stop-wider (unheld e y) r′ w z = unheld e y
+  stop-wider (no-start x k) r′ w z = absurd (z refl)
+  stop-wider (no-blank n e y k) r′ w z = absurd (z refl)
+
+  refuses-wider : {P : Plan} {r : Room} {π ρ : Path} {wall at n p : ℕ} → Refuses b mode held P r π wall at n p ρ
+      → (r′ : Room) → Wider r r′ → (n ≡ 7 → ⊥) → Refuses b mode held P r′ π wall at n p ρ
+  refuses-wider (here x) r′ w z = here (stop-wider x r′ w z)
+  refuses-wider (inside x s d) r′ w z =
+      inside {r = r′} x (omega arith) (refuses-wider d (lessOne r′) (record { slots = omega arith; bytes = w .bytes }) z)
+  refuses-wider (unmet x s g e) r′ w z =
+      unmet {r = r′} x (omega arith) (goes-wider g (lessOne r′) (record { slots = omega arith; bytes = w .bytes })) e
+  refuses-wider (no-end x s g e h) r′ w z = absurd (z refl)
+  refuses-wider (later {ns} f d) r′ w z =
+      later (goes-wider f r′ w) (refuses-wider d (less r′ ns) (record { slots = omega arith; bytes = omega arith }) z)
+
+module _ (l : List ℕ) (name type : ℕ) (s : List ℕ) (w w′ x : ℕ) (h : w ≤ w′) where
+  wider : Wider (roomOf w x) (roomOf w′ x)
+  wider = record { slots = omega arith; bytes = refl }
+
+  replies-wider : {R : Reply} → Replies l name type s w x R → (outcome R .number ≡ 7 → ⊥) → Replies l name type s w′ x R
+  unfolding outcome
+  replies-wider (no-table v) z = no-table v
+  replies-wider (no-root v a) z = no-root v a
+  replies-wider (no-mode v a m) z = no-mode v a m
+  replies-wider (stopped i r) z = stopped i (refuses-wider r (roomOf w′ x) wider z)
+  replies-wider (unpadded i r e) z = unpadded i (goes-wider r (roomOf w′ x) wider) e
+  replies-wider (whole i r e) z = whole i (goes-wider r (roomOf w′ x) wider) e
+
+  -- more words lent: the same reading, but where there were too few
+  pub more-room : (outcome (reading l name type s w x) .number ≡ 7 → ⊥)
+      → reading l name type s w′ x ≡ reading l name type s w x
+  more-room z = replies-reading l name type s w′ x (replies-wider (reading-replies l name type s w x) z)

@@ -1,0 +1,71 @@
+-- `read_words`: the reader's words, then those of its events as bytes over zeros.
+use native.Mathlib.Omega.{arith}
+use lib.ListN.{length-take}
+use Rattle.bim.proofs.Replies.{words-fit, words-read}
+use borrow.Author.Needs.{needs}
+use Rattle.bim.proofs.reads.read_words.Statement.{statement}
+use Rattle.bim.proofs.reads.read_words.Tie as tie
+
+read-requires : tie.Need-read-requires
+read-requires c κs = search needs
+
+clear-requires : tie.Need-clear-requires
+clear-requires c κs = search needs
+
+cast-k : tie.Need-cast-k
+cast-k c = search needs
+
+mul-k : tie.Need-mul-k
+mul-k c = search needs
+
+slice-reshare-prefix-store : tie.Need-slice-reshare-prefix-store
+slice-reshare-prefix-store c =
+    let r = c .before .before .before .before .before .before .before .before .before .read in
+    words-fit _ _ _ _ (r .ensures .answer) (r .ensures .events-left) (r .kept .1 .1 .1 .1 .0)
+
+slice-aggregate-store : tie.Need-slice-aggregate-store
+slice-aggregate-store c =
+    let r = c .before .before .before .before .before .before .before .before .before .before .read in
+    let h = words-fit _ _ _ _ (r .ensures .answer) (r .ensures .events-left) (r .kept .1 .1 .1 .1 .0) in
+    simp length-take (omega arith)
+
+store-requires : tie.Need-store-requires
+store-requires c κs =
+    let b = c .before .before .before .before .before .before .before .before .before .before .before in
+    let r = b .read in
+    let h = words-fit _ _ _ _ (r .ensures .answer) (r .ensures .events-left) (r .kept .1 .1 .1 .1 .0) in
+    simp length-take (omega arith)
+
+same-length : tie.Need-same-length
+same-length c = search needs
+
+same-length-2 : tie.Need-same-length-2
+same-length-2 c = search needs
+
+same-length-3 : tie.Need-same-length-3
+same-length-3 c = search needs
+
+returns : tie.Need-returns
+returns c =
+    let b = c .before .before .before .before .before .before .before .before in
+    let d = b .before .before .before .before .before .before in
+    let entry = d .before .before .before .before .before .before .before .before in
+    let r = d .read in
+    words-read _ _ _ _ (entry .args .events .now) _ _ _ _ (r .ensures .answer) (r .ensures .events-left) (r .ensures .texts-left) (r .kept .1 .1 .1 .1 .0)
+    (b .clear .ensures) (c .before .before .store .ensures)
+
+pub read-words-spec : {M : Type 1} → statement M
+read-words-spec =
+    tie.close
+    (tie.spec
+    read-requires
+    clear-requires
+    cast-k
+    mul-k
+    slice-reshare-prefix-store
+    slice-aggregate-store
+    store-requires
+    same-length
+    same-length-2
+    same-length-3
+    returns)

@@ -1,0 +1,230 @@
+-- THE THREE DEMANDS OF THE CALLS THAT A HOST MAKES, over bytes: tables, payloads, events, texts and areas. The calls'
+-- contracts (src/lib.rt, src/bits.rt) are equations with `checkTable`, `readCall`, `writeCall`, `bitsCall` (Calls,
+-- Bits), so that what is said of these is said of the calls. proofs/Demands.antt has the theorems `demand1`,
+-- `demand2`, `demand3`. An area of another size than 152 bytes (12 of the bit reader's calls) is demand 1's: nothing
+-- is accepted with it.
+use Prim.Native.Nat.{ℕ, _+_, _*_, _/_, _%_, _≤_, _<_, min}
+use mathlib.Core.Path.{_≡_}
+use mathlib.Core.Logic.{_↔_}
+use mathlib.Core.Bool.{Bool, true}
+use mathlib.Core.List.{List, [], _∷_, map, reverse}
+use mathlib.Core.Option.{Option, none, some}
+use lib.ListN.{length, getD, take}
+use Rattle.numbers.specs.Refusal.{areaSize, notHeld}
+use Rattle.numbers.specs.Kind as kinds
+use Rattle.numbers.specs.Limit.{bitsArea, mostNames, mostOpen, mostPayload, mostWord}
+use Rattle.table.specs.Rows.{Row, tableOf, heldOf}
+use Rattle.table.specs.Held.{Alike}
+use Rattle.value.specs.Simple.{Octets}
+use Rattle.buffers.specs.Bytes.{wordsOf, bytesOf, wordFrom, halfFrom}
+use Rattle.model.specs.Model.{Mark, Nodes, Path, events, texts}
+use Rattle.model.specs.Items.{Mode}
+use Rattle.model.specs.Trees.{total}
+use Rattle.model.specs.Write.{bare}
+use Rattle.theorems.specs.Content.{Model, row}
+use Rattle.theorems.specs.Follows.{Follows}
+use Rattle.model.specs.Blanks.{Exact}
+use Rattle.theorems.specs.Less.{outermost, replaced, firstBare}
+use Rattle.theorems.specs.Open.{Excuse}
+use Rattle.model.specs.Whole.{modeNumber, Outcome, declines, accepts, filled, eventWords}
+use Rattle.theorems.specs.Reader.{IsReading}
+use Rattle.theorems.specs.Demand2.{Valid, payloadOf, bytesFor}
+use Rattle.theorems.specs.Demand3.{newOf}
+use Rattle.bit_reader.specs.Codes.{leftAt}
+use Rattle.bit_reader.specs.declared.codes.Coding.{Coding}
+use Rattle.bim.specs.Area.{areaOf, areaBytes, capped, told}
+use Rattle.bim.specs.Calls.{Back, back, zeros, checkTable, readCall, writeCall}
+use Rattle.bim.specs.Bits.{bitsCall}
+
+-- What a call gives back that refuses: the number; place and path, and nothing else, in the area; every output buffer
+-- zero throughout.
+abbrev pub refusal : (sizes : List ℕ) (n p : ℕ) → Path → Back
+refusal sizes n p π = back n (areaOf (declines n p π)) (map zeros sizes)
+
+-- What `bim_read` gives back that accepts a tree, in buffers of e and x bytes: counts in the area; events and texts,
+-- with zeros after them.
+abbrev pub shown : (e x : ℕ) → Mode → Nodes → (used : ℕ) → Back
+shown e x mode tree used =
+    back 0 (areaOf (accepts mode (length (events tree)) (length (texts tree)) used))
+    (filled e (bytesOf (eventWords (events tree))) ∷ filled x (texts tree) ∷ [])
+
+-- What `bim_write` gives back that makes a payload of so many bits of n events: the payload, with zeros after it.
+abbrev pub wrote : (room mode n text used : ℕ) → (payload : List ℕ) → Back
+wrote room mode n text used payload = back 0 (areaOf (told 0 mode n text used [])) (filled room payload ∷ [])
+
+-- DEMAND 1. Every call is answered: with 0; or with 24 where the area has another size, which is then zero throughout;
+-- or with a refusal whose place and path stand in the area. Only 0 leaves something in an output buffer.
+pub data Answered (area : ℕ) (sizes : List ℕ) (o : Back) : Type 0 where
+  accepted : area ≡ areaBytes → o .number ≡ 0 → Answered area sizes o
+  no-area : (area ≡ areaBytes → ⊥) → o ≡ back areaSize (zeros area) (map zeros sizes) → Answered area sizes o
+  refused : (n p : ℕ) (π : Path) → area ≡ areaBytes → 1 ≤ n → length π ≤ mostNames → o ≡ refusal sizes n p π
+      → Answered area sizes o
+
+-- The bit reader has no output buffer; on a refusal its area has the value 0, the place that was given and the bits
+-- left there.
+pub data AnsweredBits (s : List ℕ) (at area : ℕ) (o : Back) : Type 0 where
+  accepted : area ≡ bitsArea → o .number ≡ 0 → AnsweredBits s at area o
+  no-area : (area ≡ bitsArea → ⊥) → o ≡ back areaSize (zeros area) [] → AnsweredBits s at area o
+  refused : (n : ℕ) → area ≡ bitsArea → 1 ≤ n → o ≡ back n (bytesOf (0 ∷ at ∷ leftAt s at ∷ [])) []
+      → AnsweredBits s at area o
+
+-- What the accessors of include/bim.h fetch from an area.
+pub record Fetches (A : List ℕ) (o : Outcome) : Type 0 where
+  pub place : wordFrom A 0 ≡ capped (o .place)
+  pub mode : wordFrom A 4 ≡ o .mode
+  pub events : wordFrom A 8 ≡ o .events
+  pub text : wordFrom A 12 ≡ o .text
+  pub bits : wordFrom A 16 ≡ o .bits
+  pub names : wordFrom A 20 ≡ length (o .path)
+  pub name : (i : ℕ) → halfFrom A (24 + 2 * i) ≡ getD (o .path) i 0
+
+abbrev pub cappedAt : Outcome → Outcome
+cappedAt o = record {
+  number = o .number;
+  place = capped (o .place);
+  mode = o .mode;
+  events = o .events;
+  text = o .text;
+  bits = o .bits;
+  path = o .path;
+}
+
+pub record Demand1 : Type 0 where
+  pub check : (t : List ℕ) (area : ℕ) → Answered area [] (checkTable t area)
+  pub read : (t : List ℕ) (name type : ℕ) (s : List ℕ) (e x area : ℕ)
+      → Answered area (e ∷ x ∷ []) (readCall t name type s e x area)
+  pub write : (t : List ℕ) (name type mode : ℕ) (E X : List ℕ) (room area : ℕ)
+      → Answered area (room ∷ []) (writeCall t name type mode E X room area)
+  pub bits : (s : List ℕ) (at : ℕ) (c : Coding) (area : ℕ) → AnsweredBits s at area (bitsCall s at c area)
+  -- an area can be read back, part by part; so two answers with one number and one area are one answer, but for
+  -- places over 2^32 - 1
+  pub fetches : (o : Outcome) → Fetches (areaOf o) o
+  pub one-area : (o o′ : Outcome) → o .number ≡ o′ .number → areaOf o ≡ areaOf o′ → cappedAt o ≡ cappedAt o′
+
+-- DEMAND 2. The payload's bytes s have this reading: `IsReading` (model/specs/Reader) says that table and root are
+-- right, that s is a mode byte, bits that the grammar (001, 8.4 and 8.5: `Grammar.Is`) lets stand for the tree, and
+-- padding, and that there is room for the tree's events and texts.
+pub record Reading (t : List ℕ) (name type : ℕ) (s : List ℕ) (e x : ℕ) (mode : Mode) (tree : Nodes) (used : ℕ)
+    : Type 0 where
+  pub whole : length t % 4 ≡ 0
+  pub is : IsReading (wordsOf t) name type s (e / 4) x mode tree used
+
+pub record Same (mode mode′ : Mode) (tree tree′ : Nodes) (used used′ : ℕ) : Type 0 where
+  pub modes : mode ≡ mode′
+  pub trees : tree ≡ tree′
+  pub bits : used ≡ used′
+
+-- A call that accepts: this is the reading, there is no other, whatever the room, and it is what the call shows.
+pub record Reads (t : List ℕ) (name type : ℕ) (s : List ℕ) (e x : ℕ) : Type 0 where
+  pub mode : Mode
+  pub tree : Nodes
+  pub used : ℕ
+  pub reading : Reading t name type s e x mode tree used
+  pub only : (e′ x′ : ℕ) (mode′ : Mode) (tree′ : Nodes) (used′ : ℕ) → Reading t name type s e′ x′ mode′ tree′ used′
+      → Same mode mode′ tree tree′ used used′
+  pub shows : readCall t name type s e x areaBytes ≡ shown e x mode tree used
+  -- content models and occurrence bounds; Blanks of types that are not held, elements of types that are; true bit
+  -- counts
+  pub follows : Model (tableOf (wordsOf t)) mode (heldOf (wordsOf t)) mostOpen (row (Row.element name type)) (map bare (events tree)) (texts tree)
+  pub blanks : Exact (heldOf (wordsOf t)) tree
+  pub counts : 8 + total (events tree) ≡ used
+
+-- A call that makes a payload: the list is valid, so that it is a tree's list, but for the fourth words, and the
+-- texts are that tree's; the payload, the first (bits + 7) / 8 bytes of the buffer, is read, given room, as that
+-- tree, with true counts.
+pub record Writes (t : List ℕ) (name type n : ℕ) (E X : List ℕ) (room : ℕ) : Type 0 where
+  pub mode : Mode
+  pub mode-is : n ≡ modeNumber mode
+  pub valid : Valid (wordsOf t) name type mode (wordsOf E) X
+  pub payload : List ℕ
+  pub used : ℕ
+  pub size : length payload ≡ (used + 7) / 8
+  pub fits : length payload ≤ room
+  pub wrote-it : writeCall t name type n E X room areaBytes ≡ wrote room n (length E / 16) (length X) used payload
+  pub counts : 8 + total (events (valid .tree)) ≡ used
+  pub reads : (e x : ℕ) → length E ≤ e → length X ≤ x
+      → readCall t name type payload e x areaBytes ≡ shown e x mode (valid .tree) used
+
+-- None of the first n events in these bytes is a Blank.
+abbrev pub NoBlankIn : List ℕ → ℕ → Type 0
+NoBlankIn E n = (i : ℕ) → i < n → wordFrom E (16 * i) ≡ kinds.blank → ⊥
+
+pub record Demand2 : Type 0 where
+  -- what is accepted is the reading, and every reading is accepted
+  pub accepts-only : (t : List ℕ) (name type : ℕ) (s : List ℕ) (e x : ℕ) → readCall t name type s e x areaBytes .number ≡ 0
+      → Reads t name type s e x
+  pub accepts-all : (t : List ℕ) (name type : ℕ) (s : List ℕ) (e x : ℕ) (mode : Mode) (tree : Nodes) (used : ℕ)
+      → Reading t name type s e x mode tree used → readCall t name type s e x areaBytes ≡ shown e x mode tree used
+  -- a list is valid exactly when, by the table alone, it follows the content models and has no Blank
+  pub valid-by-table : (t : List ℕ) (name type : ℕ) (mode : Mode) (E X : List ℕ)
+      → Valid (wordsOf t) name type mode (wordsOf E) X ↔ Follows (wordsOf t) name type mode (wordsOf E) X
+  -- what is written reads back, and every valid list is written, given room
+  pub writes-only : (t : List ℕ) (name type n : ℕ) (E X : List ℕ) (room : ℕ)
+      → writeCall t name type n E X room areaBytes .number ≡ 0 → Writes t name type n E X room
+  pub writes-all : (t : List ℕ) (name type : ℕ) (mode : Mode) (E X : List ℕ) (room : ℕ)
+      → (h : Valid (wordsOf t) name type mode (wordsOf E) X) → length t % 4 ≡ 0 → length E % 16 ≡ 0
+      → bytesFor (h .bits) ≤ min room mostPayload
+      → writeCall t name type (modeNumber mode) E X room areaBytes
+      ≡ wrote room (modeNumber mode) (length E / 16) (length X) (8 + length (h .bits)) (payloadOf mode (h .bits))
+  -- what was read without a Blank is written back byte for byte, given room: the host hands over mode, events and
+  -- texts as the area counts them. The first two premises are the two clauses of `bim_read`'s contract
+  pub writes-back : (t : List ℕ) (name type : ℕ) (s A E T : List ℕ) (e x room : ℕ)
+      → back 0 A (E ∷ T ∷ []) ≡ readCall t name type s e x areaBytes → Octets s
+      → NoBlankIn E (wordFrom A 8) → length s ≤ room
+      → writeCall t name type (wordFrom A 4) (take (16 * wordFrom A 8) E) (take (wordFrom A 12) T) room areaBytes
+      ≡ wrote room (wordFrom A 4) (wordFrom A 8) (wordFrom A 12) (wordFrom A 16) s
+
+-- DEMAND 3. Two tables that `bim_check_table` accepts, alike but for held marks, the second holding all that the
+-- first holds.
+pub record Pair (t t′ : List ℕ) : Type 0 where
+  pub first-valid : checkTable t areaBytes .number ≡ 0
+  pub second-valid : checkTable t′ areaBytes .number ≡ 0
+  pub alike : Alike (wordsOf t) (wordsOf t′)
+  pub holds : (k : ℕ) → k < tableOf (wordsOf t) .types → heldOf (wordsOf t) k ≡ true → heldOf (wordsOf t′) k ≡ true
+
+-- a type that the second holds and the first does not
+abbrev pub new : List ℕ → List ℕ → ℕ → Bool
+new t t′ = newOf (wordsOf t) (wordsOf t′)
+
+-- What the first gives back, where o is the first of some elements that has no length: 9 at its place, with the path
+-- around it; or, where there is none, this tree.
+unfoldable pub less : (e x : ℕ) → Mode → (o : Option (Mark × Path)) → Nodes → (used : ℕ) → Back
+less e x mode none tree used = shown e x mode tree used
+less e x mode (some (m, π)) tree used = refusal (e ∷ x ∷ []) notHeld (m .at) (reverse π)
+
+module _ (t t′ : List ℕ) (name type : ℕ) (s : List ℕ) (e x : ℕ) where
+  -- (a) The second accepts: the tree is its reading. Every byte of the first call is then given: 9 at the first
+  -- outermost newly held element without a length; else the tree with each such element replaced by one Blank of the
+  -- same bit count, its texts left out (`Less`).
+  pub record SecondAccepts : Type 0 where
+    pub mode : Mode
+    pub tree : Nodes
+    pub used : ℕ
+    pub reading : Reading t′ name type s e x mode tree used
+    pub second : readCall t′ name type s e x areaBytes ≡ shown e x mode tree used
+    pub first : readCall t name type s e x areaBytes
+        ≡ less e x mode (firstBare (outermost (new t t′) [] tree)) (replaced (new t t′) tree) used
+
+  -- (b) Only the first accepts: the tree is its reading. The second refuses for lack of output room (7, 8), or while
+  -- an element that the tree shows as a Blank is still open, by the place and the path that stand in the area
+  -- (`Open`).
+  pub record OnlyFirstAccepts : Type 0 where
+    pub mode : Mode
+    pub tree : Nodes
+    pub used : ℕ
+    pub reading : Reading t name type s e x mode tree used
+    pub first : readCall t name type s e x areaBytes ≡ shown e x mode tree used
+    pub number : ℕ
+    pub place : ℕ
+    pub path : Path
+    pub second : readCall t′ name type s e x areaBytes ≡ refusal (e ∷ x ∷ []) number place path
+    pub place-fits : place ≤ mostWord
+    pub path-fits : length path ≤ mostNames
+    pub excuse : Excuse (new t t′) [] tree number place path
+
+pub record Demand3 : Type 0 where
+  pub second-accepts : (t t′ : List ℕ) (name type : ℕ) (s : List ℕ) (e x : ℕ) → Pair t t′
+      → readCall t′ name type s e x areaBytes .number ≡ 0 → SecondAccepts t t′ name type s e x
+  pub only-first-accepts : (t t′ : List ℕ) (name type : ℕ) (s : List ℕ) (e x : ℕ) → Pair t t′
+      → readCall t name type s e x areaBytes .number ≡ 0 → (readCall t′ name type s e x areaBytes .number ≡ 0 → ⊥)
+      → OnlyFirstAccepts t t′ name type s e x

@@ -1,0 +1,91 @@
+// The calls for a C host, over bytes: words are 4 big-endian bytes, the answer is a number and an area. include/bim.h declares them.
+mod answers;
+mod area;
+mod bits;
+mod reads;
+mod tables;
+mod writes;
+
+use answers::tell_answer;
+use answers::tell_written;
+use area::tell_place;
+use buffers::clear;
+use numbers::limit;
+use numbers::refusal;
+use reads::read_bytes;
+use table::Verdict;
+use tables::check_bytes;
+use writes::write_bytes;
+ghost use mathlib.Core.Path.{_≡_};
+ghost use mathlib.Core.List.{[], _∷_};
+ghost use lib.ListN.{length};
+ghost use Rattle.value.specs.Simple.{Octets};
+ghost use Rattle.bim.specs.Calls.{back, checkTable, readCall, writeCall};
+
+// Judges a table.
+#[no_mangle]
+pub extern "C" fn bim_check_table(table: &[u8], area: &mut [u8]) -> u32
+    ensures { λ r. ⌜ back r (now (area .exit)) [] ≡ checkTable (now (table .entry)) (length (now (area .entry))) ⌝ }
+{
+    if area.len() != limit::AREA {
+        clear(area);
+        return refusal::AREA_SIZE;
+    }
+    match check_bytes(table) {
+        Verdict::Right => {
+            tell_place(area, 0);
+            refusal::ACCEPTED
+        }
+        Verdict::Wrong(i) => {
+            tell_place(area, i);
+            refusal::TABLE
+        }
+    }
+}
+
+// Reads a payload into events and texts.
+#[no_mangle]
+pub extern "C" fn bim_read(
+    table: &[u8],
+    root_name: u32,
+    root_type: u32,
+    payload: &[u8],
+    events: &mut [u8],
+    texts: &mut [u8],
+    area: &mut [u8],
+) -> u32
+    ensures answer { λ r. ⌜ back r (now (area .exit)) (now (events .exit) ∷ now (texts .exit) ∷ []) ≡ readCall (now (table .entry)) «root_name» «root_type» (now (payload .entry)) (length (now (events .entry))) (length (now (texts .entry))) (length (now (area .entry))) ⌝ }
+    ensures octets { λ r. ⌜ Octets (now (payload .entry)) ⌝ }
+{
+    if area.len() != limit::AREA {
+        clear(events);
+        clear(texts);
+        clear(area);
+        return refusal::AREA_SIZE;
+    }
+    let a = read_bytes(table, root_name, root_type, payload, events, texts);
+    tell_answer(area, a)
+}
+
+// Writes events and texts as a payload.
+#[no_mangle]
+pub extern "C" fn bim_write(
+    table: &[u8],
+    root_name: u32,
+    root_type: u32,
+    mode: u32,
+    events: &[u8],
+    texts: &[u8],
+    payload: &mut [u8],
+    area: &mut [u8],
+) -> u32
+    ensures { λ r. ⌜ back r (now (area .exit)) (now (payload .exit) ∷ []) ≡ writeCall (now (table .entry)) «root_name» «root_type» mode (now (events .entry)) (now (texts .entry)) (length (now (payload .entry))) (length (now (area .entry))) ⌝ }
+{
+    if area.len() != limit::AREA {
+        clear(payload);
+        clear(area);
+        return refusal::AREA_SIZE;
+    }
+    let a = write_bytes(table, root_name, root_type, mode, events, texts, payload);
+    tell_written(area, a)
+}

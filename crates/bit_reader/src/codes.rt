@@ -1,0 +1,91 @@
+// One code of a slice, from a place on, below the slice's end.
+use numbers::limit;
+use numbers::refusal;
+use wire::Bits;
+use wire::Read;
+use wire::reading::fixed;
+use wire::reading::vlu5;
+use wire::reading::vlu8;
+ghost use mathlib.Core.Path.{_≡_};
+ghost use Prim.Native.Nat.{_*_, _≤_};
+ghost use lib.ListN.{length};
+ghost use Rattle.wire.specs.Bits.{bitAt};
+ghost use Rattle.wire.specs.Answer.{readIs};
+ghost use Rattle.bit_reader.specs.Codes as meaning;
+
+// How a number is coded: in so many bits, as a vluimsbf5, as a vluimsbf8 of at most two bytes.
+pub enum Coding {
+    Fixed(u32),
+    Five,
+    Eight,
+}
+
+// 0 or the number of a refusal; the value, 0 on a refusal; the place past the code, or that of the refused one; the bits left from there.
+pub struct Answer {
+    pub number: u32,
+    pub value: u32,
+    pub place: Bits,
+    pub left: Bits,
+}
+
+// The first bit that is not fetched: the slice's end, or 2^32 - 1, where places stop.
+pub fn wall(src: &[u8]) -> Bits
+    ensures { λ r. ⌜ (r .0 ≡ meaning.wallOf (now (src .entry))) × (r .0 ≤ 8 * length (now (src .entry))) ⌝ }
+{
+    let n = src.len();
+    if n < 536870912 {
+        return Bits(8 * (n as u32));
+    }
+    Bits(limit::MOST_WORD)
+}
+
+// How many bits there are from a place on.
+pub fn left_at(src: &[u8], at: Bits) -> Bits
+    ensures { λ r. ⌜ r .0 ≡ meaning.leftAt (now (src .entry)) (at .0) ⌝ }
+{
+    let end = wall(src).0;
+    let a = at.0;
+    if a < end {
+        return Bits(end - a);
+    }
+    Bits(0)
+}
+
+// The code as the wire has it.
+fn coded(src: &[u8], end: Bits, at: Bits, coding: Coding) -> Read
+    requires { ⌜ end .0 ≤ 8 * length (now src) ⌝ }
+    ensures { λ r. ⌜ readIs r ≡ meaning.coded coding (bitAt (now (src .entry))) (end .0) (at .0) ⌝ }
+{
+    match coding {
+        Coding::Fixed(w) => fixed(src, end, at, w),
+        Coding::Five => vlu5(src, end, at),
+        Coding::Eight => vlu8(src, end, at),
+    }
+}
+
+// The code at a place, and the place past it.
+pub fn code_at(src: &[u8], at: Bits, coding: Coding) -> Answer
+    ensures { λ r. ⌜ meaning.answerIs r ≡ meaning.codeAt (now (src .entry)) (at .0) coding ⌝ }
+{
+    let end = wall(src);
+    match coded(src, end, at, coding) {
+        Read::Refuse(number) => {
+            let left = left_at(src, at);
+            Answer {
+                number,
+                value: 0,
+                place: at,
+                left,
+            }
+        }
+        Read::Value(value, place) => {
+            let left = left_at(src, place);
+            Answer {
+                number: refusal::ACCEPTED,
+                value,
+                place,
+                left,
+            }
+        }
+    }
+}

@@ -1,0 +1,69 @@
+-- The bytes one after another are a run of stores.
+use Prim.Native.Nat.{suc, _+_}
+use mathlib.Core.Path.{_≡_}
+use native.Mathlib.Omega.{arith}
+use native.Mathlib.Numerals.{add-one}
+use lib.ListN.{length-set}
+use borrow.Author.Needs.{needs}
+use Rattle.buffers.proofs.put_word.Statement.{statement}
+use Rattle.buffers.proofs.put_word.Tie as tie
+
+cast-s : tie.Need-cast-s
+cast-s c = search needs
+
+slice-write-s : tie.Need-slice-write-s
+slice-write-s c = search needs
+
+cast-s-2 : tie.Need-cast-s-2
+cast-s-2 c = search needs
+
+add-s : tie.Need-add-s
+add-s c = search needs
+
+slice-write-s-2 : tie.Need-slice-write-s-2
+slice-write-s-2 c = simp length-set (omega arith)
+
+cast-s-3 : tie.Need-cast-s-3
+cast-s-3 c = search needs
+
+add-s-2 : tie.Need-add-s-2
+add-s-2 c = search needs
+
+slice-write-s-3 : tie.Need-slice-write-s-3
+slice-write-s-3 c = simp length-set (omega arith)
+
+cast-s-4 : tie.Need-cast-s-4
+cast-s-4 c = search needs
+
+add-s-3 : tie.Need-add-s-3
+add-s-3 c = search needs
+
+slice-write-s-4 : tie.Need-slice-write-s-4
+slice-write-s-4 c = simp length-set (omega arith)
+
+same-length : tie.Need-same-length
+same-length c = search needs
+
+returns : tie.Need-returns
+returns c = let at = c .args .at in
+    let e₂ : at + 2 ≡ suc (suc at) = omega arith in
+    let e₃ : at + 3 ≡ suc (suc (suc at)) = omega arith in
+    rw (add-one at, e₂, e₃)
+
+pub put-word-spec : {M : Type 1} → statement M
+put-word-spec =
+    tie.close
+    (tie.spec
+    cast-s
+    slice-write-s
+    cast-s-2
+    add-s
+    slice-write-s-2
+    cast-s-3
+    add-s-2
+    slice-write-s-3
+    cast-s-4
+    add-s-3
+    slice-write-s-4
+    same-length
+    returns)

@@ -1,2 +1,0 @@
-mod Ways
-mod Held

@@ -1,0 +1,120 @@
+-- The laws of items and heads: what is read is so, what is so is read with its exact bits, and each follows from the same law of its codes.
+use Prim.Native.Nat.{ℕ, zero, suc, _+_, _-_, _≤_}
+use mathlib.Core.Path.{_≡_, refl}
+use mathlib.Core.List.{List, [], _++_}
+use native.Mathlib.Omega.{arith}
+use lib.ListN.{length-append}
+use Rattle.numbers.specs.Refusal as refusal
+use Rattle.wire.specs.Res.{got, Ensures}
+use Rattle.wire.proofs.Res.{gives, bind, under, then, under-then}
+use Rattle.wire.specs.At.{At}
+use Rattle.wire.proofs.BitLaws.{at-none, at-both, at-left, at-right}
+use Rattle.wire.specs.Lawful.{Binary}
+use Rattle.value.specs.Code.{Fits, bitsOf}
+use Rattle.value.proofs.CodeLaws.{code-lawful}
+use Rattle.value.proofs.SimpleLaws.{simple-found, simple-reads}
+use Rattle.model.specs.Model.{Item}
+use Rattle.model.specs.Items.{Mode, never, optional, always, flag, lengths, Form, present, simply, formOf, FormIs, is-present, is-simple, ItemIs, Length, free, long, Measures, HeadIs, no-head, flag-off, flag-on, head-on, formAt, itemAt, Head, lengthAt, headAt}
+
+pub record FoundItem (b : ℕ → ℕ) (i : Item) (wall at v : ℕ) (ts : List ℕ) (q : ℕ) : Type 0 where
+  pub bits : List ℕ
+  pub is : ItemIs i v ts bits
+  pub stands : At b at bits q
+  pub within : at ≤ wall → q ≤ wall
+
+pub record FoundHead (b : ℕ → ℕ) (mode : Mode) (declared type : ℕ) (h : Length) (wall at p : ℕ) : Type 0 where
+  pub bits : List ℕ
+  pub is : HeadIs mode declared type h bits
+  pub stands : At b at bits p
+  pub within : at ≤ wall → p ≤ wall
+
+abbrev pub FindsHead : (ℕ → ℕ) → Mode → ℕ → ℕ → ℕ → Head → Type 0
+FindsHead b mode declared wall at (Head.bare type p) = FoundHead b mode declared type free wall at p
+FindsHead b mode declared wall at (Head.sized type p e) = FoundHead b mode declared type (long (e - p)) wall at p × (p ≤ e) × (e ≤ wall)
+
+module _ (b : ℕ → ℕ) (bit : Binary b) where
+  pub item-found : (i : Item) (wall at : ℕ) → Ensures (itemAt i b wall at) (λ r. FoundItem b i wall at (r .0) (r .1) (r .2))
+  unfolding itemAt formAt
+  item-found i wall at = go (formOf i) refl
+    where
+      go : (f : Form) → formOf i ≡ f → Ensures (formAt f b wall at) (λ r. FoundItem b i wall at (r .0) (r .1) (r .2))
+      go present e = gives (record { bits = []; is = rw e is-present; stands = at-none; within = λ h. h })
+      go (simply s) e = record {
+        says = λ r z.
+            let f = simple-found b bit s wall at .says r z in
+            record { bits = f .bits; is = rw e (is-simple (f .is)); stands = f .stands; within = λ h. f .within };
+      }
+
+  -- TheLength after bits o that a head may begin with
+  length-found : (mode : Mode) (t wall at p : ℕ) (o : List ℕ) → ((n : ℕ) → Fits lengths n → HeadIs mode t t (long n) (o ++ bitsOf lengths n)) → At b at o p
+      → Ensures (lengthAt 1 b t wall p) (FindsHead b mode t wall at)
+  unfolding lengthAt
+  length-found mode t wall at p o is st =
+      bind (code-lawful lengths .found b bit wall p) λ r f. under refusal.length λ h.
+      let z : r .1 + r .0 - r .1 ≡ r .0 = omega arith in
+      gives (rw z (record { bits = o ++ bitsOf lengths (r .0); is = is (r .0) (f .fits); stands = at-both st (f .stands); within = λ k. f .within }), omega arith, h)
+
+  pub head-found : (mode : Mode) (t wall at : ℕ) → Ensures (headAt mode b t wall at) (FindsHead b mode t wall at)
+  unfolding headAt lengthAt Fits
+  head-found never t wall at = gives (record { bits = []; is = no-head; stands = at-none; within = λ h. h })
+  head-found optional t wall at = bind (code-lawful flag .found b bit wall at) λ r f. go (r .0) (r .1) (f .fits) (f .stands) (f .within)
+    where
+      go : (v p : ℕ) → Fits flag v → At b at (bitsOf flag v) p → p ≤ wall → Ensures (lengthAt v b t wall p) (FindsHead b optional t wall at)
+      go zero p h f k = gives (record { bits = _; is = flag-off; stands = f; within = λ l. k })
+      go (suc zero) p h f k = length-found optional t wall at p (bitsOf flag 1) (λ n x. flag-on x) f
+      go (suc (suc v)) p h f k = absurd (omega arith)
+  head-found always t wall at = length-found always t wall at at [] (λ n x. head-on x) at-none
+
+-- a head that was read up to p; where what is inside it must stop, or may go to
+abbrev pub headOf : Length → ℕ → ℕ → Head
+headOf free t p = Head.bare t p
+headOf (long n) t p = Head.sized t p (p + n)
+
+abbrev pub stopOf : Length → ℕ → ℕ → ℕ
+stopOf free p wall = wall
+stopOf (long n) p wall = p + n
+
+pub stop-in : (h : Length) (n p wall : ℕ) → Measures h n → p + n ≤ wall → (stopOf h p wall ≤ wall) × (p + n ≤ stopOf h p wall)
+stop-in free n p wall m l = omega arith
+stop-in (long k) n p wall m l = omega arith
+
+-- (a head changes no type yet)
+pub same-type : {mode : Mode} {declared t : ℕ} {h : Length} {w : List ℕ} → HeadIs mode declared t h w → declared ≡ t
+same-type no-head = refl
+same-type flag-off = refl
+same-type (flag-on h) = refl
+same-type (head-on h) = refl
+
+flag-zero : Fits flag 0
+unfolding Fits
+flag-zero = omega arith
+
+flag-one : Fits flag 1
+unfolding Fits
+flag-one = omega arith
+
+module _ (b : ℕ → ℕ) where
+  form-reads : {f : Form} {v : ℕ} {ts w : List ℕ} {wall at p : ℕ} → FormIs f v ts w → At b at w p → p ≤ wall → formAt f b wall at ≡ got (v, ts, p)
+  unfolding formAt
+  form-reads {at} {p} is-present f k = let n = f .next in let e : at ≡ p = omega arith in rw e
+  form-reads (is-simple h) f k = simple-reads b h f k
+
+  pub item-reads : (i : Item) {v : ℕ} {ts w : List ℕ} {wall at p : ℕ} → ItemIs i v ts w → At b at w p → p ≤ wall → itemAt i b wall at ≡ got (v, ts, p)
+  unfolding itemAt
+  item-reads i h f k = form-reads h f k
+
+  length-reads : (t n wall at p : ℕ) → Fits lengths n → At b at (bitsOf lengths n) p → p + n ≤ wall → lengthAt 1 b t wall at ≡ got (Head.sized t p (p + n))
+  unfolding lengthAt
+  length-reads t n wall at p h f k = then _ (code-lawful lengths .reads b wall at n p h f (omega arith)) (under-then refusal.length k refl)
+
+  pub head-reads : {mode : Mode} {declared t : ℕ} {h : Length} {w : List ℕ} (wall : ℕ) {at p : ℕ} → HeadIs mode declared t h w → At b at w p → p ≤ wall → stopOf h p wall ≤ wall
+      → headAt mode b declared wall at ≡ got (headOf h t p)
+  unfolding headAt lengthAt
+  head-reads wall {at} {p} (no-head {t}) f k l = let n = f .next in let e : at ≡ p = omega arith in rw e
+  head-reads wall {at} {p} (flag-off {t}) f k l = then _ (code-lawful flag .reads b wall at 0 p flag-zero f k) refl
+  head-reads wall {at} {p} (flag-on {t} {n} h) f k l =
+      let y = length-append (bitsOf flag 1) (bitsOf lengths n) in
+      let z = f .next in
+      then _ (code-lawful flag .reads b wall at 1 _ flag-one (at-left (bitsOf flag 1) (bitsOf lengths n) f) (omega arith))
+      (length-reads t n wall _ p h (at-right (bitsOf flag 1) (bitsOf lengths n) f) l)
+  head-reads wall {at} {p} (head-on {t} {n} h) f k l = length-reads t n wall at p h f l

@@ -1,0 +1,141 @@
+-- What a function of the cycle asks, kept from call to call: by the table's laws, by the head's end, by the path.
+use Prim.Native.Nat.{ℕ, suc, _+_, _-_, _<_, _≤_}
+use mathlib.Core.Path.{_≡_, sym, _∙_, subst}
+use mathlib.Core.List.{List}
+use mathlib.Core.Bool.{true, false}
+use native.Mathlib.Omega.{arith}
+use lib.ListN.{length}
+use Rattle.numbers.specs.Refusal.{noSuchCode}
+use Rattle.numbers.specs.Limit.{mostName, mostNames, mostParticles}
+use Rattle.wire.specs.Res.{Ensures}
+use Rattle.wire.proofs.Res.{bind, gives, under}
+use Rattle.wire.specs.Answer.{readIs}
+use Rattle.wire.specs.declared.Bits.{Bits}
+use Rattle.wire.specs.declared.Read as code·read
+use Rattle.wire.specs.declared.Read.the-variants.{Value}
+use Rattle.value.specs.Code.{choiceAt}
+use Rattle.table.specs.Words.{typesIn, particlesIn}
+use Rattle.table.specs.Rows.{Row, tableOf, firstOf, countOf}
+use Rattle.table.specs.Rows.Row.{element, sequence, choice, occurs}
+use Rattle.table.specs.Keeps.{RowOk, ContentOk}
+use Rattle.table.proofs.Laws.{span-ok, counts-ok, particle-met, content-met}
+use Rattle.table.specs.Views.{contentIs, rowIs}
+use Rattle.table.specs.declared.answers.Content as code·content
+use Rattle.table.specs.declared.answers.Content.the-variants.{Particles}
+use Rattle.table.specs.declared.answers.Particle as code·particle
+use Rattle.table.specs.declared.answers.Particle.the-variants.{Element, Sequence, Choice, Occurs}
+use Rattle.reader_parts.specs.Heads.{Within, Heads}
+use Rattle.reader_parts.specs.Paths.{Pushed}
+use Rattle.reader_parts.specs.declared.Head as code·head
+use Rattle.reader_parts.specs.declared.Head.the-variants.{Bare, Sized, Wrong}
+use Rattle.reader_parts.specs.declared.Mode.{Mode}
+use Rattle.reader_parts.specs.declared.Path.{Path}
+use Rattle.reader.specs.Meaning.{Ready, Fits, Reaches, reachOf, stride}
+use Rattle.reader.specs.declared.cycle.Extent.{Extent}
+use Rattle.reader.specs.declared.cycle.Reach.{Reach}
+use Rattle.reader.specs.declared.cycle.Reach.the-variants.{To}
+use Rattle.reader.proofs.Strides.{stride-one, stride-none}
+
+module _ (t s : List ℕ) (wall n d : ℕ) (h : Ready t s wall n d) where
+  -- a row is opened; so is an element, which takes a place of the path
+  pub ready-row : (d ≡ 0 → ⊥) → Ready t s wall n (d - 1)
+  ready-row z = record { valid = h .valid; walls = h .walls; places = omega (arith, h .places) }
+
+  pub ready-element : (d ≡ 0 → ⊥) → Ready t s wall (n + 1) (d - 1)
+  ready-element z = record { valid = h .valid; walls = h .walls; places = omega (arith, h .places) }
+
+  -- an element's own end is the wall of what is inside it
+  pub ready-end : (mode : Mode) (b : ℕ → ℕ) (at : ℕ) (x : code·head.Head) (w : Bits) (r : Reach) (y : Extent) → Heads mode b wall at x → w .0 ≡ wall → r ≡ reachOf x w → r ≡ To y
+      → Ready t s (y .end .0) n d
+  ready-end mode b at x w r y e g f i = go x (e .within) (sym i ∙ f)
+    where
+      go : (a : code·head.Head) → Within wall a → To y ≡ reachOf a w → Ready t s (y .end .0) n d
+      go (Bare body) k j =
+          let z : y ≡ record { coded = false; body = body; end = w } = cc in
+          rw (z, g) h
+      go (Sized body end) k j =
+          let z : y ≡ record { coded = true; body = body; end = end } = cc in
+          rw z (record { valid = h .valid; walls = omega (arith, h .walls); places = h .places })
+      go (Wrong m) k j = let z : _≡_ {A = ℕ} 0 1 = cc in absurd (omega arith)
+
+  -- rows and types are few; those that the rows name are there
+  pub rows-few : particlesIn t ≤ mostParticles
+  rows-few = counts-ok t (h .valid) .particles-few
+
+  pub spans-few : (ty : ℕ) → ty < typesIn t → firstOf t ty + countOf t ty < 4294967296
+  spans-few ty k = let a = span-ok t (h .valid) ty k in let b = counts-ok t (h .valid) .attributes-few in omega arith
+
+  pub content-row : (ty : ℕ) (k : code·content.Content) (i : ℕ) → ty < typesIn t → contentIs k ≡ tableOf t .content ty → k ≡ Particles i → i < particlesIn t
+  content-row ty k i g e f = subst (λ (x : code·content.Content). ContentOk (particlesIn t) (contentIs x)) f (content-met t (h .valid) ty g k e)
+
+  -- a row of the table
+  pub row-fits : (i : ℕ) (r : code·particle.Particle) → i < particlesIn t → rowIs r ≡ tableOf t .row i → Fits (typesIn t) (particlesIn t) (rowIs r)
+  row-fits i r g e = go (rowIs r) (particle-met t (h .valid) i g r e)
+    where
+      go : (x : Row) → RowOk (typesIn t) (particlesIn t) i x → Fits (typesIn t) (particlesIn t) x
+      go (element name type) k = (k .name-small, k .type-known)
+      go (sequence first n) k = k .within
+      go (choice first n) k = k .within
+      go (occurs child least most) k = k .within
+
+-- what a row that fits names
+module _ (T P : ℕ) (r : code·particle.Particle) (h : Fits T P (rowIs r)) where
+  fits-as : (x : code·particle.Particle) → r ≡ x → Fits T P (rowIs x)
+  fits-as x f = subst (λ (x : code·particle.Particle). Fits T P (rowIs x)) f h
+
+  pub element-name : (name ty : ℕ) → r ≡ Element name ty → name ≤ mostName
+  element-name name ty f = fits-as (Element name ty) f .0
+
+  pub element-type : (name ty : ℕ) → r ≡ Element name ty → ty < T
+  element-type name ty f = fits-as (Element name ty) f .1
+
+  pub sequence-rows : (first m : ℕ) → r ≡ Sequence first m → Reaches P first 1 m
+  sequence-rows first m f =
+      let k = fits-as (Sequence first m) f in
+      record { small = omega arith; row = λ j l. rw (stride-one first j) (omega arith) }
+
+  pub choice-rows : (first m : ℕ) → r ≡ Choice first m → first + m ≤ P
+  choice-rows first m f = fits-as (Choice first m) f
+
+  pub occurs-row : (child least most : ℕ) → r ≡ Occurs child least most → child < P
+  occurs-row child least most f = fits-as (Occurs child least most) f
+
+-- the child of an occurs row, so many times
+pub occurs-rows : (P child m : ℕ) → child < P → Reaches P child 0 m
+occurs-rows P child m h = record { small = omega arith; row = λ j l. rw (stride-none child j) h }
+
+-- the branch that a choice names
+choice-in : (b : ℕ → ℕ) (n wall at : ℕ) → Ensures (choiceAt b n wall at) (λ x. x .0 < n)
+unfolding choiceAt
+choice-in b n wall at = bind {P = λ x. Unit {0}} (record { says = λ x e. tt }) (λ x u. under noSuchCode λ k. gives (omega arith))
+
+pub branch-row : (P first n : ℕ) (b : ℕ → ℕ) (wall at : ℕ) (r : code·read.Read) (v : ℕ) (q : Bits) → first + n ≤ P → readIs r ≡ choiceAt b n wall at → r ≡ Value v q → first + v < P
+unfolding readIs
+branch-row P first n b wall at r v q h e g = let k = choice-in b n wall at .says (v, q .0) (sym e ∙ rw g) in omega arith
+
+-- a row's number fits a word
+pub branch-fits : (t s : List ℕ) (wall m d : ℕ) → Ready t s wall m d → (first n : ℕ) (b : ℕ → ℕ) (at : ℕ) (r : code·read.Read) (v : ℕ) (q : Bits)
+    → first + n ≤ particlesIn t → readIs r ≡ choiceAt b n wall at → r ≡ Value v q → first + v < 4294967296
+branch-fits t s wall m d h first n b at r v q k e g = let f = branch-row (particlesIn t) first n b wall at r v q k e g in omega (arith, rows-few t s wall m d h)
+
+-- the rows of rounds that are left
+module _ (P i k n j : ℕ) (h : Reaches P i k (n - j)) (g : j < n) where
+  pub round-row : i < P
+  unfolding stride
+  round-row = h .row 0 (omega arith)
+
+  pub round-next : Reaches P (i + k) k (n - (j + 1))
+  unfolding stride
+  round-next = record { small = h .small; row = λ a l. h .row (suc a) (omega arith) }
+
+pub round-fits : (t s : List ℕ) (wall m d : ℕ) → Ready t s wall m d → (i k n j : ℕ) → Reaches (particlesIn t) i k (n - j) → j < n → i + k < 4294967296
+round-fits t s wall m d h i k n j g l = let f = round-row (particlesIn t) i k n j g l in omega (arith, rows-few t s wall m d h, g .small)
+
+-- the path: one name longer inside an element
+pub ready-pushed : (t s : List ℕ) (wall d : ℕ) (path inner : Path) (name : ℕ) → Pushed path name inner → Ready t s wall (path .count + 1) d → Ready t s wall (inner .count) d
+ready-pushed t s wall d path inner name i r = rw (i .count) r
+
+pub path-open : (t s : List ℕ) (wall n d : ℕ) → Ready t s wall (n + 1) d → n < mostNames
+path-open t s wall n d r = omega (arith, r .places)
+
+pub ruleset asked-ways = (ready-row, ready-element, ready-end, rows-few, spans-few, content-row, row-fits, element-name, element-type, sequence-rows, choice-rows, occurs-row, occurs-rows, branch-row, branch-fits, round-row, round-fits, round-next, ready-pushed, path-open)

@@ -1,0 +1,9 @@
+mod Answers
+mod Asked
+mod FrontLaws
+mod RestLaws
+mod RootLaws
+mod Strides
+mod ToldLaws
+mod TwoTables
+mod Ways

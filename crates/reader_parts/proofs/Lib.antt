@@ -1,0 +1,8 @@
+mod AttributeWays
+pub mod Bytes
+pub mod EndsLaws
+mod HeadWays
+pub mod Laws
+mod PathLaws
+mod StoreWays
+mod ValueWays

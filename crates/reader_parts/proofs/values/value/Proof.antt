@@ -1,0 +1,42 @@
+-- Refused by its code, or kept.
+use Rattle.reader_parts.proofs.ValueWays.{value-ways}
+use borrow.Author.Needs.{needs}
+use Rattle.reader_parts.proofs.values.value.Statement.{statement}
+use Rattle.reader_parts.proofs.values.value.Tie as tie
+
+of-kind-requires : tie.Need-of-kind-requires
+of-kind-requires c κs = search needs
+
+enum-known-n : tie.Need-enum-known-n
+enum-known-n c = search needs
+
+enum-known-word : tie.Need-enum-known-word
+enum-known-word c = search needs
+
+keep-requires : tie.Need-keep-requires
+keep-requires c κs = search (needs, value-ways)
+
+returns : tie.Need-returns
+returns c = search (needs, value-ways)
+
+same-length : tie.Need-same-length
+same-length c = search needs
+
+same-length-2 : tie.Need-same-length-2
+same-length-2 c = search needs
+
+returns-2 : tie.Need-returns-2
+returns-2 c = search (needs, value-ways)
+
+pub value-spec : {M : Type 1} → statement M
+value-spec =
+    tie.close
+    (tie.spec
+    of-kind-requires
+    enum-known-n
+    enum-known-word
+    keep-requires
+    returns
+    same-length
+    same-length-2
+    returns-2)

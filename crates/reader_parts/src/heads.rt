@@ -1,0 +1,62 @@
+// An element's head: its flag and its length, by the mode.
+use crate::Head;
+use crate::Mode;
+use numbers::limit;
+use numbers::refusal;
+use value::reading::choice;
+use value::reading::number;
+use wire::Bits;
+use wire::Read;
+ghost use Prim.Native.Nat.{_*_, _≤_};
+ghost use lib.ListN.{length};
+ghost use Rattle.wire.specs.Bits.{bitAt};
+ghost use Rattle.reader_parts.specs.Heads.{Measured, Heads};
+
+// TheLength and the end that it says, which is not past the wall.
+fn measured(payload: &[u8], wall: Bits, at: Bits) -> Head
+    requires { ⌜ wall .0 ≤ 8 * length (now payload) ⌝ }
+    ensures { λ r. ⌜ Measured (bitAt (now (payload .entry))) (wall .0) (at .0) r ⌝ }
+{
+    let w = wall.0;
+    match number(payload, wall, at, limit::MOST_WORD) {
+        Read::Refuse(n) => Head::Wrong(n),
+        Read::Value(n, body) => {
+            let b = body.0;
+            if w < b {
+                return Head::Wrong(refusal::LENGTH);
+            }
+            if w - b < n {
+                return Head::Wrong(refusal::LENGTH);
+            }
+            Head::Sized(body, Bits(b + n))
+        }
+    }
+}
+
+// By a flag: none, or a length.
+fn flagged(payload: &[u8], wall: Bits, at: Bits) -> Head
+    requires { ⌜ wall .0 ≤ 8 * length (now payload) ⌝ }
+    ensures { λ r. ⌜ Heads Mode.Optional (bitAt (now (payload .entry))) (wall .0) (at .0) r ⌝ }
+{
+    match choice(payload, wall, at, 2) {
+        Read::Refuse(n) => Head::Wrong(n),
+        Read::Value(flag, next) => {
+            if flag == 0 {
+                return Head::Bare(next);
+            }
+            measured(payload, wall, next)
+        }
+    }
+}
+
+// A head at a place, below a wall.
+pub fn head(payload: &[u8], mode: Mode, wall: Bits, at: Bits) -> Head
+    requires { ⌜ wall .0 ≤ 8 * length (now payload) ⌝ }
+    ensures { λ r. ⌜ Heads mode (bitAt (now (payload .entry))) (wall .0) (at .0) r ⌝ }
+{
+    match mode {
+        Mode::Never => Head::Bare(at),
+        Mode::Optional => flagged(payload, wall, at),
+        Mode::Always => measured(payload, wall, at),
+    }
+}

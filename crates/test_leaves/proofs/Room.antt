@@ -1,0 +1,30 @@
+-- Where a walk over one event ends there is room for its note, if there is for the bits that were counted.
+use Prim.Native.Nat.{ℕ, _+_, _-_, _*_, _<_, _≤_, _^_}
+use mathlib.Core.Path.{_≡_}
+use mathlib.Core.List.{List}
+use native.Mathlib.Omega.{arith}
+use lib.ListN.{length}
+use Rattle.model.specs.Write.{Out}
+use Rattle.writer_parts.specs.declared.Cursor.{Cursor}
+use Rattle.writer_parts.specs.declared.Step.{Step}
+use Rattle.writer_parts.specs.declared.Step.the-variants.{Go}
+use Rattle.writer_parts.specs.Notes.{spells}
+use Rattle.writer_parts.specs.Walk.{Walked, Went}
+use Rattle.wire.specs.Put.{Room}
+
+abbrev origin : Cursor
+origin = record { event = 0; used = 0; bits = 0 }
+
+module _ (L X : List ℕ) (o : Out) (N : List ℕ) (r : Step) (M : List ℕ) (w : Walked L X o origin N r M) (e : Cursor) (g : r ≡ Go e) where
+  went : Went L X o origin N e M
+  went = rw g at (w .is)
+
+  pub one-room : (s : List ℕ) (at : ℕ) → at + e .bits ≤ 8 * length s → at + e .bits < 2 ^ 32 → Room s at (length (spells X M 0 (e .event)))
+  one-room s at h k =
+      let z : e .event - 0 ≡ e .event = omega arith in
+      let n : e .bits ≡ 0 + length (spells X M 0 (e .event - 0)) = went .counts in
+      let m : e .bits ≡ 0 + length (spells X M 0 (e .event)) = rw z at n in
+      omega arith
+
+  pub one-noted : 4 * e .event ≤ length M
+  one-noted = let y = went .ready in let a = y .sized in let b = y .inside in omega arith

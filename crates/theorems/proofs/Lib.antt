@@ -1,0 +1,22 @@
+mod Complete
+pub mod Demand2
+pub mod Demand3
+mod Demand3Lists
+mod Follow
+mod FollowsModel
+mod Lists
+mod ModelIs
+pub mod NamedReading
+pub mod NamedWriting
+mod One
+mod Own
+mod Parts
+mod Payload
+pub mod Reader
+mod Sound
+mod Unseen
+mod UnseenPayload
+pub mod ValidModel
+mod Walk
+mod WriteComplete
+mod WriteSound

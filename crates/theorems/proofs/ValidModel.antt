@@ -1,0 +1,82 @@
+-- VALID BY THE TABLE ALONE, both ways. `Demand2.Valid` says by the grammar which lists are to be written: some bits are
+-- a tree of this list. Here a list is valid exactly when table and root are right, it has whole events and at most
+-- 2,048 of them, none is a Blank, and it follows the table's content models with its texts (`Content.Model`, which
+-- names no bits and no code). So no plan, code or grammar is narrower than the table, and none is wider.
+use Prim.Native.Nat.{ℕ, _/_}
+use mathlib.Core.Path.{_≡_, _∙_}
+use mathlib.Core.Logic.{_↔_}
+use mathlib.Core.List.{List, [], _∷_, map}
+use native.Mathlib.Omega.{arith}
+use lib.ListN.{length}
+use Rattle.numbers.specs.Limit.{mostOpen}
+use Rattle.table.specs.Rows.{Row, tableOf, heldOf}
+use Rattle.model.specs.Model.{Event, events}
+use Rattle.model.specs.Items.{Mode}
+use Rattle.model.specs.Write.{Bare, bare, Out, write}
+use Rattle.model.specs.Plain.{NoBlank}
+use Rattle.model.proofs.Plain.{list-plain}
+use Rattle.theorems.proofs.Lists.{lists-all, spells-all}
+use Rattle.theorems.proofs.WriteComplete.{is-written}
+use Rattle.theorems.specs.Follows.{NoBlanks, Follows}
+use Rattle.theorems.proofs.FollowsModel.{row-model}
+use Rattle.theorems.proofs.ModelIs.{right-bounded, model-is}
+use Rattle.model.specs.Whole.{modeNumber, roomed, spent, written, writing}
+use Rattle.model.specs.Entries.{Entered, planOf, Shaped, listOf}
+use Rattle.model.proofs.Entries.{events-length, mode-asked, writing-entered}
+use Rattle.theorems.specs.Demand2.{Valid}
+
+bare-none : (L : List Event) → NoBlank L → NoBlanks (map bare L)
+bare-none [] h = tt
+bare-none (e ∷ L) h = (h .0, bare-none L (h .1))
+
+none-bare : (L : List Event) → NoBlanks (map bare L) → NoBlank L
+none-bare [] h = tt
+none-bare (e ∷ L) h = (h .0, none-bare L (h .1))
+
+module _ (l : List ℕ) (name type : ℕ) (mode : Mode) (L X : List ℕ) where
+  pub valid-follows : Valid l name type mode L X → Follows l name type mode L X
+  valid-follows h = record {
+    enters = h .enters;
+    shape = h .shape;
+    no-blank = rw (h .list) (bare-none (events (h .tree)) (h .no-blank));
+    model =
+        rw (h .list, h .text)
+        (row-model mode (heldOf l) (tableOf l) mostOpen (Row.element name type) 8 (h .tree) (h .bits) (h .is));
+  }
+
+  pub follows-valid : Follows l name type mode L X → Valid l name type mode L X
+  follows-valid h =
+      let few = h .shape .few in
+      let count = events-length L 0 (length L / 4) in
+      let bounded = right-bounded l (h .enters .table-right) in
+      let s = model-is mode (heldOf l) (tableOf l) bounded (h .model) (h .enters .type-known) (omega arith) in
+      let p = s .placed 8 in
+      record {
+        enters = h .enters;
+        shape = h .shape;
+        tree = p .tree;
+        bits = s .bits;
+        is = p .is;
+        no-blank = none-bare (events (p .tree)) (rw (p .list) at (h .no-blank));
+        list = p .list;
+        text = p .text;
+      }
+
+  -- THE THEOREM
+  pub valid-model : Valid l name type mode L X ↔ Follows l name type mode L X
+  valid-model = (valid-follows, follows-valid)
+
+  valid-bits : (v : Valid l name type mode L X)
+      → write mode (heldOf l) (planOf l name type) (listOf L) X ≡ Out.wrote (v .bits) [] []
+  valid-bits v =
+      let w = is-written mode (heldOf l) (v .is) (list-plain (v .tree) (v .no-blank)) [] [] in
+      rw (v .list, v .text) (rw (lists-all (v .tree), spells-all (v .tree)) at w)
+
+  -- so whatever follows the models is written, as the bits that it has by the grammar, and refused for nothing but lack
+  -- of room (21)
+  pub follows-written : (room : ℕ) (h : Follows l name type mode L X)
+      → writing l name type (modeNumber mode) L X room ≡ roomed room mode (follows-valid h .bits)
+  unfolding written spent
+  follows-written room h =
+      writing-entered l name type (modeNumber mode) L X room mode (h .enters) (mode-asked mode) (h .shape)
+      ∙ rw (valid-bits (follows-valid h))

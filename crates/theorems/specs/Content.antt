@@ -1,0 +1,82 @@
+-- CONTENT MODELS: what a list of events and its texts must be for a row, a type's content or its attributes, said of
+-- the table alone, with no bits and no code: names, order, branches, occurrence bounds, values of their kinds
+-- (`InKind`), held marks, the flags of the mode, the rows open at once. `FollowsModel.antt` proves it of every list
+-- given, `ModelIs.antt` that whatever follows has bits; `ValidModel.antt` has both as one theorem.
+use Prim.Native.Nat.{ℕ, zero, suc, _+_, _<_, _≤_}
+use mathlib.Core.Path.{_≡_}
+use mathlib.Core.Bool.{Bool, true, false}
+use mathlib.Core.List.{List, [], _∷_, _++_}
+use Rattle.numbers.specs.Kind as kinds
+use Rattle.numbers.specs.Limit.{mostTimes}
+use Rattle.table.specs.Rows.{Row, Content, Attribute, Table}
+use Rattle.value.specs.Values.{InKind}
+use Rattle.model.specs.Items.{Mode}
+use Rattle.model.specs.Write.{Bare}
+
+-- an event without its fourth word, the bits
+abbrev pub word : (kind p q : ℕ) → Bare
+word kind p q = record { kind = kind; p = p; q = q }
+
+-- a Start's second word: 0 in mode 0, either in mode 1, 1 in mode 2
+abbrev pub Flag : Mode → ℕ → Type 0
+Flag Mode.never q = q ≡ 0
+Flag Mode.optional q = q < 2
+Flag Mode.always q = q ≡ 1
+
+-- what a list is of
+pub data Part : Type 0 where
+  row : Row → Part
+  -- n consecutive rows from one on; one row n times
+  children : (first n : ℕ) → Part
+  repeats : (child n : ℕ) → Part
+  inside : (type : ℕ) → Part
+  attributes : List Attribute → Part
+  content : Content → Part
+
+-- how many elements and particle rows may still be opened; what the list is of; its events; its texts
+module _ (T : Table) (mode : Mode) (held : ℕ → Bool) where
+  pub data Model : ℕ → Part → List Bare → List ℕ → Type 0 where
+    -- Start, what its type asks for, End, where the type is held; else a Blank, where a length may be coded
+    element : {d name type flag : ℕ} {L : List Bare} {X : List ℕ}
+        → Flag mode flag → held type ≡ true → Model d (inside type) L X
+        → Model (suc d) (row (Row.element name type)) (word kinds.start name flag ∷ (L ++ (word kinds.end 0 0 ∷ []))) X
+    blank : {d name type : ℕ}
+        → Flag mode 1 → held type ≡ false
+        → Model (suc d) (row (Row.element name type)) (word kinds.blank name type ∷ []) []
+    sequence : {d first count : ℕ} {L : List Bare} {X : List ℕ}
+        → Model d (children first count) L X
+        → Model (suc d) (row (Row.sequence first count)) L X
+    choice : {d first count v : ℕ} {L : List Bare} {X : List ℕ}
+        → v < count → Model d (row (T .row (first + v))) L X
+        → Model (suc d) (row (Row.choice first count)) (word kinds.pick v 0 ∷ L) X
+    -- at least least and at most most; 65,535 where that is unbounded, which is 65,536
+    occurs : {d child least most k : ℕ} {L : List Bare} {X : List ℕ}
+        → least ≤ k → k ≤ most → k ≤ mostTimes → Model d (repeats child k) L X
+        → Model (suc d) (row (Row.occurs child least most)) (word kinds.times k 0 ∷ L) X
+    no-child : {d first : ℕ} → Model d (children first zero) [] []
+    child : {d first n : ℕ} {K L : List Bare} {X Y : List ℕ}
+        → Model d (row (T .row first)) K X → Model d (children (first + 1) n) L Y
+        → Model d (children first (suc n)) (K ++ L) (X ++ Y)
+    no-repeat : {d c : ℕ} → Model d (repeats c zero) [] []
+    repeat : {d c n : ℕ} {K L : List Bare} {X Y : List ℕ}
+        → Model d (row (T .row c)) K X → Model d (repeats c n) L Y
+        → Model d (repeats c (suc n)) (K ++ L) (X ++ Y)
+    -- attributes, then content
+    within : {d type : ℕ} {K L : List Bare} {X Y : List ℕ}
+        → Model d (attributes (T .attributes type)) K X → Model d (content (T .content type)) L Y
+        → Model d (inside type) (K ++ L) (X ++ Y)
+    no-attribute : {d : ℕ} → Model d (attributes []) [] []
+    -- an attribute that is there has its value next; only one that is not required may be absent, and then it has none
+    present : {d v : ℕ} {a : Attribute} {as′ : List Attribute} {L : List Bare} {X Y : List ℕ}
+        → InKind (a .kind) (a .b) (a .c) v X → Model d (attributes as′) L Y
+        → Model d (attributes (a ∷ as′)) (word kinds.attribute (a .name) 1 ∷ word kinds.value v 0 ∷ L) (X ++ Y)
+    absent : {d : ℕ} {a : Attribute} {as′ : List Attribute} {L : List Bare} {X : List ℕ}
+        → a .must ≡ false → Model d (attributes as′) L X
+        → Model d (attributes (a ∷ as′)) (word kinds.attribute (a .name) 0 ∷ L) X
+    empty : {d : ℕ} → Model d (content Content.empty) [] []
+    simple : {d kind b c v : ℕ} {X : List ℕ}
+        → InKind kind b c v X
+        → Model d (content (Content.simple kind b c)) (word kinds.value v 0 ∷ []) X
+    particles : {d i : ℕ} {L : List Bare} {X : List ℕ}
+        → Model d (row (T .row i)) L X
+        → Model d (content (Content.particles i)) L X

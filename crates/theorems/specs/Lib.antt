@@ -1,0 +1,16 @@
+pub mod Content
+pub mod Demand2
+pub mod Demand3
+pub mod Follows
+pub mod Less
+pub mod Lists
+pub mod NamedReading
+pub mod NamedWriting
+pub mod One
+pub mod Open
+pub mod Own
+pub mod Payload
+pub mod Reader
+pub mod Sound
+pub mod Unseen
+pub mod WriteSound

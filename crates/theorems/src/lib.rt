@@ -1,0 +1,1 @@
+// No code: specs/ has the words of the demands' theorems, and proofs/ the theorems.

@@ -1,0 +1,8 @@
+mod Cases
+pub mod Exact
+mod Left
+mod Lines
+mod Look
+mod Rows
+mod Run
+pub mod SlantedLaws

@@ -1,0 +1,10 @@
+mod Cases
+pub mod CodeLaws
+mod FormWays
+mod KindWays
+mod LayWays
+pub mod OctetsLaws
+mod ReadWays
+pub mod SimpleLaws
+pub mod ValueLaws
+pub mod WriteWays

@@ -1,0 +1,14 @@
+pub mod BitLaws
+mod Groups
+pub mod Lawful
+pub mod Laws5
+mod Laws8
+pub mod Put
+pub mod ReadWays
+pub mod Res
+mod Steps
+mod Store
+mod Whole5
+pub mod Width
+mod WindowLaws
+pub mod WriteWays

@@ -1,0 +1,159 @@
+-- Each way through the entry: a refusal before the walk, in it, after it; and a payload that is made.
+use Prim.Native.Nat.{ℕ, zero, suc, _+_, _-_, _*_, _/_, _<_, _≤_, min}
+use mathlib.Core.Path.{_≡_, refl, sym, ap, _∙_}
+use mathlib.Core.Bool.{Bool}
+use mathlib.Core.List.{List, [], _∷_}
+use native.Mathlib.Omega.{arith}
+use mir.Val.{Fits as FitsIn}
+use mir.Syntax.{w32}
+use lib.ListN.{length, replicate, drop, length-replicate}
+use Rattle.wire.specs.Res.{got}
+use Rattle.table.specs.Rows.{tableOf, heldOf}
+use Rattle.table.specs.Rows.Row.{element}
+use Rattle.table.proofs.Walk.{types-are}
+use Rattle.table.specs.Words.{typesIn}
+use Rattle.model.specs.Items.{Mode}
+use Rattle.model.specs.Write.{Out, wrote, write, elementOut}
+use Rattle.model.proofs.WriteSteps as steps
+use Rattle.model.specs.Pack.{pack}
+use Rattle.model.specs.Entries.{planOf, listOf}
+use Rattle.model.proofs.Entries.{writing-entered}
+use Rattle.model.specs.Whole.{Made, made, unmade, modeByte, declines, filled, outcomeMade, payloadLeft, eventsFrom, roomed, spent, written, writing}
+use Rattle.writer_parts.specs.declared.Cursor.{Cursor}
+use Rattle.writer_parts.specs.declared.Step.{Step}
+use Rattle.writer_parts.specs.declared.Step.the-variants.{Go, Refuse}
+use Rattle.writer_parts.specs.Notes.{spells, modeIs}
+use Rattle.writer_parts.specs.Walk.{eventsIn, eventsAt, textsAt, between, Ready, Walked, Walks}
+use Rattle.writer_parts.proofs.WalkLaws.{went, stopped, events-count}
+use Rattle.writer.specs.Meaning.{Right, element·, inside·}
+use Rattle.writer.specs.declared.front.Fault as faultT
+use Rattle.writer.specs.declared.front.Fault.the-variants as fv
+use Rattle.writer.specs.declared.Answer as code
+use Rattle.writer.specs.Answers.{answerIs, says, origin, Writes}
+use Rattle.writer.proofs.Answers.{unmade-writes}
+use Rattle.writer.specs.Front.{Fine, Fronted, Whole, ends, Settled}
+use Rattle.writer.specs.Cleared.{Zeros}
+
+-- finish
+module _ (L X N : List ℕ) (mode : ℕ) (c : Cursor) (s : List ℕ) (bits : c .bits ≡ length (between X N origin c)) (f : faultT.Fault) (h : Settled L X c (length s) f) where
+  pub finish-refused : (n p : ℕ) → f ≡ fv.At n p → Zeros s → (a : code.Answer) → answerIs a ≡ declines n p []
+      → Writes (ends L X c (length s) (modeIs mode) (between X N origin c)) mode (eventsIn L) (length X) (length s) a s
+  finish-refused n p w z a e = unmade-writes _ mode (eventsIn L) (length X) (length s) n p a s (refused-so (between X N origin c) bits) e (z .is)
+    where
+      refused-so : (w : List ℕ) → c .bits ≡ length w → ends L X c (length s) (modeIs mode) w ≡ unmade n p
+      refused-so x b = (rw w at (h .is)) x (modeIs mode) b
+
+  module _ (w : f ≡ fv.No) where
+    whole : Whole L X c (length s)
+    whole = rw w at (h .is)
+
+    same : between X N origin c ≡ spells X N 0 (c .event)
+    same = let z : c .event - 0 ≡ c .event = omega arith in rw z
+
+    pub finish-fits : 1 + (length (spells X N 0 (c .event)) + 7) / 8 ≤ length s
+    finish-fits = let g = whole .fits in let b : c .bits ≡ length (spells X N 0 (c .event)) = bits ∙ ap length same in omega arith
+
+    pub finish-short : Ready L X N c → length (spells X N 0 (c .event)) ≤ 100000000
+    finish-short r = let b : c .bits ≡ length (spells X N 0 (c .event)) = bits ∙ ap length same in let a = r .small in let i = r .inside in let d = r .few in omega arith
+
+    pub finish-done : (t : List ℕ) → t ≡ filled (length s) (modeByte (modeIs mode) ∷ pack (spells X N 0 (c .event))) → (a : code.Answer) → answerIs a ≡ says mode (c .event) (c .used) (8 + c .bits)
+        → Writes (ends L X c (length s) (modeIs mode) (between X N origin c)) mode (eventsIn L) (length X) (length s) a t
+    unfolding outcomeMade payloadLeft
+    finish-done t e a g =
+        let z : ends L X c (length s) (modeIs mode) (between X N origin c) ≡ made (modeByte (modeIs mode) ∷ pack (between X N origin c)) (8 + length (between X N origin c)) = whole .gives (between X N origin c) (modeIs mode) bits in
+        let o = whole .over in
+        let u = whole .spent-all in
+        record { answer = rw z (g ∙ (λ j. says mode (o j) (u j) (8 + bits j))); left = rw (z, same) e }
+
+pub finish-place : (L X N : List ℕ) (c : Cursor) → Ready L X N c → FitsIn w32 (c .event)
+finish-place L X N c r = let i = r .inside in let d = r .few in record { fits = omega arith }
+
+pub finish-used : (L X N : List ℕ) (c : Cursor) → Ready L X N c → FitsIn w32 (c .used)
+finish-used L X N c r = let i = r .inside in let d = r .few in let s = r .short in record { fits = omega arith }
+
+pub finish-bits : (L X N : List ℕ) (c : Cursor) → Ready L X N c → FitsIn w32 (8 + c .bits)
+finish-bits L X N c r = let i = r .inside in let d = r .few in let s = r .small in record { fits = omega arith }
+
+pub finish-room : (L X N : List ℕ) (c : Cursor) → Ready L X N c → 4 * c .event ≤ length N
+finish-room L X N c r = let i = r .inside in let d = r .sized in omega arith
+
+pub ruleset finish-ways = (finish-refused, finish-fits, finish-short, finish-done, finish-place, finish-used, finish-bits, finish-room)
+
+-- write
+module _ (t : List ℕ) (name kind mode : ℕ) (L X : List ℕ) (room : ℕ) (f : faultT.Fault) (h : Fronted t name kind mode L f) where
+  pub write-refused : (n p : ℕ) → f ≡ fv.At n p → (a : code.Answer) → answerIs a ≡ declines n p [] → (P : List ℕ) → P ≡ replicate room 0
+      → Writes (writing t name kind mode L X room) mode (eventsIn L) (length X) room a P
+  write-refused n p w a e P z = unmade-writes _ mode (eventsIn L) (length X) room n p a P ((rw w at (h .is)) X room) e z
+
+pub write-fine : (t : List ℕ) (name kind mode : ℕ) (L : List ℕ) (f : faultT.Fault) → Fronted t name kind mode L f → f ≡ fv.No → Fine t name kind mode L
+write-fine t name kind mode L f h w = rw w at (h .is)
+
+-- no event too many, so there is room for each one's note
+pub write-room : (t : List ℕ) (name kind mode : ℕ) (L : List ℕ) → Fine t name kind mode L → 4 * eventsIn L ≤ 8192
+write-room t name kind mode L h = let s = h .shape .few in omega arith
+
+-- the walk
+module _ (t : List ℕ) (name kind mode : ℕ) (L X : List ℕ) (room : ℕ) (fine : Fine t name kind mode L) where
+  pub write-ready : (N : List ℕ) → 4 * eventsIn L ≤ length N → Ready L X N origin
+  write-ready N e = let s = fine .shape in record { sized = e; few = s .few; inside = omega arith; used = omega arith; short = omega arith; small = omega arith }
+
+  pub write-right : Right t
+  write-right = record { is = fine .enters .table-right }
+
+  pub write-type : kind < typesIn t
+  write-type = let k = fine .enters .type-known in omega (arith, types-are t)
+
+  root : write (modeIs mode) (heldOf t) (planOf t name kind) (listOf L) X ≡ element· t mode 63 name kind (eventsAt L 0) (textsAt X 0)
+  unfolding element· inside· eventsAt textsAt
+  root =
+      let n : eventsIn L - 0 ≡ eventsIn L = omega arith in
+      rw n (steps.particle-element (modeIs mode) (heldOf t) (tableOf t) (listOf L) X 63 name kind)
+
+  count : length (listOf L) ≡ eventsIn L
+  unfolding eventsAt
+  count = let n : eventsIn L - 0 ≡ eventsIn L = omega arith in rw n at (events-count L 0)
+
+  walked : writing t name kind mode L X room ≡ spent (eventsIn L) (element· t mode 63 name kind (eventsAt L 0) (textsAt X 0)) (roomed room (modeIs mode))
+  unfolding written
+  walked = let g = fine in writing-entered t name kind mode L X room (modeIs mode) (g .enters) (g .mode-is) (g .shape) ∙ rw (root, count)
+
+  module _ (N : List ℕ) (r : Step) (M : List ℕ) (g : Walks L X (element· t mode 63 name kind) origin N r M) where
+    pub write-stopped : (n p : ℕ) → r ≡ Refuse n p → (a : code.Answer) → answerIs a ≡ declines n p [] → (P : List ℕ) → P ≡ replicate room 0
+        → Writes (writing t name kind mode L X room) mode (eventsIn L) (length X) room a P
+    unfolding spent
+    write-stopped n p y a e P z =
+        let k = stopped g n p y in
+        let i = k .inside in
+        let back : eventsIn L - (eventsIn L - p) ≡ p = omega arith in
+        unmade-writes _ mode (eventsIn L) (length X) room n p a P (walked ∙ rw (k .out, back)) e z
+
+    module _ (c : Cursor) (y : r ≡ Go c) where
+      pub write-done : (same : ℕ) → same ≡ room → (a : code.Answer) (P : List ℕ) → Writes (ends L X c same (modeIs mode) (between X M origin c)) mode (eventsIn L) (length X) same a P
+          → Writes (writing t name kind mode L X room) mode (eventsIn L) (length X) room a P
+      write-done same e a P v =
+          let u : Writes (ends L X c room (modeIs mode) (between X M origin c)) mode (eventsIn L) (length X) room a P = rw e at v in
+          let k = went g c y .out in
+          let z : writing t name kind mode L X room ≡ ends L X c room (modeIs mode) (between X M origin c) = walked ∙ ap (λ (o : Out). spent (eventsIn L) o (roomed room (modeIs mode))) k in
+          rw z u
+
+pub write-mode : (t : List ℕ) (name kind mode : ℕ) (L : List ℕ) → Fine t name kind mode L → mode ≤ 2
+write-mode t name kind mode L h = h .mode-small
+
+module _ (L X : List ℕ) (o : Out) (N : List ℕ) (r : Step) (M : List ℕ) (g : Walked L X o origin N r M) (c : Cursor) (y : r ≡ Go c) where
+  pub write-bits : c .bits ≡ length (between X M origin c)
+  write-bits = let k = went g c y .counts in k ∙ omega arith
+
+  pub write-on : Ready L X M c
+  write-on = went g c y .ready
+
+-- into a payload that is as long
+pub write-into : (t : List ℕ) (name kind mode : ℕ) (L X : List ℕ) (same room E T : ℕ) (a : code.Answer) (P : List ℕ) → same ≡ room
+    → Writes (writing t name kind mode L X same) mode E T same a P → Writes (writing t name kind mode L X room) mode E T room a P
+write-into t name kind mode L X same room E T a P e v = rw e at v
+
+pub zeros-are : (s : List ℕ) (n : ℕ) → s ≡ replicate n 0 → Zeros s
+zeros-are s n e = record { is = e ∙ ap (λ (k : ℕ). replicate k 0) (sym (ap length e ∙ length-replicate n 0)) }
+
+pub ruleset front-ways = (write-refused, write-fine, write-room, zeros-are)
+
+pub ruleset write-ways = (write-ready, write-right, write-type, write-mode, write-stopped, write-bits, write-on, write-done, zeros-are)

@@ -1,0 +1,191 @@
+-- A payload that was zero, with its mode byte and bits: the bytes that the meaning packs, and zeros after them.
+use Prim.Native.Nat.{ℕ, zero, suc, _+_, _-_, _*_, _/_, _%_, _^_, _<_, _≤_}
+use mathlib.Core.Path.{_≡_, refl, sym, ap, subst, _∙_}
+use mathlib.Core.List.{List, [], _∷_, _++_}
+use native.Mathlib.Nat.{zero-div}
+use native.Mathlib.Omega.{arith}
+use native.Mathlib.Decide.{decLt}
+use lib.ListN.{length, getD, set, replicate, take, drop, length-append, length-replicate, length-set, List·getD-append}
+use lib.Seq.{getD-set-same, getD-set-other, getD-append-add}
+use Rattle.wire.specs.Bits.{bitAt, digits, source}
+use Rattle.wire.specs.Number.{code5, codeOf5, more}
+use Rattle.wire.specs.Put.{Put, Room, Wrote}
+use Rattle.wire.proofs.Put.{put-one, bytes-one}
+use Rattle.value.specs.Simple.{bytes, Octets}
+use Rattle.value.proofs.SimpleLaws.{bytes-octets}
+use Rattle.model.specs.Grammar.{Bits}
+use Rattle.model.proofs.Sums.{bits-append}
+use Rattle.model.specs.Items.{Mode}
+use Rattle.model.specs.Pack.{pack}
+use Rattle.model.proofs.PackLaws.{bit-next, bytes-bit, source-bit, source-past, each-has, pack-length}
+use Rattle.model.specs.Whole.{modeByte, filled}
+use Rattle.writer_parts.specs.Notes.{piece, noteAt, spells, modeIs}
+use Rattle.writer_parts.proofs.NoteLaws.{piece-fixed, piece-five, piece-bytes}
+use Rattle.writer.specs.Cleared.{Zeros}
+
+-- what notes spell are bits
+digits-bits : (w v : ℕ) → Bits (digits w v)
+unfolding digits
+digits-bits zero v = tt
+digits-bits (suc w) v = bits-append (digits w (v / 2)) (v % 2 ∷ []) (digits-bits w (v / 2)) (omega arith, tt)
+
+ones-bits : (n : ℕ) → Bits (replicate n 1)
+ones-bits zero = tt
+ones-bits (suc n) = (omega arith, ones-bits n)
+
+five-bits : (v : ℕ) → Bits (code5 v)
+unfolding code5 codeOf5
+five-bits v =
+    let low : Bits (0 ∷ digits (4 * (more 7 v + 1)) v) = (omega arith, digits-bits (4 * (more 7 v + 1)) v) in
+    bits-append (replicate (more 7 v) 1) (0 ∷ digits (4 * (more 7 v + 1)) v) (ones-bits (more 7 v)) low
+
+bytes-bits : (l : List ℕ) → Bits (bytes l)
+unfolding bytes
+bytes-bits [] = tt
+bytes-bits (x ∷ l) = bits-append (digits 8 x) (bytes l) (digits-bits 8 x) (bytes-bits l)
+
+piece-bits : (X : List ℕ) (w x : ℕ) → Bits (piece X w x)
+piece-bits X w x = elim (decLt w 33) [
+  | yes h ↦ rw (piece-fixed X w x (omega arith)) (digits-bits w x)
+  | no h ↦ elim (decLt 33 w) [
+    | yes k ↦ rw (piece-bytes X w x k) (bytes-bits (take (w - 34) (drop x X)))
+    | no k ↦ rw (piece-five X w x (omega arith)) (five-bits x)
+  ]
+]
+
+pub spells-bits : (X N : List ℕ) (i n : ℕ) → Bits (spells X N i n)
+unfolding spells noteAt
+spells-bits X N i zero = tt
+spells-bits X N i (suc n) =
+    let a : List ℕ = piece X (getD N (4 * i) 0) (getD N (4 * i + 1) 0) in
+    let b : List ℕ = piece X (getD N (4 * i + 2) 0) (getD N (4 * i + 3) 0) in
+    bits-append (a ++ b) (spells X N (i + 1) n)
+    (bits-append a b (piece-bits X (getD N (4 * i) 0) (getD N (4 * i + 1) 0)) (piece-bits X (getD N (4 * i + 2) 0) (getD N (4 * i + 3) 0)))
+    (spells-bits X N (i + 1) n)
+
+zero-in : (n j : ℕ) → _≡_ {A = ℕ} (getD (replicate n 0) j 0) 0
+zero-in zero j = refl
+zero-in (suc n) zero = refl
+zero-in (suc n) (suc j) = zero-in n j
+
+none-of : (m : ℕ) → 0 / m % 2 ≡ 0
+none-of m = rw (zero-div m)
+
+-- octets
+octet-at : (l : List ℕ) → Octets l → (i : ℕ) → getD l i 0 < 256
+octet-at [] h i = omega arith
+octet-at (x ∷ l) h zero = h .0
+octet-at (x ∷ l) h (suc i) = octet-at l (h .1) i
+
+octets-zeros : (n : ℕ) → Octets (replicate n 0)
+octets-zeros zero = tt
+octets-zeros (suc n) = (omega arith, octets-zeros n)
+
+octets-both : (a b : List ℕ) → Octets a → Octets b → Octets (a ++ b)
+octets-both [] b h k = k
+octets-both (x ∷ a) b h k = (h .0, octets-both a b (h .1) k)
+
+-- the mode byte
+module _ (mode : ℕ) where
+  pub byte-never : mode ≡ 0 → 0x0F ≡ modeByte (modeIs mode)
+  unfolding modeByte modeIs
+  byte-never e = rw e
+
+  pub byte-optional : mode ≡ 1 → 0x4F ≡ modeByte (modeIs mode)
+  unfolding modeByte modeIs
+  byte-optional e = rw e
+
+  pub byte-always : (mode ≡ 0 → ⊥) → (mode ≡ 1 → ⊥) → 0x8F ≡ modeByte (modeIs mode)
+  unfolding modeByte modeIs
+  byte-always e f = let m : mode ≡ suc (suc (mode - 2)) = omega arith in rw m
+
+pub ruleset first-ways = (byte-never, byte-optional, byte-always)
+
+-- the packed bytes and zeros after them, bit by bit
+module _ (k x : ℕ) (w : List ℕ) (h : Bits w) (fits : 1 + (length w + 7) / 8 ≤ k) (small : x < 256) where
+  abbrev whole : List ℕ
+  whole = filled k (x ∷ pack w)
+
+  abbrev start : List ℕ
+  start = set (replicate k 0) 0 x
+
+  abbrev tail : List ℕ
+  tail = replicate (k - length (x ∷ pack w)) 0
+
+  whole-length : length whole ≡ k
+  unfolding filled
+  whole-length = length-append (x ∷ pack w) tail ∙ omega (arith, length-replicate {A = ℕ} (k - length (x ∷ pack w)) 0, pack-length w)
+
+  whole-octets : Octets whole
+  unfolding filled pack
+  whole-octets = (small, octets-both (pack w) tail (bytes-octets (source w) (source-bit w h) 0 ((length w + 7) / 8)) (octets-zeros (k - length (x ∷ pack w))))
+
+  -- past the mode byte
+  inner : (i : ℕ) → bitAt whole (8 + i) ≡ bitAt (pack w ++ tail) i
+  unfolding filled
+  inner i = bit-next x (pack w ++ tail) i
+
+  in-pack : (i : ℕ) → i < 8 * length (pack w) → bitAt (pack w ++ tail) i ≡ source w i
+  unfolding bitAt pack
+  in-pack i g =
+      let b = bytes-bit (source w) (source-bit w h) 0 ((length w + 7) / 8) i (omega (arith, pack-length w)) in
+      rw (List·getD-append (pack w) tail 0 (i / 8) (omega arith)) (b ∙ ap (source w) (omega arith))
+
+  past-pack : (i : ℕ) → 8 * length (pack w) ≤ i → bitAt (pack w ++ tail) i ≡ 0
+  unfolding bitAt
+  past-pack i g =
+      let e : i / 8 ≡ length (pack w) + (i / 8 - length (pack w)) = omega arith in
+      rw (e, getD-append-add (pack w) tail (i / 8 - length (pack w)) 0, zero-in (k - length (x ∷ pack w)) (i / 8 - length (pack w))) (none-of (2 ^ (7 - i % 8)))
+
+  bit-inner : (i : ℕ) → bitAt whole (8 + i) ≡ source w i
+  bit-inner i = elim (decLt i (8 * length (pack w))) [
+    | yes g ↦ inner i ∙ in-pack i g
+    | no g ↦ inner i ∙ past-pack i (omega arith) ∙ sym (source-past w i (omega (arith, pack-length w)))
+  ]
+
+  start-first : getD start 0 0 ≡ x
+  start-first = getD-set-same (replicate k 0) 0 x 0 (omega (arith, length-replicate {A = ℕ} k 0))
+
+  start-after : (j : ℕ) → 8 ≤ j → bitAt start j ≡ 0
+  unfolding bitAt
+  start-after j g = rw (getD-set-other (replicate k 0) 0 (j / 8) x 0 (λ e. omega arith), zero-in k (j / 8)) (none-of (2 ^ (7 - j % 8)))
+
+  whole-first : (j : ℕ) → j < 8 → bitAt whole j ≡ bitAt start j
+  unfolding bitAt filled
+  whole-first j g = let e : j / 8 ≡ 0 = omega arith in rw (e, start-first)
+
+  -- the whole is the start with the bits in it
+  whole-put : Put (bitAt start) (bitAt whole) 8 w
+  whole-put =
+      record {
+        stands = each-has (bitAt whole) 8 w (λ i g. bit-inner i);
+        before = λ j g. whole-first j g;
+        after = λ j g.
+            let e : j ≡ 8 + (j - 8) = omega arith in
+            ap (bitAt whole) e ∙ bit-inner (j - 8) ∙ source-past w (j - 8) (omega arith) ∙ sym (start-after j (omega arith));
+      }
+
+  -- so it is what the pen leaves
+  pub drawn : (t : List ℕ) (p : ℕ) → Wrote start t 8 w p → length t ≡ k → ((i : ℕ) → getD t i 0 < 256) → t ≡ whole
+  drawn t p g len bytes =
+      bytes-one t whole (len ∙ sym whole-length) bytes (octet-at whole whole-octets)
+      (put-one (bitAt start) (bitAt t) (bitAt whole) 8 w (g .bits) whole-put)
+
+-- draw
+module _ (X N : List ℕ) (mode n x : ℕ) (s : List ℕ) (z : Zeros s) (e : x ≡ modeByte (modeIs mode)) (fits : 1 + (length (spells X N 0 n) + 7) / 8 ≤ length s) where
+  byte-small : (m : Mode) → modeByte m < 256
+  unfolding modeByte
+  byte-small Mode.never = omega arith
+  byte-small Mode.optional = omega arith
+  byte-small Mode.always = omega arith
+
+  pub draw-room : length (spells X N 0 n) ≤ 100000000 → Room (set s 0 x) 8 (length (spells X N 0 n))
+  draw-room h = let l = length-set s 0 x in omega arith
+
+  pub draw-done : (t : List ℕ) (p : ℕ) → Wrote (set s 0 x) t 8 (spells X N 0 n) p → length t ≡ length (set s 0 x) → ((i : ℕ) → getD t i 0 < 256) → t ≡ filled (length s) (modeByte (modeIs mode) ∷ pack (spells X N 0 n))
+  draw-done t p g len bytes =
+      let k = length s in
+      let g′ : Wrote (set (replicate k 0) 0 x) t 8 (spells X N 0 n) p = subst (λ (l : List ℕ). Wrote (set l 0 x) t 8 (spells X N 0 n) p) (z .is) g in
+      drawn k x (spells X N 0 n) (spells-bits X N 0 n) fits (rw e (byte-small (modeIs mode))) t p g′ (len ∙ length-set s 0 x) bytes ∙ rw e
+
+pub ruleset draw-ways = (draw-room, draw-done)

@@ -1,0 +1,7 @@
+mod Answers
+mod EntryWays
+mod FrontLaws
+mod InkLaws
+mod Leads
+mod SimpleWays
+mod WalkWays

@@ -1,0 +1,360 @@
+-- Each way through the leaves of the walk.
+use Prim.Native.Nat.{ℕ, zero, suc, _+_, _-_, _*_, _/_, _^_, _<_, _≤_, min}
+use mathlib.Core.Path.{_≡_, refl, sym, ap, ap₂, _∙_}
+use mathlib.Core.Logic.{_⊎_, inl, inr}
+use mathlib.Core.Bool.{Bool, true, false, cond}
+use mathlib.Core.List.{List, [], _∷_, _++_, append-nil}
+use native.Mathlib.Omega.{arith}
+use native.Mathlib.Decide.{decLe}
+use borrow.Author.Tests.{lt-ltb, le-ltb, le-leb, lt-leb, eq-eqb, ne-eqb}
+use mir.Val.{Fits as FitsIn}
+use mir.Syntax.{w32, w64}
+use lib.Dec.{ltb, leb, eqb}
+use lib.ListN.{length, getD, take, drop, length-append, length-drop, length-take}
+use lib.Seq.{drop-nil}
+use Rattle.numbers.specs.Refusal as refusal
+use Rattle.numbers.specs.Refusal.{noReading, outsideRow, textBytes}
+use Rattle.numbers.specs.Kind as kinds
+use Rattle.numbers.specs.Limit.{mostEvents, mostText}
+use Rattle.wire.specs.declared.Bits.{Bits}
+use Rattle.wire.specs.Res.{Res, got, fault, _>>=_, _>>_, guard}
+use Rattle.wire.proofs.Res.{tested-then, tested-fault, then, then-fault, under-then, under-fault}
+use Rattle.wire.specs.Number.{code5}
+use Rattle.utf8.specs.Text.{textFault}
+use Rattle.value.specs.Code.{Code, five, bitsOf, fits, codeOut, sizeOut}
+use Rattle.value.specs.Simple.{plain, text, count, bytes, unless}
+use Rattle.value.proofs.SimpleLaws.{length-bytes, passes-then, passes-fault}
+use Rattle.value.specs.Answer.{codeIs, sizeIs, Under}
+use Rattle.value.proofs.WriteWays.{size-small, code5-short}
+use Rattle.value.specs.declared.Code as codeT
+use Rattle.value.specs.declared.Size as sizeT
+use Rattle.value.specs.declared.Size.the-variants as sv
+use Rattle.model.specs.Write.{Bare, bare, Out, wrote, refused, unlike, taken, coded, simpleOut, asEnd, headOut, lengthOf, sealed}
+use Rattle.model.specs.Model.{end}
+use Rattle.model.specs.Items.{Mode}
+use Rattle.model.specs.Whole.{eventAt}
+use Rattle.writer_parts.specs.declared.Piece.{Piece}
+use Rattle.writer_parts.specs.declared.Note.{Note}
+use Rattle.writer_parts.specs.declared.Head.{Head}
+use Rattle.writer_parts.specs.declared.Cursor.{Cursor}
+use Rattle.writer_parts.specs.declared.Step.{Step}
+use Rattle.writer_parts.specs.declared.Step.the-variants.{Go, Refuse}
+use Rattle.writer_parts.specs.Notes.{piece, noteBits, noteAt, spells, keeps, fixedPiece, only, textNote, Noted, HeadNote, modeIs}
+use Rattle.writer_parts.proofs.NoteLaws.{piece-five, piece-bytes, piece-none, spells-none, spells-one, spells-by, spells-same, kept-other, kept-note, kept-length}
+use Rattle.writer_parts.specs.Walk.{eventsIn, eventsAt, textsAt, Ready, between, past, Sealing, Went, Stopped, Walked, wanted, judged, noted, textWrong}
+use Rattle.writer_parts.proofs.WalkLaws.{events-count, judged-in, taken-like, taken-unlike}
+
+-- unlike
+module _ (L : List ℕ) (at kind p q : ℕ) where
+  abbrev is : ℕ → Type 0
+  is n = n ≡ judged L at (wanted kind p q)
+
+  pub unlike-none : eventsIn L ≤ at → is noReading
+  unfolding judged
+  unlike-none h = rw (le-ltb at (eventsIn L) h)
+
+  module _ (h : at < eventsIn L) where
+    pub unlike-blank : (kind ≡ getD L (4 * at) 0 → ⊥) → getD L (4 * at) 0 ≡ kinds.blank → is refusal.blank
+    unfolding judged unlike
+    unlike-blank k e = rw (lt-ltb at (eventsIn L) h, ne-eqb kind (getD L (4 * at) 0) k, eq-eqb (getD L (4 * at) 0) kinds.blank e)
+
+    pub unlike-kind : (kind ≡ getD L (4 * at) 0 → ⊥) → (getD L (4 * at) 0 ≡ kinds.blank → ⊥) → is noReading
+    unfolding judged unlike
+    unlike-kind k e = rw (lt-ltb at (eventsIn L) h, ne-eqb kind (getD L (4 * at) 0) k, ne-eqb (getD L (4 * at) 0) kinds.blank e)
+
+    module _ (k : kind ≡ getD L (4 * at) 0) where
+      pub unlike-first : (p ≡ getD L (4 * at + 1) 0 → ⊥) → is noReading
+      unfolding judged unlike
+      unlike-first e = rw (lt-ltb at (eventsIn L) h, eq-eqb kind (getD L (4 * at) 0) k, ne-eqb p (getD L (4 * at + 1) 0) e)
+
+      module _ (f : p ≡ getD L (4 * at + 1) 0) where
+        pub unlike-second : (q ≡ getD L (4 * at + 2) 0 → ⊥) → is noReading
+        unfolding judged unlike
+        unlike-second e = rw (lt-ltb at (eventsIn L) h, eq-eqb kind (getD L (4 * at) 0) k, eq-eqb p (getD L (4 * at + 1) 0) f, ne-eqb q (getD L (4 * at + 2) 0) e)
+
+        pub like : q ≡ getD L (4 * at + 2) 0 → is 0
+        unfolding judged unlike
+        like e = rw (lt-ltb at (eventsIn L) h, eq-eqb kind (getD L (4 * at) 0) k, eq-eqb p (getD L (4 * at + 1) 0) f, eq-eqb q (getD L (4 * at + 2) 0) e)
+
+pub ruleset unlike-ways = (unlike-none, unlike-blank, unlike-kind, unlike-first, unlike-second, like)
+
+-- nothing is wrong
+none : {b : ℕ} → b ≤ 0 → b ≡ 0
+none h = omega arith
+
+-- an event that was judged is one of the list
+pub judged-few : (L X N : List ℕ) (c : Cursor) (f : Bare) (b : ℕ) → Ready L X N c → b ≡ judged L (c .event) f → b ≤ 0 → c .event < mostEvents
+judged-few L X N c f b r e z = let h = judged-in L (c .event) f (sym e ∙ none z) in let g = r .few in omega arith
+
+-- and has room for its note
+pub judged-room : (L X N : List ℕ) (c : Cursor) (f : Bare) (b : ℕ) → Ready L X N c → b ≡ judged L (c .event) f → b ≤ 0 → 4 * c .event + 4 ≤ length N
+judged-room L X N c f b r e z = let h = judged-in L (c .event) f (sym e ∙ none z) in let g = r .sized in omega arith
+
+-- one event noted
+module _ (L X : List ℕ) (c : Cursor) (N : List ℕ) (f : Bare) (m : Res (List ℕ × List ℕ)) (r : Ready L X N c) (b : ℕ) (j : b ≡ judged L (c .event) f) where
+  pub noted-unlike : 0 < b → Walked L X (noted f m (eventsAt L (c .event))) c N (Refuse b (c .event)) N
+  unfolding noted
+  noted-unlike p = record { is = record { out = taken-unlike L (c .event) f (λ e. f) _ refl b j p (r .inside); inside = r .inside } }
+
+  module _ (z : b ≤ 0) where
+    noted-like : noted f m (eventsAt L (c .event)) ≡ coded m (suc (length (eventsAt L (c .event + 1)))) (λ (w, U). wrote w (eventsAt L (c .event + 1)) U)
+    unfolding noted
+    noted-like = taken-like L (c .event) f (λ e. f) _ refl (sym j ∙ none z)
+
+    within : c .event < eventsIn L
+    within = judged-in L (c .event) f (sym j ∙ none z)
+
+    pub noted-fault : (n : ℕ) → m ≡ fault n → Walked L X (noted f m (eventsAt L (c .event))) c N (Refuse n (c .event)) N
+    unfolding coded
+    noted-fault n e =
+        let g = within in
+        let k : suc (length (eventsAt L (c .event + 1))) ≡ eventsIn L - c .event = omega (arith, events-count L (c .event + 1)) in
+        record { is = record { out = rw (noted-like, e, k); inside = r .inside } }
+
+    pub noted-got : (w : List ℕ) (n : Note) (M : List ℕ) (e : Cursor) → m ≡ got (w, textsAt X (e .used)) → noteBits X n ≡ w → M ≡ keeps N (c .event) n
+        → e .event ≡ c .event + 1 → e .bits ≡ c .bits + length w → length w ≤ 40000 → e .used ≤ length X → e .used ≤ c .used + mostText → Walked L X (noted f m (eventsAt L (c .event))) c N (Go e) M
+    unfolding coded
+    noted-got w n M e g is k next bits small used short =
+        let i = within in
+        let few = r .few in
+        let len = r .sized in
+        let one : e .event - c .event ≡ 1 = omega arith in
+        let spelt : between X M c e ≡ w = rw (one, k) (spells-one X (keeps N (c .event) n) (c .event) ∙ kept-note N (c .event) n X (omega arith) ∙ is) in
+        record {
+          is = record {
+            out = noted-like ∙ rw (g, spelt, next);
+            counts = rw spelt bits;
+            onward = omega arith;
+            ready = record { sized = omega (arith, ap length k, kept-length N (c .event) n); few = few; inside = omega arith; used = used; short = omega (arith, r .short); small = omega (arith, r .small) };
+            before = λ x h. ap (λ (l : List ℕ). getD l x 0) k ∙ kept-other N (c .event) n x (inl h);
+          };
+        }
+
+-- mark
+pub mark-go : (L X : List ℕ) (c : Cursor) (N : List ℕ) (f : Bare) → Ready L X N c → (b : ℕ) → b ≡ judged L (c .event) f → b ≤ 0 → (n : Note) → n ≡ only (fixedPiece 0 0) → (M : List ℕ) → M ≡ keeps N (c .event) n
+    → Walked L X (noted f (got ([], textsAt X (c .used))) (eventsAt L (c .event))) c N (Go (past c)) M
+mark-go L X c N f r b j z n e M k =
+    noted-got L X c N f _ r b j z [] n M (past c) refl (rw e (empty X)) k refl (omega arith) (omega arith) (r .used) (omega arith)
+  where
+    empty : (X : List ℕ) → noteBits X (only (fixedPiece 0 0)) ≡ []
+    empty X = rw (piece-none X)
+
+pub ruleset mark-ways = (noted-unlike, judged-few, judged-room, mark-go)
+
+-- coded: what is sized is coded so
+module _ (c : Code) (v : ℕ) where
+  size-got : (n : ℕ) → sizeOut c v ≡ got n → (codeOut c v ≡ got (bitsOf c v)) × (n ≡ length (bitsOf c v))
+  unfolding sizeOut codeOut
+  size-got n e = go (fits c v) refl e
+    where
+      go : (t : Bool) → fits c v ≡ t → (guard t outsideRow >> got (length (bitsOf c v))) ≡ got n → ((guard (fits c v) outsideRow >> got (bitsOf c v)) ≡ got (bitsOf c v)) × (n ≡ length (bitsOf c v))
+      go true f g = (tested-then outsideRow f refl, let h = tested-then {t = true} outsideRow {m = got (length (bitsOf c v))} refl refl in cc)
+      go false f g = absurd (let h = tested-fault {t = false} outsideRow (got (length (bitsOf c v))) refl in let z : _≡_ {A = ℕ} 0 1 = cc in omega arith)
+
+  size-fault : (n : ℕ) → sizeOut c v ≡ fault n → codeOut c v ≡ fault n
+  unfolding sizeOut codeOut
+  size-fault n e = go (fits c v) refl e
+    where
+      go : (t : Bool) → fits c v ≡ t → (guard t outsideRow >> got (length (bitsOf c v))) ≡ fault n → (guard (fits c v) outsideRow >> got (bitsOf c v)) ≡ fault n
+      go true f g = absurd (let h = tested-then {t = true} outsideRow {m = got (length (bitsOf c v))} refl refl in let z : _≡_ {A = ℕ} 0 1 = cc in omega arith)
+      go false f g = let h = tested-fault {t = false} outsideRow (got (length (bitsOf c v))) refl in tested-fault outsideRow (got (bitsOf c v)) f ∙ cc
+
+module _ (k : codeT.Code) (v : ℕ) (s : sizeT.Size) (e : sizeIs s ≡ sizeOut (codeIs k) v) where
+  sized : (n : Bits) → s ≡ sv.Takes n → sizeOut (codeIs k) v ≡ got (n .0)
+  unfolding sizeIs
+  sized n w = sym e ∙ rw w
+
+  unsized : (n : ℕ) → s ≡ sv.Refuse n → sizeOut (codeIs k) v ≡ fault n
+  unfolding sizeIs
+  unsized n w = sym e ∙ rw w
+
+module _ (L X : List ℕ) (c : Cursor) (N : List ℕ) (f : Bare) (r : Ready L X N c) (b : ℕ) (j : b ≡ judged L (c .event) f) (z : b ≤ 0)
+    (k : codeT.Code) (v : ℕ) (s : sizeT.Size) (e : sizeIs s ≡ sizeOut (codeIs k) v) where
+  pub coded-fault : (n : ℕ) → s ≡ sv.Refuse n → Walked L X (noted f (simpleOut (plain (codeIs k)) v (textsAt X (c .used))) (eventsAt L (c .event))) c N (Refuse n (c .event)) N
+  unfolding simpleOut
+  coded-fault n w = noted-fault L X c N f _ r b j z n (then-fault _ (size-fault (codeIs k) v n (unsized k v s e n w)))
+
+  pub coded-go : (n : Bits) → s ≡ sv.Takes n → Under 41 s → (m : Note) → Noted m (bitsOf (codeIs k) v) → (M : List ℕ) → M ≡ keeps N (c .event) m
+      → Walked L X (noted f (simpleOut (plain (codeIs k)) v (textsAt X (c .used))) (eventsAt L (c .event))) c N (Go (record { event = c .event + 1; used = c .used; bits = c .bits + n .0 })) M
+  unfolding simpleOut
+  coded-go n w u m i M g =
+      let y = size-got (codeIs k) v (n .0) (sized k v s e n w) in
+      let long = y .1 in
+      let few = size-small s u n w in
+      noted-got L X c N f _ r b j z (bitsOf (codeIs k) v) m M (record { event = c .event + 1; used = c .used; bits = c .bits + n .0 }) (then _ (y .0) refl) (i .is X) g refl (omega arith) (omega arith) (r .used) (omega arith)
+
+  pub coded-fits : (n : Bits) → s ≡ sv.Takes n → Under 41 s → FitsIn w32 (c .bits + n .0)
+  coded-fits n w u = let few = size-small s u n w in let a = r .small in let d = r .few in let i = r .inside in record { fits = omega arith }
+
+pub ruleset coded-ways = (noted-unlike, judged-few, judged-room, coded-fault, coded-go, coded-fits)
+
+-- text_fault
+module _ (X : List ℕ) (used v : ℕ) where
+  pub text-long : mostText < v → outsideRow ≡ textWrong X used v
+  unfolding textWrong
+  text-long h = rw (lt-leb v mostText h)
+
+  module _ (h : v ≤ mostText) where
+    module _ (k : used ≤ length X) where
+      pub text-short : length X - used < v → textBytes ≡ textWrong X used v
+      unfolding textWrong textsAt
+      text-short g = rw (le-leb v mostText h, lt-leb v (length (drop used X)) (omega (arith, length-drop used X)))
+
+      pub text-checked : (n : ℕ) (l : List ℕ) → v ≤ length X - used → n ≡ textFault l → l ≡ take (used + v - used) (drop used X) → n ≡ textWrong X used v
+      unfolding textWrong textsAt
+      text-checked n l g e f =
+          let z : used + v - used ≡ v = omega arith in
+          rw (le-leb v mostText h, le-leb v (length (drop used X)) (omega (arith, length-drop used X))) (e ∙ ap textFault (f ∙ rw z))
+
+pub ruleset text-fault-ways = (text-long, text-short, text-checked)
+
+-- text_value
+text-tested : (v : ℕ) (T : List ℕ) (w : ℕ) → w ≡ cond (leb v mostText) (cond (leb v (length T)) (textFault (take v T)) textBytes) outsideRow
+    → (0 < w → simpleOut text v T ≡ fault w) × (w ≡ 0 → (simpleOut text v T ≡ got (code5 v ++ bytes (take v T), drop v T)) × (v ≤ mostText) × (v ≤ length T))
+unfolding simpleOut codeOut fits bitsOf
+text-tested v T w e = elim (decLe v mostText) [
+  | yes h ↦ elim (decLe v (length T)) [
+    | yes k ↦
+        let t : textFault (take v T) ≡ w = sym (e ∙ rw (le-leb v mostText h, le-leb v (length T) k)) in
+        let c : leb v (min mostText (2 ^ 32 - 1)) ≡ true = le-leb v (min mostText (2 ^ 32 - 1)) (omega arith) in (
+          λ p. then _ (tested-then outsideRow c refl) (under-then textBytes k (passes-fault _ (λ y. omega arith) ∙ ap fault t)),
+          (λ z. (then _ (tested-then outsideRow c refl) (under-then textBytes k (passes-then (t ∙ z) refl)), h, k)),
+        )
+    | no k ↦
+        let t : w ≡ textBytes = e ∙ rw (le-leb v mostText h, lt-leb v (length T) (omega arith)) in
+        let c : leb v (min mostText (2 ^ 32 - 1)) ≡ true = le-leb v (min mostText (2 ^ 32 - 1)) (omega arith) in
+        (λ p. rw t (then _ (tested-then outsideRow c refl) (under-fault textBytes _ (omega arith))), (λ z. absurd (omega arith)))
+  ]
+  | no h ↦
+      let t : w ≡ outsideRow = e ∙ rw (lt-leb v mostText (omega arith)) in
+      let c : leb v (min mostText (2 ^ 32 - 1)) ≡ false = lt-leb v (min mostText (2 ^ 32 - 1)) (omega arith) in
+      (λ p. rw t (then-fault _ (tested-fault outsideRow _ c)), (λ z. absurd (omega arith)))
+]
+
+drop-drop : (a b : ℕ) (l : List ℕ) → drop b (drop a l) ≡ drop (a + b) l
+drop-drop zero b l = let e : 0 + b ≡ b = omega arith in rw e
+drop-drop (suc a) b [] = drop-nil b ∙ sym (drop-nil (suc a + b))
+drop-drop (suc a) b (x ∷ l) = drop-drop a b l ∙ let e : suc a + b ≡ suc (a + b) = omega arith in rw e
+
+module _ (L X : List ℕ) (c : Cursor) (N : List ℕ) (v : ℕ) (r : Ready L X N c) (b : ℕ) (j : b ≡ judged L (c .event) (wanted kinds.value v 0)) (z : b ≤ 0) (w : ℕ) (e : w ≡ textWrong X (c .used) v) where
+  tested : (0 < w → simpleOut text v (textsAt X (c .used)) ≡ fault w)
+      × (w ≡ 0 → (simpleOut text v (textsAt X (c .used)) ≡ got (code5 v ++ bytes (take v (textsAt X (c .used))), drop v (textsAt X (c .used)))) × (v ≤ mostText) × (v ≤ length (textsAt X (c .used))))
+  unfolding textWrong
+  tested = text-tested v (textsAt X (c .used)) w e
+
+  pub text-refused : 0 < w → Walked L X (noted (wanted kinds.value v 0) (simpleOut text v (textsAt X (c .used))) (eventsAt L (c .event))) c N (Refuse w (c .event)) N
+  text-refused p = noted-fault L X c N (wanted kinds.value v 0) _ r b j z w (tested .0 p)
+
+  module _ (y : w ≤ 0) where
+    fine : (v ≤ mostText) × (c .used + v ≤ length X)
+    unfolding textsAt
+    fine = let t = tested .1 (none y) in let u = r .used in (t .1, omega (arith, t .2, length-drop (c .used) X))
+
+    pub text-small : v ≤ mostText
+    text-small = fine .0
+
+    pub text-place : FitsIn w32 (c .used)
+    text-place = let a = r .short in let d = r .few in let i = r .inside in record { fits = omega arith }
+
+    pub text-end : FitsIn w64 (c .used + v)
+    text-end = let a = r .short in let d = r .few in let i = r .inside in let f = fine .0 in record { fits = omega arith }
+
+    module _ (k : Bits) (l : k .0 ≡ length (code5 v)) (s : v < 2 ^ 32) where
+      text-sum : c .bits + k .0 + 8 * v < 2 ^ 32
+      text-sum = let f = fine .0 in let a = r .small in let d = r .few in let i = r .inside in let g = code5-short v s in omega arith
+
+      pub text-part : FitsIn w32 (c .bits + k .0)
+      text-part = let t = text-sum in record { fits = omega arith }
+
+      pub text-eight : FitsIn w32 (8 * v)
+      text-eight = let t = text-sum in record { fits = omega arith }
+
+      pub text-bits : FitsIn w32 (c .bits + k .0 + 8 * v)
+      text-bits = let t = text-sum in record { fits = omega arith }
+
+      pub text-go : (n : Note) (from : ℕ) (M : List ℕ) → n ≡ textNote v from → from ≡ c .used → M ≡ keeps N (c .event) n
+          → Walked L X (noted (wanted kinds.value v 0) (simpleOut text v (textsAt X (c .used))) (eventsAt L (c .event))) c N (Go (record { event = c .event + 1; used = c .used + v; bits = c .bits + k .0 + 8 * v })) M
+      unfolding textsAt
+      text-go n from M m g p =
+          let t = tested .1 (none y) in
+          let f = fine in
+          let few = t .1 in
+          let long : length (take v (drop (c .used) X)) ≡ v = length-take v (drop (c .used) X) ∙ omega (arith, t .2) in
+          let size = length-append (code5 v) (bytes (take v (drop (c .used) X))) in
+          let size8 = length-bytes (take v (drop (c .used) X)) in
+          let five5 = code5-short v s in
+          noted-got L X c N (wanted kinds.value v 0) _ r b j z (code5 v ++ bytes (take v (drop (c .used) X))) n M (record { event = c .event + 1; used = c .used + v; bits = c .bits + k .0 + 8 * v })
+          (t .0 ∙ ap (λ (u : List ℕ). got (code5 v ++ bytes (take v (drop (c .used) X)), u)) (drop-drop (c .used) v X))
+          (rw (m, g, piece-five X 33 v refl, piece-bytes X (34 + v) (c .used) (omega arith)) (let off : 34 + v - 34 ≡ v = omega arith in rw off))
+          p refl (omega arith) (omega arith) (f .1) (omega arith)
+
+pub ruleset text-ways = (noted-unlike, judged-few, judged-room, text-refused, text-small, text-place, text-end, text-eight, text-part, text-bits, text-go)
+
+-- close
+module _ (L X : List ℕ) (c e : Cursor) (N : List ℕ) (mode q : ℕ) (r : Ready L X N c) (s : Sealing L X N c e) (b : ℕ) (j : b ≡ judged L (e .event) (wanted kinds.end 0 0)) where
+  abbrev inner : List ℕ
+  inner = between X N (past c) e
+
+  pub close-unlike : 0 < b → Walked L X (sealed (modeIs mode) q (wrote inner (eventsAt L (e .event)) (textsAt X (e .used)))) c N (Refuse b (e .event)) N
+  unfolding sealed
+  close-unlike p = record { is = record { out = taken-unlike L (e .event) (wanted kinds.end 0 0) asEnd _ refl b j p (s .ready .inside); inside = s .ready .inside } }
+
+  module _ (z : b ≤ 0) where
+    pub close-in : e .event < mostEvents
+    close-in = let h = judged-in L (e .event) (wanted kinds.end 0 0) (sym j ∙ none z) in let g = r .few in omega arith
+
+    pub close-room : 4 * e .event + 4 ≤ length N
+    close-room = let h = judged-in L (e .event) (wanted kinds.end 0 0) (sym j ∙ none z) in let g = r .sized in omega arith
+
+    pub close-start : (M : List ℕ) → length M ≡ length N → 4 * c .event + 4 ≤ length M
+    close-start M k = let h = close-room in let g = s .started in omega arith
+
+    pub close-less : c .bits ≤ e .bits
+    close-less = let g = s .counts in omega arith
+
+    pub close-next : FitsIn w64 (e .event + 1)
+    close-next = let h = close-in in record { fits = omega arith }
+
+    pub close-fits : (h : Head) (w : List ℕ) → HeadNote h w → FitsIn w32 (e .bits + h .bits)
+    close-fits h w g = let a = s .ready .small in let d = s .ready .few in let i = s .ready .inside in let k = g .short in record { fits = omega arith }
+
+    pub close-go : (n : Note) (M : List ℕ) → n ≡ only (fixedPiece 0 0) → M ≡ keeps N (e .event) n → (h : Head) → HeadNote h (headOut (modeIs mode) (lengthOf q (e .bits - c .bits))) → (K : List ℕ) → K ≡ keeps M (c .event) (h .note)
+        → Walked L X (sealed (modeIs mode) q (wrote inner (eventsAt L (e .event)) (textsAt X (e .used)))) c N (Go (record { event = e .event + 1; used = e .used; bits = e .bits + h .bits })) K
+    unfolding sealed
+    close-go n M nothing k h g K y =
+        let i = judged-in L (e .event) (wanted kinds.end 0 0) (sym j ∙ none z) in
+        let few = r .few in
+        let len = r .sized in
+        let st = s .started in
+        let cn = s .counts in
+        let bound : e .bits - c .bits ≡ length inner = omega arith in
+        let lenM : length M ≡ length N = ap length k ∙ kept-length N (e .event) n in
+        let f : Cursor = record { event = e .event + 1; used = e .used; bits = e .bits + h .bits } in
+        let head : noteAt X K (c .event) ≡ headOut (modeIs mode) (lengthOf q (e .bits - c .bits)) =
+        ap (λ (l : List ℕ). noteAt X l (c .event)) y ∙ kept-note M (c .event) (h .note) X (omega arith) ∙ g .note .is X in
+        let mid : spells X K (c .event + 1) (e .event - (c .event + 1)) ≡ inner =
+        spells-same X N K (c .event + 1) (e .event - (c .event + 1)) (λ x u v. ap (λ (l : List ℕ). getD l x 0) y ∙ kept-other M (c .event) (h .note) x (inr (omega arith)) ∙ ap (λ (l : List ℕ). getD l x 0) k ∙ kept-other N (e .event) n x (inl (omega arith))) in
+        let last : spells X K (e .event) 1 ≡ [] =
+        spells-same X M K (e .event) 1 (λ x u v. ap (λ (l : List ℕ). getD l x 0) y ∙ kept-other M (c .event) (h .note) x (inr (omega arith)))
+        ∙ spells-one X M (e .event) ∙ ap (λ (l : List ℕ). noteAt X l (e .event)) k ∙ kept-note N (e .event) n X (omega arith) ∙ rw (nothing, piece-none X) in
+        let one : c .event + 1 - c .event ≡ 1 = omega arith in
+        let end1 : e .event + 1 - e .event ≡ 1 = omega arith in
+        let first : spells X K (c .event) (c .event + 1 - c .event) ≡ headOut (modeIs mode) (lengthOf q (e .bits - c .bits)) = rw one (spells-one X K (c .event) ∙ head) in
+        let tail : spells X K (c .event + 1) (e .event + 1 - (c .event + 1)) ≡ inner =
+        spells-by X K (c .event + 1) (e .event) (e .event + 1) (omega arith) (omega arith) ∙ rw (mid, end1, last) (append-nil inner) in
+        let whole : between X K c f ≡ headOut (modeIs mode) (lengthOf q (e .bits - c .bits)) ++ inner =
+        spells-by X K (c .event) (c .event + 1) (e .event + 1) (omega arith) (omega arith) ∙ ap₂ _++_ first tail in
+        let long = length-append (headOut (modeIs mode) (lengthOf q (e .bits - c .bits))) inner in
+        let hl = g .long in
+        let hs = g .short in
+        record {
+          is = record {
+            out = taken-like L (e .event) (wanted kinds.end 0 0) asEnd _ refl (sym j ∙ none z) ∙ rw (← bound, whole);
+            counts = rw whole (omega arith);
+            onward = omega arith;
+            ready = record { sized = omega (arith, ap length y, kept-length M (c .event) (h .note)); few = few; inside = omega arith; used = s .ready .used; short = omega (arith, s .ready .short); small = omega (arith, s .ready .small) };
+            before = λ x v. ap (λ (l : List ℕ). getD l x 0) y ∙ kept-other M (c .event) (h .note) x (inl v) ∙ ap (λ (l : List ℕ). getD l x 0) k ∙ kept-other N (e .event) n x (inl (omega arith));
+          };
+        }
+
+pub ruleset close-ways = (close-unlike, close-in, close-room, close-start, close-less, close-next, close-fits, close-go)

@@ -1,0 +1,5 @@
+mod CodeWays
+mod LeafWays
+pub mod NoteLaws
+mod PenWays
+pub mod WalkLaws

@@ -1,0 +1,228 @@
+// One event judged against what is wanted, and its note kept.
+use super::Cursor;
+use super::Note;
+use super::Piece;
+use super::Step;
+use super::codes::head;
+use super::codes::just;
+use super::codes::number;
+use numbers::kind;
+use numbers::limit;
+use numbers::refusal;
+use table::rows::word;
+use utf8::check;
+use value::Code;
+use value::Size;
+use value::writing::size;
+use wire::writing::size5;
+ghost use mathlib.Core.Path.{_≡_};
+ghost use mathlib.Core.List.{[]};
+ghost use Prim.Native.Nat.{_+_, _*_, _≤_};
+ghost use lib.ListN.{length, getD};
+ghost use Rattle.numbers.specs.Kind as kinds;
+ghost use Rattle.numbers.specs.Limit.{mostText};
+ghost use Rattle.wire.specs.Res.{got};
+ghost use Rattle.value.specs.Simple.{plain, text};
+ghost use Rattle.value.specs.Answer.{codeIs};
+ghost use Rattle.model.specs.Write.{wrote, simpleOut, sealed};
+ghost use Rattle.writer_parts.specs.Notes.{keeps, fixedPiece, only, textNote, modeIs};
+ghost use Rattle.writer_parts.specs.Walk.{eventsAt, textsAt, between, Ready, Walked, Sealing, wanted, judged, noted, textWrong};
+
+// What is wrong with event at where one of these words is wanted; NO_READING where there is none.
+pub fn unlike(events: &[u32], at: usize, kind: u32, p: u32, q: u32) -> u32
+    ensures { λ r. ⌜ r ≡ judged (now (events .entry)) at (wanted kind p q) ⌝ }
+{
+    if events.len() / 4 <= at {
+        return refusal::NO_READING;
+    }
+    let i = 4 * at;
+    let k = events[i];
+    let x = events[i + 1];
+    let y = events[i + 2];
+    if kind != k {
+        if k == kind::BLANK {
+            return refusal::BLANK;
+        }
+        return refusal::NO_READING;
+    }
+    if p != x {
+        return refusal::NO_READING;
+    }
+    if q != y {
+        return refusal::NO_READING;
+    }
+    refusal::ACCEPTED
+}
+
+// The note of event at.
+pub fn keep(notes: &mut [u32], at: usize, n: Note)
+    requires { ⌜ 4 * at + 4 ≤ length (now notes) ⌝ }
+    ensures { λ _. ⌜ now (notes .exit) ≡ keeps (now (notes .entry)) at n ⌝ }
+{
+    let one = n.one;
+    let two = n.two;
+    let a = one.width;
+    let x = one.x;
+    let b = two.width;
+    let y = two.x;
+    let i = 4 * at;
+    notes[i] = a;
+    notes[i + 1] = x;
+    notes[i + 2] = b;
+    notes[i + 3] = y;
+}
+
+// An event that takes no bits.
+pub fn mark(
+    events: &[u32],
+    texts: &[u8],
+    notes: &mut [u32],
+    c: Cursor,
+    kind: u32,
+    p: u32,
+    q: u32,
+) -> Step
+    requires { ⌜ Ready (now events) (now texts) (now notes) c ⌝ }
+    ensures { λ r. ⌜ Walked (now (events .entry)) (now (texts .entry)) (noted (wanted kind p q) (got ([], textsAt (now (texts .entry)) (c .used))) (eventsAt (now (events .entry)) (c .event))) c (now (notes .entry)) r (now (notes .exit)) ⌝ }
+{
+    let at = c.event;
+    let bad = unlike(events, at, kind, p, q);
+    if 0 < bad {
+        return Step::Refuse(bad, at);
+    }
+    let nothing = Piece { width: 0, x: 0 };
+    let note = just(nothing);
+    keep(notes, at, note);
+    let next = Cursor {
+        event: at + 1,
+        used: c.used,
+        bits: c.bits,
+    };
+    Step::Go(next)
+}
+
+// An event whose value v is written in a code, which may have no such value.
+pub fn coded(
+    events: &[u32],
+    texts: &[u8],
+    notes: &mut [u32],
+    c: Cursor,
+    kind: u32,
+    p: u32,
+    q: u32,
+    code: Code,
+    v: u32,
+) -> Step
+    requires { ⌜ Ready (now events) (now texts) (now notes) c ⌝ }
+    ensures { λ r. ⌜ Walked (now (events .entry)) (now (texts .entry)) (noted (wanted kind p q) (simpleOut (plain (codeIs code)) v (textsAt (now (texts .entry)) (c .used))) (eventsAt (now (events .entry)) (c .event))) c (now (notes .entry)) r (now (notes .exit)) ⌝ }
+{
+    let at = c.event;
+    let bad = unlike(events, at, kind, p, q);
+    if 0 < bad {
+        return Step::Refuse(bad, at);
+    }
+    match size(code, v) {
+        Size::Refuse(e) => Step::Refuse(e, at),
+        Size::Takes(n) => {
+            let note = number(code, v);
+            keep(notes, at, note);
+            let bits = c.bits + n.0;
+            let next = Cursor {
+                event: at + 1,
+                used: c.used,
+                bits,
+            };
+            Step::Go(next)
+        }
+    }
+}
+
+// What is wrong with a text of n bytes at a place of the texts: too many bytes, more than are left, no UTF-8, in this order.
+fn text_fault(texts: &[u8], used: usize, v: u32) -> u32
+    requires { ⌜ used ≤ length (now texts) ⌝ }
+    ensures { λ r. ⌜ r ≡ textWrong (now (texts .entry)) used v ⌝ }
+{
+    if limit::MOST_TEXT < v {
+        return refusal::OUTSIDE_ROW;
+    }
+    let n = v as usize;
+    if texts.len() - used < n {
+        return refusal::TEXT_BYTES;
+    }
+    let to = used + n;
+    check(&texts[used..to])
+}
+
+// The note of a text.
+fn text_note(v: u32, from: u32) -> Note
+    requires { ⌜ v ≤ mostText ⌝ }
+    ensures { λ r. ⌜ r ≡ textNote v from ⌝ }
+{
+    let one = Piece { width: 33, x: v };
+    let two = Piece {
+        width: 34 + v,
+        x: from,
+    };
+    Note { one, two }
+}
+
+// A text's event, of v bytes.
+pub fn text_value(events: &[u32], texts: &[u8], notes: &mut [u32], c: Cursor, v: u32) -> Step
+    requires { ⌜ Ready (now events) (now texts) (now notes) c ⌝ }
+    ensures { λ r. ⌜ Walked (now (events .entry)) (now (texts .entry)) (noted (wanted kinds.value v 0) (simpleOut text v (textsAt (now (texts .entry)) (c .used))) (eventsAt (now (events .entry)) (c .event))) c (now (notes .entry)) r (now (notes .exit)) ⌝ }
+{
+    let at = c.event;
+    let used = c.used;
+    let bad = unlike(events, at, kind::VALUE, v, 0);
+    if 0 < bad {
+        return Step::Refuse(bad, at);
+    }
+    let wrong = text_fault(texts, used, v);
+    if 0 < wrong {
+        return Step::Refuse(wrong, at);
+    }
+    let note = text_note(v, used as u32);
+    keep(notes, at, note);
+    let count = size5(v);
+    let bits = c.bits + count.0 + 8 * v;
+    let next = Cursor {
+        event: at + 1,
+        used: used + (v as usize),
+        bits,
+    };
+    Step::Go(next)
+}
+
+// The end of an element whose Start, with the second word q, is at c, and inside which the walk went on to e: End, then the head noted at Start.
+pub fn close(
+    events: &[u32],
+    texts: &[u8],
+    notes: &mut [u32],
+    mode: u32,
+    q: u32,
+    c: Cursor,
+    e: Cursor,
+) -> Step
+    requires { ⌜ (Ready (now events) (now texts) (now notes) c) × Sealing (now events) (now texts) (now notes) c e ⌝ }
+    ensures { λ r. ⌜ Walked (now (events .entry)) (now (texts .entry)) (sealed (modeIs mode) q (wrote (between (now (texts .entry)) (now (notes .entry)) (record { event = c .event + 1; used = c .used; bits = c .bits }) e) (eventsAt (now (events .entry)) (e .event)) (textsAt (now (texts .entry)) (e .used)))) c (now (notes .entry)) r (now (notes .exit)) ⌝ }
+{
+    let at = c.event;
+    let to = e.event;
+    let bad = unlike(events, to, kind::END, 0, 0);
+    if 0 < bad {
+        return Step::Refuse(bad, to);
+    }
+    let nothing = Piece { width: 0, x: 0 };
+    let none = just(nothing);
+    keep(notes, to, none);
+    let h = head(mode, q, e.bits - c.bits);
+    let note = h.note;
+    keep(notes, at, note);
+    let bits = e.bits + h.bits;
+    let next = Cursor {
+        event: to + 1,
+        used: e.used,
+        bits,
+    };
+    Step::Go(next)
+}
