@@ -14,12 +14,7 @@ use Rattle.wire.specs.declared.Read.the-variants as read
 use Rattle.wire.specs.Bits.{bitAt, Has}
 use Rattle.wire.proofs.BitLaws.{has-both, has-same}
 use Rattle.wire.specs.Number.{code8}
-use Rattle.wire.specs.Put.{Put, Wrote, Wrote8}
-
--- the number v is written whole, as the bits l; or it has no code, and nothing is
-abbrev pub WroteOr : (coded uncoded : Type 0) (l : List ℕ) (v : ℕ) (s t : List ℕ) (at : ℕ) → Read → Type 0
-WroteOr coded uncoded l v s t at (read.Value u p) = (u ≡ v) × coded × Wrote s t at l (p .0)
-WroteOr coded uncoded l v s t at (read.Refuse e) = (e ≡ outsideRow) × uncoded × (t ≡ s)
+use Rattle.wire.specs.Put.{Put, Wrote, WroteOr, Wrote8}
 
 pub put-none : (b : ℕ → ℕ) (at : ℕ) → Put b b at []
 put-none b at = record { stands = tt; before = λ j h. refl; after = λ j h. refl }
