@@ -11,7 +11,7 @@ use Rattle.table.specs.Rows.Content.{empty, simple, particles}
 use Rattle.model.specs.Model.{Plan, Nodes, Path, Item, value, maybe, attribute, attributes, contents, rows, within, due, plan}
 use Rattle.model.specs.Items.{Mode}
 use Rattle.model.specs.Read.{Room}
-use Rattle.model.proofs.Reads.{one, Goes, an-item, an-element, a-blank, Refuses, here, inside, unmet, no-end, later}
+use Rattle.model.proofs.Readings.{one, Goes, an-item, an-element, a-blank, Refuses, here, inside, unmet, no-end, later}
 use Rattle.model.specs.Whole.{Reply, reading, outcome, afterVerdict}
 use Rattle.model.proofs.Replies.{Replies, no-table, no-root, no-mode, stopped, unpadded, whole, reading-replies}
 use Rattle.buffers.specs.Bytes.{wordsOf}

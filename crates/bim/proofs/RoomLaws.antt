@@ -7,7 +7,7 @@ use native.Mathlib.Omega.{arith}
 use Rattle.model.specs.Model.{Plan, Nodes, Path}
 use Rattle.model.specs.Items.{Mode}
 use Rattle.model.specs.Read.{Room, less, lessOne}
-use Rattle.model.proofs.Reads.{Extent, Goes, an-item, an-element, a-blank, nothing, more, Stop, too-deep, no-item, no-bytes, no-slot, no-head, unheld, no-start, no-blank, Refuses, here, inside, unmet, no-end, later}
+use Rattle.model.proofs.Readings.{Extent, Goes, an-item, an-element, a-blank, nothing, more, Stop, too-deep, no-item, no-bytes, no-slot, no-head, unheld, no-start, no-blank, Refuses, here, inside, unmet, no-end, later}
 use Rattle.model.specs.Whole.{Reply, outcome, roomOf, reading}
 use Rattle.model.proofs.Replies.{Replies, no-table, no-root, no-mode, stopped, unpadded, whole, reading-replies, replies-reading}
 

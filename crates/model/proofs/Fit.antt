@@ -6,7 +6,7 @@ use Rattle.model.specs.Model.{Plan, Nodes, Path, Answer, slotsOf, bytesO
 use Rattle.model.specs.Model.Answer.{given, refused}
 use Rattle.model.specs.Items.{Mode}
 use Rattle.model.specs.Read.{Room, read}
-use Rattle.model.proofs.Reads.{Extent, Goes, an-item, an-element, a-blank, nothing, more, read-by}
+use Rattle.model.proofs.Readings.{Extent, Goes, an-item, an-element, a-blank, nothing, more, read-by}
 use Rattle.model.proofs.Trees.{slots-then, bytes-then}
 
 abbrev pub Fits : Room → Answer → Type 0

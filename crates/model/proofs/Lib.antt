@@ -11,7 +11,7 @@ pub mod Named
 pub mod OutLaws
 pub mod PackLaws
 pub mod Plain
-pub mod Reads
+pub mod Readings
 pub mod Replies
 pub mod Steps
 pub mod Sums

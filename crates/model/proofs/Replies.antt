@@ -15,7 +15,7 @@ use Rattle.model.specs.Model.{Nodes, Path, Answer}
 use Rattle.model.specs.Model.Answer.{given, refused}
 use Rattle.model.specs.Items.{Mode}
 use Rattle.model.specs.Read.{read}
-use Rattle.model.proofs.Reads.{Reads, read-reads, reads-read}
+use Rattle.model.proofs.Readings.{Reads, read-reads, reads-read}
 use Rattle.model.specs.Whole.{modeOf, padding, Reply, accepted, declined, padded, replied, rootIn, inMode, payload, asked, roomOf, afterAsked, afterVerdict, reading}
 use Rattle.model.specs.Entries.{planOf}
 

@@ -15,7 +15,7 @@ use Rattle.model.specs.Model.{Plan, Nodes, slotsOf, bytesOf}
 use Rattle.model.specs.Model.Answer.{given}
 use Rattle.model.specs.Items.{Mode, Form, present, simply, formOf, formAt, itemAt}
 use Rattle.model.specs.Read.{Room, read}
-use Rattle.model.proofs.Reads.{Extent, Goes, an-item, an-element, a-blank, nothing, more, read-given}
+use Rattle.model.proofs.Readings.{Extent, Goes, an-item, an-element, a-blank, nothing, more, read-given}
 use Rattle.model.proofs.Trees.{slots-then, bytes-then}
 
 -- a text is at most that long

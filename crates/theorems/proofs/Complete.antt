@@ -19,7 +19,7 @@ use Rattle.model.proofs.ItemLaws.{item-reads, headOf, stopOf, stop-in, head-rea
 use Rattle.model.specs.Grammar as grammar
 use Rattle.model.specs.Grammar.{opens, Is}
 use Rattle.model.specs.Read.{Room, less, lessOne, met, read}
-use Rattle.model.proofs.Reads.{one, Goes, an-item, an-element, a-blank, nothing, more, Refuses, here, unheld, inside, later, Reads, reads-read}
+use Rattle.model.proofs.Readings.{one, Goes, an-item, an-element, a-blank, nothing, more, Refuses, here, unheld, inside, later, Reads, reads-read}
 use Rattle.theorems.specs.Less.{newly}
 use Rattle.theorems.proofs.Walk.{Walk, shown, lacking, both, enclosed, shownAs, walk, answer, Fits, shownAs-fits, walk-fits, walk-none}
 use Rattle.model.proofs.Sums.{is-sum}

@@ -16,8 +16,8 @@ use Rattle.model.specs.Items.{Mode, Length, free, long, Head}
 use Rattle.model.proofs.ItemLaws.{headOf}
 use Rattle.model.specs.Grammar.{Is}
 use Rattle.model.specs.Read.{Room, met, read}
-use Rattle.model.proofs.Reads as reads
-use Rattle.model.proofs.Reads.{Extent, one, all, Goes, an-item, an-element, a-blank, nothing, more, Stop, no-item, no-head, unheld, no-start, no-blank, Refuses, here, inside, unmet, no-end, later, read-given, read-by}
+use Rattle.model.proofs.Readings as reads
+use Rattle.model.proofs.Readings.{Extent, one, all, Goes, an-item, an-element, a-blank, nothing, more, Stop, no-item, no-head, unheld, no-start, no-blank, Refuses, here, inside, unmet, no-end, later, read-given, read-by}
 use Rattle.theorems.specs.Sound.{Extends}
 use Rattle.theorems.proofs.Sound.{extends-same, headed, goes-stands, refuses-within}
 use Rattle.theorems.proofs.Complete.{is-read}

@@ -11,7 +11,7 @@ use Rattle.table.specs.Rows.{tableOf}
 use Rattle.model.specs.Model.{Plan, Path}
 use Rattle.model.specs.Items.{Mode}
 use Rattle.model.specs.Read.{Room}
-use Rattle.model.proofs.Reads.{Stop, too-deep, no-item, no-bytes, no-slot, no-head, unheld, no-start, no-blank, Refuses, here, inside, unmet, no-end, later}
+use Rattle.model.proofs.Readings.{Stop, too-deep, no-item, no-bytes, no-slot, no-head, unheld, no-start, no-blank, Refuses, here, inside, unmet, no-end, later}
 use Rattle.model.specs.Whole.{modeAt, modeOf, Reply, accepted, declined, asked, reading, outcome}
 use Rattle.model.proofs.Replies.{Replies, no-table, no-root, no-mode, stopped, unpadded, reading-replies}
 use Rattle.model.proofs.Named.{Named, named-most, item-named, head-named}

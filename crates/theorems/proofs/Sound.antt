@@ -20,7 +20,7 @@ use Rattle.model.proofs.ItemLaws.{FoundHead, headOf, stopOf, item-found, head-f
 use Rattle.model.specs.Grammar as grammar
 use Rattle.model.specs.Grammar.{Bits, Is}
 use Rattle.model.specs.Read.{Room, mark, met, read}
-use Rattle.model.proofs.Reads.{Extent, one, all, Goes, an-item, an-element, a-blank, nothing, more, Refuses, here, inside, unmet, no-end, later, read-by}
+use Rattle.model.proofs.Readings.{Extent, one, all, Goes, an-item, an-element, a-blank, nothing, more, Refuses, here, inside, unmet, no-end, later, read-by}
 use Rattle.model.proofs.Fit.{goes-fits}
 use Rattle.theorems.specs.Sound.{Extends, Found, Finds}
 
