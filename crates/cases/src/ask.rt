@@ -1,6 +1,5 @@
 // Which leaf a case asks, and how its answer is printed: the refusal's number or 0, the value, the place past it, and one number
 // more; of a code that is written the value, the place past it, and the 8 bytes that it was written into.
-use crate::word;
 use probe::reading::probe_any5;
 use probe::reading::probe_any8;
 use probe::reading::probe_fixed;
@@ -16,6 +15,7 @@ use probe::writing::probe_put_simple;
 use probe::writing::probe_put_times;
 use probe::writing::probe_put5;
 use probe::writing::probe_put8;
+use words::word;
 
 // A reading has its wall in x and its place in y; a writing its value in x. Parameters are a, b and c.
 pub struct Case {
