@@ -1,6 +1,6 @@
 // Which leaf a case asks, and how its answer is printed: the refusal's number or 0, the value, the place past it, and one number
 // more; of a code that is written the value, the place past it, and the 8 bytes that it was written into.
-use crate::word;
+use buffers::word;
 use test_leaves::reading::probe_any5;
 use test_leaves::reading::probe_any8;
 use test_leaves::reading::probe_fixed;

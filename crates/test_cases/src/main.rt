@@ -7,30 +7,16 @@ mod payload;
 
 use ask::Case;
 use ask::tell;
+use buffers::word;
 use payload::tell_reading;
 ghost use mathlib.Core.Path.{_≡_};
-ghost use Prim.Native.Nat.{_+_, _≤_, _<_};
+ghost use Prim.Native.Nat.{_<_};
 ghost use lib.ListN.{length};
 
 fn wide(x: u8) -> u32
     ensures { λ r. ⌜ r < 256 ⌝ }
 {
     x as u32
-}
-
-// The number of two bytes.
-fn half(s: &[u8], i: usize) -> u32
-    requires { ⌜ i + 2 ≤ length (now s) ⌝ }
-    ensures { λ r. ⌜ r < 65536 ⌝ }
-{
-    wide(s[i]) * 256 + wide(s[i + 1])
-}
-
-// The word of four bytes.
-fn word(s: &[u8], i: usize) -> u32
-    requires { ⌜ i + 4 ≤ length (now s) ⌝ }
-{
-    half(s, i) * 65536 + half(s, i + 2)
 }
 
 // Nothing more can be told.

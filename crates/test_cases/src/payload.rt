@@ -1,9 +1,11 @@
 // A payload case: what the reader answers through its call for C, as the lines of examples/payloads.txt say it (answer, path, events, texts), and how
 // many bytes of the lent buffers past the list and the texts are not 0. They hold junk before the call, so a byte that is left as it was shows.
-use crate::half;
 use crate::wide;
-use crate::word;
 use bim::bim_read;
+use buffers::half;
+use buffers::word;
+use numbers::limit;
+use numbers::refusal;
 ghost use Prim.Native.Nat.{_+_, _≤_};
 ghost use lib.ListN.{length};
 
@@ -15,7 +17,7 @@ fn print_word(s: &[u8], at: usize)
 }
 
 // Number, then place, mode, events, text bytes and bits.
-fn print_answer(number: u32, area: &[u8; 152]) {
+fn print_answer(number: u32, area: &[u8; limit::AREA]) {
     io::write_all(1, b"answer ");
     io::print_decimal(1, number as u64);
     print_word(area, 0);
@@ -27,14 +29,14 @@ fn print_answer(number: u32, area: &[u8; 152]) {
 }
 
 // The open elements, where there are any.
-fn print_path(area: &[u8; 152]) {
+fn print_path(area: &[u8; limit::AREA]) {
     let n = word(area, 20) as usize;
     if n == 0 {
         return;
     }
     io::write_all(1, b"path");
     let mut i = 0;
-    while i < 64 {
+    while i < limit::MOST_NAMES {
         if i < n {
             io::write_all(1, b" ");
             io::print_decimal(1, half(area, 24 + 2 * i) as u64);
@@ -57,9 +59,9 @@ fn print_event(events: &[u8], at: usize)
 
 fn print_events(events: &[u8], n: usize) {
     let mut i = 0;
-    while i < events.len() / 16 {
+    while i < events.len() / limit::EVENT {
         if i < n {
-            print_event(events, 16 * i);
+            print_event(events, limit::EVENT * i);
         }
         i += 1;
     }
@@ -94,22 +96,24 @@ fn left(s: &[u8], from: usize) -> u64 {
     n
 }
 
+const MOST: u64 = limit::MOST_WORD as u64;
+
 // A count that stops where a word ends.
 fn more(n: u64) -> u64 {
-    if n < 4294967295 { n + 1 } else { n }
+    if n < MOST { n + 1 } else { n }
 }
 
-fn tell(number: u32, events: &[u8], texts: &[u8], area: &[u8; 152]) {
+fn tell(number: u32, events: &[u8], texts: &[u8], area: &[u8; limit::AREA]) {
     let count = word(area, 8) as usize;
     let bytes = word(area, 12) as usize;
     print_answer(number, area);
     print_path(area);
     print_events(events, count);
-    if number == 0 {
+    if number == refusal::ACCEPTED {
         print_texts(texts, bytes);
     }
     io::write_all(1, b"left ");
-    io::print_decimal(1, left(events, 16 * count));
+    io::print_decimal(1, left(events, limit::EVENT * count));
     io::write_all(1, b" ");
     io::print_decimal(1, left(texts, bytes));
     io::write_all(1, b"\n");
@@ -117,7 +121,7 @@ fn tell(number: u32, events: &[u8], texts: &[u8], area: &[u8; 152]) {
 
 // Reads a payload into lent events and texts.
 fn read_into(table: &[u8], name: u32, t: u32, payload: &[u8], events: &mut [u8], texts: &mut [u8]) {
-    let mut area = [165u8; 152];
+    let mut area = [165u8; limit::AREA];
     let number = bim_read(table, name, t, payload, events, texts, &mut area);
     tell(number, events, texts, &area);
 }
@@ -127,7 +131,7 @@ fn lend(table: &[u8], name: u32, t: u32, payload: &[u8], e: usize, x: usize)
     requires { ⌜ (e ≤ 49152) × (x ≤ 8192) ⌝ }
 {
     let mut events = [165u8; 49152];
-    let mut texts = [165u8; 8192];
+    let mut texts = [165u8; limit::MOST_PAYLOAD];
     read_into(table, name, t, payload, &mut events[..e], &mut texts[..x]);
 }
 
@@ -136,7 +140,7 @@ pub fn tell_reading(table: &[u8], name: u32, t: u32, payload: &[u8], e: usize, x
     if 49152 < e {
         return too_much();
     }
-    if 8192 < x {
+    if limit::MOST_PAYLOAD < x {
         return too_much();
     }
     lend(table, name, t, payload, e, x);
