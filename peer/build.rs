@@ -3,9 +3,9 @@
 //! `FUZZER` and `FUZZ_BLOCKS` name the archive and the object.
 
 /// The crates whose archives are linked (`rt staticlib NAME`), and the one that runs the vectors.
-const LEAVES: &str = "probe";
-const CALLS: &str = "host";
-const CASES: &str = "cases";
+const LEAVES: &str = "test_leaves";
+const CALLS: &str = "bim";
+const CASES: &str = "test_cases";
 
 fn main() {
     println!("cargo:rerun-if-changed=build.rs");

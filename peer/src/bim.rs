@@ -126,23 +126,25 @@ pub const MOST_PAYLOAD: usize = 8192;
 pub const MOST_TABLE: usize = 35_856;
 /// The most names of a path.
 pub const MOST_NAMES: usize = 64;
+/// The greatest word: places stop there.
+pub const MOST_WORD: u32 = 4_294_967_295;
 
 // What the headers have no name for.
 
 /// The modes of length coding: none.
-pub const MODE_NONE: u32 = 0;
+pub const MODE_NEVER: u32 = 0;
 /// Where an element's flag says so.
 pub const MODE_OPTIONAL: u32 = 1;
 /// Every element has one.
 pub const MODE_ALWAYS: u32 = 2;
 /// The first byte of a payload of mode 0.
-pub const MODE_BYTE_NONE: u8 = 0x0f;
+pub const MODE_NEVER_BYTE: u8 = 0x0f;
 /// Of mode 1.
-pub const MODE_BYTE_OPTIONAL: u8 = 0x4f;
+pub const MODE_OPTIONAL_BYTE: u8 = 0x4f;
 /// Of mode 2.
-pub const MODE_BYTE_ALWAYS: u8 = 0x8f;
+pub const MODE_ALWAYS_BYTE: u8 = 0x8f;
 /// The mode bytes, by mode.
-pub const MODE_BYTES: [u8; 3] = [MODE_BYTE_NONE, MODE_BYTE_OPTIONAL, MODE_BYTE_ALWAYS];
+pub const MODE_BYTES: [u8; 3] = [MODE_NEVER_BYTE, MODE_OPTIONAL_BYTE, MODE_ALWAYS_BYTE];
 /// The words of an event.
 pub const EVENT_WORDS: usize = EVENT / 4;
 /// The first word of every table.
@@ -162,17 +164,17 @@ pub const MOST_ATTRIBUTES: usize = 1024;
 /// The most particle rows.
 pub const MOST_PARTICLES: usize = 1024;
 /// The most words of a table.
-pub const MOST_WORDS: usize = MOST_TABLE / 4;
+pub const MOST_TABLE_WORDS: usize = MOST_TABLE / 4;
 /// The most child rows of a sequence or choice.
 pub const MOST_CHILDREN: u32 = 64;
 /// The largest name of an element or attribute.
 pub const MOST_NAME: u32 = 65_535;
 /// The largest count of an occurs row, and so its largest least.
-pub const MOST_COUNT: u32 = 65_535;
+pub const MOST_TIMES: u32 = 65_535;
 /// The most values of an enumeration.
-pub const MOST_ENUMERATION: u32 = 65_536;
+pub const MOST_VALUES: u32 = 65_536;
 /// The largest difference of a range that is still coded in a fixed width (001, 8.5.4.2.1).
-pub const MOST_FIXED_SPAN: u32 = 65_535;
+pub const MOST_FIXED: u32 = 65_535;
 /// The most bytes of a text.
 pub const MOST_TEXT: u32 = 4095;
 /// The most elements and particle rows open at once.

@@ -137,7 +137,7 @@ fn span(b: i32, c: i32) -> u32 {
 #[inline]
 pub fn read_range(b: i32, c: i32, payload: &[u8], end: usize, at: usize) -> Result<Taken, u32> {
     let span = span(b, c);
-    let taken = if span <= bim::MOST_FIXED_SPAN {
+    let taken = if span <= bim::MOST_FIXED {
         read_choice(span + 1, payload, end, at)?
     } else {
         let taken = strict5(payload, end, at)?;
@@ -158,7 +158,7 @@ pub fn write_range(b: i32, c: i32, word: u32) -> Option<Code> {
     }
     let above = (i64::from(value) - i64::from(b)) as u32;
     let span = span(b, c);
-    if span <= bim::MOST_FIXED_SPAN {
+    if span <= bim::MOST_FIXED {
         write_choice(span + 1, above)
     } else {
         Some(write5(above))
@@ -181,7 +181,7 @@ pub fn read_occurs(least: u32, most: u32, payload: &[u8], end: usize, at: usize)
     let shunt_bits = usize::from(shunt);
     let taken = if most == bim::UNBOUNDED {
         let taken = strict5(payload, end, at + shunt_bits)?;
-        if taken.value > bim::MOST_COUNT - least {
+        if taken.value > bim::MOST_TIMES - least {
             return Err(bim::TOO_LARGE);
         }
         taken
@@ -198,7 +198,7 @@ pub fn read_occurs(least: u32, most: u32, payload: &[u8], end: usize, at: usize)
 /// The code of `count` in an occurs row, where the row has it.
 #[inline]
 pub fn write_occurs(least: u32, most: u32, count: u32) -> Option<Code> {
-    if count < least || count > most.min(bim::MOST_COUNT) {
+    if count < least || count > most.min(bim::MOST_TIMES) {
         return None;
     }
     if has_shunt(least, most) && count == 0 {

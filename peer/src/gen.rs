@@ -16,8 +16,8 @@ const ENDLESS: u64 = 3000;
 /// Occurs rows worth trying, both sides of every case of the code among them.
 #[rustfmt::skip]
 const BOUNDS: [(u32, u32); 16] = [
-    (0, 1), (0, 1), (1, 1), (0, 2), (0, 3), (1, 3), (2, 2), (2, 6), (0, 7), (0, 8), (0, bim::MOST_COUNT),
-    (0, bim::UNBOUNDED), (0, bim::UNBOUNDED), (1, bim::UNBOUNDED), (3, bim::UNBOUNDED), (bim::MOST_COUNT, bim::UNBOUNDED),
+    (0, 1), (0, 1), (1, 1), (0, 2), (0, 3), (1, 3), (2, 2), (2, 6), (0, 7), (0, 8), (0, bim::MOST_TIMES),
+    (0, bim::UNBOUNDED), (0, bim::UNBOUNDED), (1, bim::UNBOUNDED), (3, bim::UNBOUNDED), (bim::MOST_TIMES, bim::UNBOUNDED),
 ];
 
 /// Particle rows, the common ones more often.
@@ -56,7 +56,7 @@ fn parameters(rng: &mut Rng, kind: u32) -> (u32, u32) {
         bim::RANGED => {
             let b = edge_word(rng) as i32;
             let span = match rng.below(6) {
-                0 => bim::MOST_FIXED_SPAN - 1 + rng.below(4) as u32,
+                0 => bim::MOST_FIXED - 1 + rng.below(4) as u32,
                 1 => rng.word() >> 1,
                 2 => 0,
                 _ => rng.below(300) as u32,
@@ -65,7 +65,7 @@ fn parameters(rng: &mut Rng, kind: u32) -> (u32, u32) {
             (b as u32, c as u32)
         }
         bim::ENUMERATION => match rng.below(8) {
-            0 => (rng.pick(&[1, bim::MOST_ENUMERATION - 1, bim::MOST_ENUMERATION]), 0),
+            0 => (rng.pick(&[1, bim::MOST_VALUES - 1, bim::MOST_VALUES]), 0),
             _ => (rng.within(1, 40) as u32, 0),
         },
         _ => (0, 0),
@@ -503,7 +503,7 @@ impl Maker<'_> {
                 let cost = self.costs.rows[child];
                 let mut count = least;
                 let wished = self.rng.below(5);
-                while count < most.min(bim::MOST_COUNT) && count < least + wished as u32 && self.spend(cost) {
+                while count < most.min(bim::MOST_TIMES) && count < least + wished as u32 && self.spend(cost) {
                     count += 1;
                 }
                 let mut bits = count_bits(least.into(), most.into(), count).unwrap_or_default();
@@ -527,7 +527,7 @@ impl Maker<'_> {
         }
         let shunt = least == 0;
         let mut odd = if shunt { vec![true] } else { vec![] };
-        let above = self.rng.pick(&[0, count - least, bim::MOST_COUNT - least, bim::MOST_COUNT + 1 - least]);
+        let above = self.rng.pick(&[0, count - least, bim::MOST_TIMES - least, bim::MOST_TIMES + 1 - least]);
         odd.extend(self.number(above.into()));
         odd
     }

@@ -126,7 +126,7 @@ pub fn files() -> Vec<(&'static str, Vec<u8>)> {
         ("guide/held.table", big_endian(&guide_table(true))),
         ("guide/not-held.table", big_endian(&guide_table(false))),
         ("guide/film.bim", film_always),
-        ("guide/film-no-lengths.bim", film(bim::MODE_NONE)),
+        ("guide/film-no-lengths.bim", film(bim::MODE_NEVER)),
         ("guide/news.bim", news()),
         ("guide/film-cut.bim", cut),
         ("guide/film-damaged.bim", damaged),

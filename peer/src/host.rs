@@ -91,7 +91,7 @@ pub fn write(
 /// A table's words. Bytes over a whole word, or too many, make the length wrong; the header stands before that.
 fn table_words(bytes: &[u8]) -> Result<Vec<u32>, Refusal> {
     let whole = bytes.len() / 4;
-    if bytes.len().is_multiple_of(4) && whole <= bim::MOST_WORDS {
+    if bytes.len().is_multiple_of(4) && whole <= bim::MOST_TABLE_WORDS {
         return Ok(words_of(bytes));
     }
     let header = words_of(&bytes[..4 * whole.min(bim::HEADER)]);
@@ -104,7 +104,7 @@ fn table_words(bytes: &[u8]) -> Result<Vec<u32>, Refusal> {
 
 /// Places stop at 2^32 - 1.
 pub fn place_word(place: u64) -> u32 {
-    u32::try_from(place).unwrap_or(u32::MAX)
+    u32::try_from(place).unwrap_or(bim::MOST_WORD)
 }
 
 /// Fills the area and gives the number.

@@ -18,7 +18,7 @@ pub enum Coding {
 
 /// The bits that can be fetched: those of the bytes, but a place stops at 2^32 - 1.
 fn wall(bytes: &[u8]) -> usize {
-    (8 * bytes.len()).min(u32::MAX as usize)
+    (8 * bytes.len()).min(bim::MOST_WORD as usize)
 }
 
 /// How many bits there are from `place` on.

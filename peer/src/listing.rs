@@ -34,7 +34,7 @@ pub fn listing(input: &[u8]) -> String {
 fn parts(input: &[u8]) -> Option<(Vec<u32>, u32, u32, &[u8])> {
     let (count, rest) = input.split_first_chunk::<4>()?;
     let count = u32::from_be_bytes(*count) as usize;
-    if count > bim::MOST_WORDS || rest.len() < 4 * count {
+    if count > bim::MOST_TABLE_WORDS || rest.len() < 4 * count {
         return None;
     }
     let (words, rest) = rest.split_at(4 * count);

@@ -9,7 +9,7 @@ const TYPE_ROW: i64 = bim::TYPE_ROW as i64;
 const ATTRIBUTE_ROW: i64 = bim::ATTRIBUTE_ROW as i64;
 const PARTICLE_ROW: i64 = bim::PARTICLE_ROW as i64;
 const UNBOUNDED: i64 = bim::UNBOUNDED as i64;
-const MOST_COUNT: i64 = bim::MOST_COUNT as i64;
+const MOST_TIMES: i64 = bim::MOST_TIMES as i64;
 
 /// What the model answers.
 #[derive(Clone, Debug, PartialEq, Eq)]
@@ -116,7 +116,7 @@ impl Rows<'_> {
                 (4, bim::SIMPLE) => word <= bim::FLOAT.into(),
                 (4, bim::PARTICLES) => word < self.p(),
                 (5, bim::SIMPLE) if simple == bim::RANGED => true,
-                (5, bim::SIMPLE) if simple == bim::ENUMERATION => word > 0 && word <= bim::MOST_ENUMERATION.into(),
+                (5, bim::SIMPLE) if simple == bim::ENUMERATION => word > 0 && word <= bim::MOST_VALUES.into(),
                 (6, bim::SIMPLE) if simple == bim::RANGED => Self::signed(self.of_type(row, 5)) <= Self::signed(word),
                 _ => word == 0,
             };
@@ -138,8 +138,8 @@ impl Rows<'_> {
             (2, bim::ELEMENT) => word < self.t(),
             (2, bim::SEQUENCE) => children(1),
             (2, bim::CHOICE) => children(2),
-            (2, _) => word <= MOST_COUNT,
-            (3, bim::OCCURS) => word == UNBOUNDED || word > 0 && word <= MOST_COUNT && word >= before,
+            (2, _) => word <= MOST_TIMES,
+            (3, bim::OCCURS) => word == UNBOUNDED || word > 0 && word <= MOST_TIMES && word >= before,
             _ => word == 0,
         }
     }
@@ -288,11 +288,11 @@ impl<'a> Fetch<'a> {
             if self.fixed(1)? == 0 {
                 return Ok(0);
             }
-            let count = if most == UNBOUNDED { self.upto(MOST_COUNT)? } else { self.below(most + 1)? };
+            let count = if most == UNBOUNDED { self.upto(MOST_TIMES)? } else { self.below(most + 1)? };
             return if count == 0 { Err(bim::NO_SUCH_CODE) } else { Ok(count) };
         }
         if most == UNBOUNDED {
-            return Ok(least + self.upto(MOST_COUNT - least)?);
+            return Ok(least + self.upto(MOST_TIMES - least)?);
         }
         Ok(least + self.below(most - least + 1)?)
     }
@@ -303,7 +303,7 @@ impl<'a> Fetch<'a> {
             bim::BOOLEAN => self.fixed(1)?,
             bim::RANGED => {
                 let (b, c) = (Rows::signed(b), Rows::signed(c));
-                if c - b <= bim::MOST_FIXED_SPAN.into() {
+                if c - b <= bim::MOST_FIXED.into() {
                     b + self.below(c - b + 1)?
                 } else {
                     b + self.upto(c - b)?
@@ -438,7 +438,7 @@ impl Agenda<'_> {
                 }
                 let mut fetch = Fetch::new(payload, wall, self.at);
                 let coded = match self.mode {
-                    bim::MODE_NONE => false,
+                    bim::MODE_NEVER => false,
                     bim::MODE_OPTIONAL => fetch.fixed(1)? == 1,
                     _ => true,
                 };
@@ -559,7 +559,7 @@ pub fn value_bits(kind: i64, b: i64, c: i64, word: u32) -> Option<Vec<bool>> {
         bim::BOOLEAN => among(2, word.into()),
         bim::RANGED => {
             let (b, c) = (Rows::signed(b), Rows::signed(c));
-            if c - b <= bim::MOST_FIXED_SPAN.into() {
+            if c - b <= bim::MOST_FIXED.into() {
                 return among(c - b + 1, signed - b);
             }
             (b..=c).contains(&signed).then(|| shortest((signed - b) as u64))
@@ -579,7 +579,7 @@ pub fn value_bits(kind: i64, b: i64, c: i64, word: u32) -> Option<Vec<bool>> {
 /// An occurs count's bits, where its row has the count.
 pub fn count_bits(least: i64, most: i64, count: u32) -> Option<Vec<bool>> {
     let count = i64::from(count);
-    if count < least || count > most || count > MOST_COUNT {
+    if count < least || count > most || count > MOST_TIMES {
         return None;
     }
     let mut bits = vec![];

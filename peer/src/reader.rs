@@ -29,9 +29,9 @@ pub fn read(
 /// The length coding mode of a mode byte: 0F, 4F or 8F.
 pub fn mode_of(byte: u8) -> Option<u32> {
     match byte {
-        bim::MODE_BYTE_NONE => Some(bim::MODE_NONE),
-        bim::MODE_BYTE_OPTIONAL => Some(bim::MODE_OPTIONAL),
-        bim::MODE_BYTE_ALWAYS => Some(bim::MODE_ALWAYS),
+        bim::MODE_NEVER_BYTE => Some(bim::MODE_NEVER),
+        bim::MODE_OPTIONAL_BYTE => Some(bim::MODE_OPTIONAL),
+        bim::MODE_ALWAYS_BYTE => Some(bim::MODE_ALWAYS),
         _ => None,
     }
 }
@@ -140,7 +140,7 @@ impl Reader<'_> {
         let refused = |number| refusal(number, self.at);
         let mut body = self.at;
         let has_length = match self.mode {
-            bim::MODE_NONE => false,
+            bim::MODE_NEVER => false,
             bim::MODE_OPTIONAL => {
                 let flag = fixed(self.payload, end, body, 1).map_err(refused)?;
                 body += 1;

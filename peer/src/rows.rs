@@ -88,7 +88,7 @@ impl Rows {
             all.types.push(match rng.below(8) {
                 0 => [1, bim::EMPTY, first, count, 0, 0, 0],
                 1 => simple(bim::RANGED, 5_u32.wrapping_neg(), rng.below(1 << 20) as u32),
-                2 => simple(bim::ENUMERATION, 1 + rng.below(bim::MOST_ENUMERATION as usize) as u32, 0),
+                2 => simple(bim::ENUMERATION, 1 + rng.below(bim::MOST_VALUES as usize) as u32, 0),
                 3 => simple(bim::TEXT, 0, 0),
                 4 => simple(bim::UNSIGNED, 0, 0),
                 _ => complex(first, count, rng.below(particles) as u32),

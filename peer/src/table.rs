@@ -143,7 +143,7 @@ impl<'a> Table<'a> {
                 demand(a <= bim::FLOAT, at + 4)?;
                 let (b_good, c_good) = match a {
                     bim::RANGED => (true, b as i32 <= c as i32),
-                    bim::ENUMERATION => ((1..=bim::MOST_ENUMERATION).contains(&b), c == 0),
+                    bim::ENUMERATION => ((1..=bim::MOST_VALUES).contains(&b), c == 0),
                     _ => (b == 0, c == 0),
                 };
                 demand(b_good, at + 5)?;
@@ -183,7 +183,7 @@ impl<'a> Table<'a> {
             }
             bim::OCCURS => {
                 demand(child_good, at + 1)?;
-                demand(q <= bim::MOST_COUNT, at + 2)?;
+                demand(q <= bim::MOST_TIMES, at + 2)?;
                 // Unbounded is over every least, so one comparison serves both kinds of most.
                 demand((1..=bim::UNBOUNDED).contains(&r) && q <= r, at + 3)
             }

@@ -262,7 +262,7 @@ fn codes_alone(rng: &mut Rng) -> Result<(), String> {
 
     let (least, most) = loop {
         let (least, most) = (gen::edge_word(rng), gen::edge_word(rng));
-        if least <= bim::MOST_COUNT && (1..=bim::UNBOUNDED).contains(&most) && least <= most {
+        if least <= bim::MOST_TIMES && (1..=bim::UNBOUNDED).contains(&most) && least <= most {
             break (least, most);
         }
     };
@@ -276,7 +276,7 @@ fn codes_alone(rng: &mut Rng) -> Result<(), String> {
             let (one, two) = (gen::edge_word(rng) as i32, gen::edge_word(rng) as i32);
             (one.min(two) as u32, one.max(two) as u32)
         }
-        bim::ENUMERATION => (rng.within(1, bim::MOST_ENUMERATION as usize) as u32, 0),
+        bim::ENUMERATION => (rng.within(1, bim::MOST_VALUES as usize) as u32, 0),
         _ => (0, 0),
     };
     let got = value::read(kind, b, c, &payload, end, at).map(|read| (read.word, read.text, read.bits));

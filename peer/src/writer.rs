@@ -136,7 +136,7 @@ impl Walk<'_> {
         let row = self.table.type_row(of_type);
         let start = self.take(bim::KIND_START, |event| {
             let flag_good = match self.mode {
-                bim::MODE_NONE => event.q == 0,
+                bim::MODE_NEVER => event.q == 0,
                 bim::MODE_OPTIONAL => event.q <= 1,
                 _ => event.q == 1,
             };

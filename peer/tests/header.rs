@@ -5,8 +5,10 @@ use std::collections::BTreeMap;
 /// The names and values of a text's lines: `before` stands before a name, `between` before its value.
 fn named<'a>(text: &'a str, before: &str, between: &str) -> BTreeMap<&'a str, u64> {
     let number = |text: &str| {
-        let digits: String = text.chars().filter(|&digit| digit != '_').take_while(char::is_ascii_digit).collect();
-        digits.parse().ok()
+        let (base, text) = text.strip_prefix("0x").map_or((10, text), |digits| (16, digits));
+        let digits: String =
+            text.chars().filter(|&digit| digit != '_').take_while(|digit| digit.is_digit(base)).collect();
+        u64::from_str_radix(&digits, base).ok()
     };
     let entry = |line: &'a str| {
         let (name, value) = line.trim_start().strip_prefix(before)?.split_once(between)?;
@@ -30,7 +32,8 @@ fn the_headers_names_are_the_peers() {
         theirs.extend(named(Box::leak(lines.into_boxed_str()), "BIM_", " = "));
     }
     assert_eq!(theirs.remove("STACK"), Some(196_608));
-    assert_eq!(theirs.len(), 25 + 7 + 3 + 7 + 5 + 7, "{theirs:?}");
+    // Refusals and 0, event kinds, modes and their bytes, contents, simple kinds, particles and the unbounded most; sizes and limits.
+    assert_eq!(theirs.len(), 25 + 7 + 6 + 3 + 7 + 5 + 18, "{theirs:?}");
     for (name, value) in theirs {
         assert_eq!(ours.get(name), Some(&value), "BIM_{name}");
     }

@@ -79,7 +79,7 @@ fn worked() -> Input {
 
 /// An empty root: Start and End, and no bit behind the mode byte.
 fn empty() -> Input {
-    let mut list = List::new(bim::MODE_NONE, |_| false);
+    let mut list = List::new(bim::MODE_NEVER, |_| false);
     list.start(10).end();
     let rows = Rows { types: vec![NOTHING], ..Rows::default() };
     Input::new("empty root", rows, (10, 0), list)
@@ -110,7 +110,7 @@ fn texts(name: &str, texts: u32, bytes: usize, accents: usize) -> Input {
     };
     let each = bytes / texts as usize;
     let list = |letters: &mut dyn FnMut(usize) -> String, last: usize| {
-        let mut list = List::new(bim::MODE_NONE, |_| false);
+        let mut list = List::new(bim::MODE_NEVER, |_| false);
         list.start(29);
         list.attribute(30, Some(1));
         list.times(texts);
@@ -135,7 +135,7 @@ fn texts(name: &str, texts: u32, bytes: usize, accents: usize) -> Input {
 /// So many numbers, each an element of its own: three events each, and five around them.
 fn numbers(name: &str, elements: u32) -> Input {
     let mut rng = Rng::new(4);
-    let mut list = List::new(bim::MODE_NONE, |_| false);
+    let mut list = List::new(bim::MODE_NEVER, |_| false);
     list.start(29);
     list.attribute(30, Some(1));
     list.times(elements);

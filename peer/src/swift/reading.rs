@@ -140,7 +140,7 @@ impl Reader<'_> {
         let mut coded = self.mode == bim::MODE_ALWAYS;
         let mut body = first;
         let mut wall = end;
-        if self.mode > bim::MODE_NONE {
+        if self.mode > bim::MODE_NEVER {
             let mut bits = window(self.payload, first);
             if self.mode == bim::MODE_OPTIONAL {
                 if first == end {
@@ -217,8 +217,7 @@ impl Reader<'_> {
             bim::BOOLEAN => choice(1, bits, room),
             bim::RANGED => {
                 let span = c.wrapping_sub(b);
-                let above =
-                    if span <= bim::MOST_FIXED_SPAN { choice(span, bits, room) } else { up_to(span, bits, room) };
+                let above = if span <= bim::MOST_FIXED { choice(span, bits, room) } else { up_to(span, bits, room) };
                 above.map(|(above, size)| (b.wrapping_add(above), size))
             }
             bim::UNSIGNED => five(bits, room),
@@ -359,7 +358,7 @@ fn times(least: u32, most: u32, bits: u64, room: usize) -> Result<(u32, usize), 
     }
     let (bits, room) = (bits << shunt, room - shunt);
     let (above, size) = if most == bim::UNBOUNDED {
-        up_to(bim::MOST_COUNT - least, bits, room)?
+        up_to(bim::MOST_TIMES - least, bits, room)?
     } else {
         choice(most - least, bits, room)?
     };

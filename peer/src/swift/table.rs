@@ -70,7 +70,7 @@ impl<'a> Table<'a> {
                 bim::PARTICLES => ((a as usize) < self.particles.len()) & (b | c == 0),
                 bim::SIMPLE => match a {
                     bim::RANGED => b as i32 <= c as i32,
-                    bim::ENUMERATION => (b.wrapping_sub(1) < bim::MOST_ENUMERATION) & (c == 0),
+                    bim::ENUMERATION => (b.wrapping_sub(1) < bim::MOST_VALUES) & (c == 0),
                     _ => (a <= bim::FLOAT) & (b | c == 0),
                 },
                 _ => false,
@@ -100,7 +100,7 @@ impl<'a> Table<'a> {
             bim::SEQUENCE | bim::CHOICE => {
                 child & (q >= kind) & (q <= bim::MOST_CHILDREN) & (q <= particles.wrapping_sub(p)) & (r == 0)
             }
-            bim::OCCURS => child & (q <= bim::MOST_COUNT) & (r.wrapping_sub(1) < bim::UNBOUNDED) & (q <= r),
+            bim::OCCURS => child & (q <= bim::MOST_TIMES) & (r.wrapping_sub(1) < bim::UNBOUNDED) & (q <= r),
             _ => false,
         }
     }
@@ -111,8 +111,9 @@ impl<'a> Table<'a> {
 #[inline(never)]
 fn first_fault(bytes: &[u8]) -> usize {
     let whole = bytes.len() / 4;
-    let seen = if bytes.len().is_multiple_of(4) && whole <= bim::MOST_WORDS { whole } else { whole.min(bim::HEADER) };
-    let mut words = [0; bim::MOST_WORDS];
+    let seen =
+        if bytes.len().is_multiple_of(4) && whole <= bim::MOST_TABLE_WORDS { whole } else { whole.min(bim::HEADER) };
+    let mut words = [0; bim::MOST_TABLE_WORDS];
     for (word, bytes) in words[..seen].iter_mut().zip(bytes.as_chunks::<4>().0) {
         *word = u32::from_be_bytes(*bytes);
     }

@@ -114,7 +114,7 @@ impl Call<'_> {
         put_out(
             &pieces[..filled],
             texts,
-            [bim::MODE_BYTE_NONE, bim::MODE_BYTE_OPTIONAL, bim::MODE_BYTE_ALWAYS][mode as usize],
+            [bim::MODE_NEVER_BYTE, bim::MODE_OPTIONAL_BYTE, bim::MODE_ALWAYS_BYTE][mode as usize],
             &mut payload[..bytes],
         );
         Ok(bits)
@@ -217,7 +217,7 @@ impl Walk<'_> {
         let left = self.enter(left)?;
         let (p, sized) = self.take(bim::KIND_START)?;
         let flag_right = match self.mode {
-            bim::MODE_NONE => sized == 0,
+            bim::MODE_NEVER => sized == 0,
             bim::MODE_OPTIONAL => sized <= 1,
             _ => sized == 1,
         };
@@ -231,7 +231,7 @@ impl Walk<'_> {
         self.next += 1;
         // A head's place; its code is known at the end.
         let head = self.filled;
-        self.filled += usize::from(self.mode > bim::MODE_NONE);
+        self.filled += usize::from(self.mode > bim::MODE_NEVER);
         let before = self.bits;
         let attributes = word(row, 3);
         if attributes > 0 {
@@ -243,7 +243,7 @@ impl Walk<'_> {
             _ => self.particle(word(row, 4), left)?,
         }
         self.plain(bim::KIND_END, (0, 0))?;
-        if self.mode > bim::MODE_NONE {
+        if self.mode > bim::MODE_NEVER {
             let (mut bits, mut size) = (0, 0);
             if sized == 1 {
                 (bits, size) = code5((self.bits - before) as u32);
@@ -298,7 +298,7 @@ impl Walk<'_> {
                 let (span, above) = (c.wrapping_sub(b), p.wrapping_sub(b));
                 if above > span {
                     None
-                } else if span <= bim::MOST_FIXED_SPAN {
+                } else if span <= bim::MOST_FIXED {
                     Some((u64::from(above), width(span)))
                 } else {
                     Some(code5(above))
@@ -383,7 +383,7 @@ fn choice(most: u32, value: u32) -> Option<Code> {
 /// The count of an occurs row.
 #[inline(always)]
 fn times(least: u32, most: u32, count: u32) -> Option<Code> {
-    if count < least || count > most.min(bim::MOST_COUNT) {
+    if count < least || count > most.min(bim::MOST_TIMES) {
         return None;
     }
     let above = count - least;

@@ -224,7 +224,7 @@ fn within(rng: &mut Rng, span: u32) -> u32 {
 fn range_code(rng: &mut Rng, b: i32, c: i32) -> Vec<bool> {
     let span = (i64::from(c) - i64::from(b)).max(0) as u32;
     let above = within(rng, span);
-    if span > bim::MOST_FIXED_SPAN {
+    if span > bim::MOST_FIXED {
         return five(rng, above);
     }
     let width = codes::width(u64::from(span) + 1) as usize;
@@ -261,7 +261,7 @@ pub fn occurs_row(rng: &mut Rng) -> (u32, u32) {
         1..=15 => rng.pick(&ROWS),
         _ => {
             let most = if rng.one_in(3) { rng.within(1, bim::UNBOUNDED as usize) } else { rng.within(1, 40) };
-            (rng.below(most.min(bim::MOST_COUNT as usize) + 1) as u32, most as u32)
+            (rng.below(most.min(bim::MOST_TIMES as usize) + 1) as u32, most as u32)
         }
     }
 }
@@ -269,13 +269,13 @@ pub fn occurs_row(rng: &mut Rng) -> (u32, u32) {
 /// Whether a right table can have the row (document 01, particle rows). One more is left out: least 0 and most 0 is no
 /// row, and both sides read it as one choice without bits.
 pub fn is_row(least: u32, most: u32) -> bool {
-    least <= bim::MOST_COUNT && least <= most && most <= bim::UNBOUNDED
+    least <= bim::MOST_TIMES && least <= most && most <= bim::UNBOUNDED
 }
 
 fn counts(rng: &mut Rng, tally: &mut Tally) {
     let (least, most) = occurs_row(rng);
     // Both sides would count on from a least that no row can have: 65,536 to unbounded.
-    if least > bim::MOST_COUNT && least <= most && most == bim::UNBOUNDED {
+    if least > bim::MOST_TIMES && least <= most && most == bim::UNBOUNDED {
         return;
     }
     let span = most.wrapping_sub(least);

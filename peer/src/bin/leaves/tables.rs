@@ -17,9 +17,9 @@ pub fn named(tally: &mut Tally) {
         }
     }
     let largest = cases::largest_table();
-    assert_eq!(largest.len(), bim::MOST_WORDS);
+    assert_eq!(largest.len(), bim::MOST_TABLE_WORDS);
     ask(tally, largest);
-    ask(tally, &largest[..bim::MOST_WORDS - 1]);
+    ask(tally, &largest[..bim::MOST_TABLE_WORDS - 1]);
     ask(tally, &[largest, &[0]].concat());
     ask(tally, &[largest, &[7; 1000]].concat());
     let worked = &cases::worked().table;

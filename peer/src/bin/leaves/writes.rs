@@ -45,10 +45,10 @@ fn ranges(rng: &mut Rng, tally: &mut Tally) {
 fn counts(rng: &mut Rng, tally: &mut Tally) {
     let (least, most) = occurs_row(rng);
     // See reads: 65,536 to unbounded is no row.
-    if least > bim::MOST_COUNT && least <= most && most == bim::UNBOUNDED {
+    if least > bim::MOST_TIMES && least <= most && most == bim::UNBOUNDED {
         return;
     }
-    let count = near(rng, least, most.min(bim::MOST_COUNT));
+    let count = near(rng, least, most.min(bim::MOST_TIMES));
     let code = if is_row(least, most) { codes::write_occurs(least, most, count) } else { None };
     size(tally, "size_times", &[least, most, count], code, proved::size_times(least, most, count));
     ask(rng, tally, "put_times", &[least, most, count], code, count, |buf, at| {

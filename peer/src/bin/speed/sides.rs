@@ -38,7 +38,7 @@ impl Buffers {
         Buffers {
             inputs: case.inputs.clone(),
             outputs,
-            words: vec![0; bim::MOST_WORDS + bim::EVENT_WORDS * bim::MOST_EVENTS],
+            words: vec![0; bim::MOST_TABLE_WORDS + bim::EVENT_WORDS * bim::MOST_EVENTS],
         }
     }
 
@@ -80,7 +80,7 @@ pub fn check(case: &Case) {
 #[inline(never)]
 fn plain_pass(table: &[u8], list: Option<&[u8]>, words: &mut [u32], outputs: &mut [Vec<u8>]) -> u32 {
     outputs.iter_mut().for_each(|output| output.fill(0));
-    let (table_words, list_words) = words.split_at_mut(bim::MOST_WORDS);
+    let (table_words, list_words) = words.split_at_mut(bim::MOST_TABLE_WORDS);
     let table_words = &mut table_words[..table.len() / 4];
     convert(table, table_words);
     if let Some(list) = list {
