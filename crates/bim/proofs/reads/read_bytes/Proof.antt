@@ -6,11 +6,11 @@ use Rattle.bim.proofs.reads.read_bytes.Tie as tie
 words-lent-requires : tie.Need-words-lent-requires
 words-lent-requires c κs = search needs
 
-slice-aggregate-read-in : tie.Need-slice-aggregate-read-in
-slice-aggregate-read-in c = search needs
+slice-aggregate-read-with-table-room : tie.Need-slice-aggregate-read-with-table-room
+slice-aggregate-read-with-table-room c = search needs
 
-read-in-requires : tie.Need-read-in-requires
-read-in-requires c κs = search needs
+read-with-table-room-requires : tie.Need-read-with-table-room-requires
+read-with-table-room-requires c κs = search needs
 
 same-length : tie.Need-same-length
 same-length c = search needs
@@ -19,13 +19,13 @@ same-length-2 : tie.Need-same-length-2
 same-length-2 c = search needs
 
 returns : tie.Need-returns
-returns c = c .before .before .before .before .before .read-in .ensures
+returns c = c .before .before .before .before .before .read-with-table-room .ensures
 
-slice-aggregate-read-in-2 : tie.Need-slice-aggregate-read-in-2
-slice-aggregate-read-in-2 c = search needs
+slice-aggregate-read-with-table-room-2 : tie.Need-slice-aggregate-read-with-table-room-2
+slice-aggregate-read-with-table-room-2 c = search needs
 
-read-in-requires-2 : tie.Need-read-in-requires-2
-read-in-requires-2 c κs = search needs
+read-with-table-room-requires-2 : tie.Need-read-with-table-room-requires-2
+read-with-table-room-requires-2 c κs = search needs
 
 same-length-3 : tie.Need-same-length-3
 same-length-3 c = search needs
@@ -34,13 +34,13 @@ same-length-4 : tie.Need-same-length-4
 same-length-4 c = search needs
 
 returns-2 : tie.Need-returns-2
-returns-2 c = c .before .before .before .before .before .read-in2 .ensures
+returns-2 c = c .before .before .before .before .before .read-with-table-room2 .ensures
 
-slice-aggregate-read-in-3 : tie.Need-slice-aggregate-read-in-3
-slice-aggregate-read-in-3 c = search needs
+slice-aggregate-read-with-table-room-3 : tie.Need-slice-aggregate-read-with-table-room-3
+slice-aggregate-read-with-table-room-3 c = search needs
 
-read-in-requires-3 : tie.Need-read-in-requires-3
-read-in-requires-3 c κs = search needs
+read-with-table-room-requires-3 : tie.Need-read-with-table-room-requires-3
+read-with-table-room-requires-3 c κs = search needs
 
 same-length-5 : tie.Need-same-length-5
 same-length-5 c = search needs
@@ -49,25 +49,25 @@ same-length-6 : tie.Need-same-length-6
 same-length-6 c = search needs
 
 returns-3 : tie.Need-returns-3
-returns-3 c = c .before .before .before .before .before .read-in3 .ensures
+returns-3 c = c .before .before .before .before .before .read-with-table-room3 .ensures
 
 pub read-bytes-spec : {M : Type 1} → statement M
 read-bytes-spec =
     tie.close
     (tie.spec
     words-lent-requires
-    slice-aggregate-read-in
-    read-in-requires
+    slice-aggregate-read-with-table-room
+    read-with-table-room-requires
     same-length
     same-length-2
     returns
-    slice-aggregate-read-in-2
-    read-in-requires-2
+    slice-aggregate-read-with-table-room-2
+    read-with-table-room-requires-2
     same-length-3
     same-length-4
     returns-2
-    slice-aggregate-read-in-3
-    read-in-requires-3
+    slice-aggregate-read-with-table-room-3
+    read-with-table-room-requires-3
     same-length-5
     same-length-6
     returns-3)
