@@ -1,6 +1,6 @@
 -- A table's bytes judged by the words that are lent of it.
 use Prim.Native.Nat.{ℕ, _/_, _%_, _≤_, _<_, min}
-use mathlib.Core.Path.{_≡_, sym, ap, subst, _∙_}
+use mathlib.Core.Path.{_≡_, sym, ap, _∙_}
 use mathlib.Core.List.{List, _++_}
 use native.Mathlib.Omega.{arith}
 use borrow.Author.Tests.{eq-eqb, ne-eqb, le-leb, lt-leb}
@@ -12,10 +12,9 @@ use Rattle.table.specs.Views.{verdictIs}
 use Rattle.table.specs.declared.answers.Verdict as code
 use Rattle.table.specs.declared.answers.Verdict.the-variants.{Right, Wrong}
 use Rattle.buffers.specs.Bytes.{wordsOf}
-use Rattle.buffers.proofs.BytesLaws.{loaded-front}
 use Rattle.bim.specs.Calls.{tableVerdict}
-use Rattle.bim.specs.TableRoom.{wordsLent, placeInTable, Lends}
-use Rattle.bim.proofs.TableLaws.{moved, Told, told, verdict-lent}
+use Rattle.bim.specs.TableRoom.{placeInTable, Lends}
+use Rattle.bim.proofs.TableLaws.{moved, seen, verdict-lent}
 
 -- how many words are lent
 abbrev Lent : ℕ → ℕ → Type 0
@@ -48,9 +47,13 @@ in-table-kept seen given place e = sym (rw (ne-eqb place seen e))
 pub ruleset in-table-ways = (in-table-moved, in-table-kept)
 
 -- the check
-module _ (t room words : List ℕ) (k : ℕ) (n : k ≡ wordsLent (length t)) (b : k ≤ length t / 4) (l : words ≡ take k (wordsOf t) ++ drop k room) (v : code.Verdict) (e : verdictIs v ≡ verdict (take k words)) where
+module _ (t room words : List ℕ) (k : ℕ) (h : Lends k (length t) (length room)) (l : words ≡ take k (wordsOf t) ++ drop k room)
+    (v : code.Verdict) (e : verdictIs v ≡ verdict (take k words)) where
   judged-is : tableVerdict t ≡ moved k (length t / 4) (verdictIs v)
-  judged-is = verdict-lent t k (subst (Told t) (sym n) (told t)) ∙ ap (λ (x : List ℕ). moved k (length t / 4) (verdict x)) (sym (loaded-front t room words k l b)) ∙ ap (moved k (length t / 4)) (sym e)
+  judged-is =
+      let s = seen t room words k h l in
+      verdict-lent t k (s .tells) ∙ ap (λ (x : List ℕ). moved k (length t / 4) (verdict x)) (sym (s .front))
+      ∙ ap (moved k (length t / 4)) (sym e)
 
   pub judged-right : v ≡ Right → verdictIs Right ≡ tableVerdict t
   judged-right r = sym (judged-is ∙ ap (λ (x : code.Verdict). moved k (length t / 4) (verdictIs x)) r)

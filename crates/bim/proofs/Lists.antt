@@ -16,8 +16,8 @@ use Rattle.writer.specs.declared.Answer.{Answer}
 use Rattle.bim.specs.Area.{areaOf}
 use Rattle.bim.specs.Calls.{back, zeros, unlisted, writeList, writeBytes, writeCall}
 use Rattle.bim.proofs.CallLaws.{unlent, lent-whole}
-use Rattle.bim.specs.TableRoom.{wordsLent, placeInTable}
-use Rattle.bim.proofs.TableLaws.{Told, told}
+use Rattle.bim.specs.TableRoom.{placeInTable}
+use Rattle.bim.proofs.TableLaws.{Seen}
 use Rattle.bim.specs.EventRoom.{outcomeInTable}
 use Rattle.bim.proofs.WriteLaws.{too-many, no-list, whole-list, one-word, Unlisted, early, late, unlisted-is, write-lent}
 
@@ -79,12 +79,12 @@ module _ (l : List ℕ) (name type mode : ℕ) (e x : List ℕ) (room T : ℕ) (
       (subst (λ (y : List ℕ). Writes (writing l name type mode y x room) mode (length (take k words) / 4) T room a P) all h))
 
 -- a table's bytes
-pub bytes-written : (t : List ℕ) (name type mode : ℕ) (e x : List ℕ) (room k E T : ℕ) (words : List ℕ) (a : Answer) (P : List ℕ) (p : ℕ) → k ≡ wordsLent (length t) → take k words ≡ take k (wordsOf t)
+pub bytes-written : (t : List ℕ) (name type mode : ℕ) (e x : List ℕ) (room k E T : ℕ) (words : List ℕ) (a : Answer) (P : List ℕ) (p : ℕ) → Seen t words k
     → Writes (writeList (take k words) name type mode e x room) mode E T room a P → p ≡ placeInTable k (length t / 4) (a .place)
     → Writes (writeBytes t name type mode e x room) mode E T room (moveTo p a) P
-bytes-written t name type mode e x room k E T words a P p n l h q =
-    let c = write-lent t name type mode e x room k E T (subst (Told t) (sym n) (told t)) in
-    let h′ : Writes (writeList (take k (wordsOf t)) name type mode e x room) mode E T room a P = subst (λ (y : List ℕ). Writes (writeList y name type mode e x room) mode E T room a P) l h in
+bytes-written t name type mode e x room k E T words a P p v h q =
+    let c = write-lent t name type mode e x room k E T (v .tells) in
+    let h′ : Writes (writeList (take k (wordsOf t)) name type mode e x room) mode E T room a P = subst (λ (y : List ℕ). Writes (writeList y name type mode e x room) mode E T room a P) (v .front) h in
     record {
       answer = ap (λ (j : ℕ). answerIs (moveTo j a)) q ∙ ap (outcomeInTable k (length t / 4)) (h′ .answer) ∙ sym (c .answer);
       left = h′ .left ∙ sym (c .payload);

@@ -18,8 +18,8 @@ use Rattle.bim.proofs.AreaLaws.{first-length}
 use Rattle.bim.specs.Calls.{back, zeros, readBytes, readCall, eventsBack}
 use Rattle.bim.proofs.CallLaws.{unlent, lent-whole}
 use Rattle.bim.proofs.Paths.{path-most}
-use Rattle.bim.specs.TableRoom.{wordsLent, placeInTable}
-use Rattle.bim.proofs.TableLaws.{Told, told}
+use Rattle.bim.specs.TableRoom.{placeInTable}
+use Rattle.bim.proofs.TableLaws.{Seen}
 use Rattle.bim.specs.EventRoom.{slotWords, outcomeInTable, ReadBack}
 use Rattle.bim.proofs.ReadLaws.{read-lent, events-fit, events-stored}
 use Rattle.bim.proofs.RoomLaws.{more-room}
@@ -64,12 +64,12 @@ abbrev pub moveTo : ℕ → Answer → Answer
 moveTo p a = record { number = a .number; place = p; mode = a .mode; events = a .events; text = a .text; bits = a .bits; path = a .path }
 
 -- the words of the table, and the place in it
-pub bytes-read : (t : List ℕ) (name type : ℕ) (s : List ℕ) (e x k : ℕ) (words : List ℕ) (a : Answer) (E X : List ℕ) (p : ℕ) → k ≡ wordsLent (length t) → take k words ≡ take k (wordsOf t)
+pub bytes-read : (t : List ℕ) (name type : ℕ) (s : List ℕ) (e x k : ℕ) (words : List ℕ) (a : Answer) (E X : List ℕ) (p : ℕ) → Seen t words k
     → ReadBack (reading (take k words) name type s (slotWords e) x) e x (answerIs a) E X → p ≡ placeInTable k (length t / 4) (a .place)
     → ReadBack (readBytes t name type s e x) e x (answerIs (moveTo p a)) E X
-bytes-read t name type s e x k words a E X p n l b q =
-    let c = read-lent t name type s e x k (subst (Told t) (sym n) (told t)) in
-    let b′ : ReadBack (reading (take k (wordsOf t)) name type s (slotWords e) x) e x (answerIs a) E X = read-as (ap (λ (y : List ℕ). reading y name type s (slotWords e) x) (sym l)) b in
+bytes-read t name type s e x k words a E X p v b q =
+    let c = read-lent t name type s e x k (v .tells) in
+    let b′ : ReadBack (reading (take k (wordsOf t)) name type s (slotWords e) x) e x (answerIs a) E X = read-as (ap (λ (y : List ℕ). reading y name type s (slotWords e) x) (sym (v .front))) b in
     record {
       answer = ap (λ (j : ℕ). answerIs (moveTo j a)) q ∙ ap (outcomeInTable k (length t / 4)) (b′ .answer) ∙ sym (c .answer);
       events = b′ .events ∙ sym (c .events);

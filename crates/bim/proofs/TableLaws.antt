@@ -1,12 +1,12 @@
 -- A table whose length is wrong, judged by its first four words: what the calls lend of it to the word functions.
 use Prim.Native.Nat.{ℕ, zero, suc, _/_, _%_, _≤_, _<_, min}
-use mathlib.Core.Path.{_≡_, refl, sym, ap, _∙_}
-use mathlib.Core.List.{List, [], _∷_}
+use mathlib.Core.Path.{_≡_, refl, sym, ap, subst, _∙_}
+use mathlib.Core.List.{List, [], _∷_, _++_}
 use mathlib.Core.Bool.{Bool, true, false, cond, _&&_, true≢false}
 use native.Mathlib.Omega.{arith}
 use borrow.Author.Tests.{leb-true, leb-false, ne-eqb, eq-eqb, lt-ltb, le-ltb, eqb-true}
 use lib.Dec.{eqb, leb}
-use lib.ListN.{length, take, getD, length-take, List·getD-eq-default}
+use lib.ListN.{length, take, drop, getD, length-take, List·getD-eq-default}
 use lib.Seq.{take-all}
 use Rattle.numbers.specs.Limit.{mostTypes, mostAttributes, mostParticles, mostTableWords}
 use Rattle.signed.proofs.Laws.{ordered}
@@ -16,9 +16,9 @@ use Rattle.table.specs.First.Verdict.{right, wrong}
 use Rattle.table.proofs.FirstLaws.{then-right, then-wrong, right-every, wrong-fails}
 use Rattle.table.specs.Valid.{given, headerWords, verdict, verdictFrom}
 use Rattle.buffers.specs.Bytes.{wordsOf}
-use Rattle.buffers.proofs.BytesLaws.{words-length}
+use Rattle.buffers.proofs.BytesLaws.{words-length, loaded-front}
 use Rattle.bim.specs.Calls.{tableVerdict}
-use Rattle.bim.specs.TableRoom.{placeInTable, wordsLent}
+use Rattle.bim.specs.TableRoom.{placeInTable, wordsLent, Lends}
 
 -- the words of the header are those of the first four words
 header-front : (l : List ℕ) → headerWords (take 4 l) ≡ headerWords l
@@ -153,6 +153,16 @@ module _ (t : List ℕ) where
           let n = words-length t in
           rw (e, f) (in-part 4 (rw e (too-long l (omega arith) ∙ ap (headed l) n)) refl (omega (arith, length-take 4 l)))
       go false y e f = rw e (in-part (min m 4) (rw e) (of-four m refl) (omega (arith, length-take 4 l, words-length t)))
+
+-- the words of a table in the room that each call lends: what they are, and what they tell of it
+pub record Seen (t words : List ℕ) (k : ℕ) : Type 0 where
+  pub front : take k words ≡ take k (wordsOf t)
+  pub tells : Told t k
+
+pub seen : (t room words : List ℕ) (k : ℕ) → Lends k (length t) (length room)
+    → words ≡ take k (wordsOf t) ++ drop k room → Seen t words k
+seen t room words k h l =
+    record { front = loaded-front t room words k l (h .given); tells = subst (Told t) (sym (h .words)) (told t) }
 
 -- the verdict over the words lent, its place moved
 abbrev pub moved : (seen given : ℕ) → Verdict → Verdict

@@ -2,7 +2,7 @@
 use native.Mathlib.Omega.{arith}
 use lib.ListN.{length-take}
 use Rattle.bim.proofs.Replies.{bytes-read}
-use Rattle.buffers.proofs.BytesLaws.{loaded-front}
+use Rattle.bim.proofs.TableLaws.{seen}
 use borrow.Author.Needs.{needs}
 use Rattle.bim.proofs.reads.read_with_table_room.Statement.{statement}
 use Rattle.bim.proofs.reads.read_with_table_room.Tie as tie
@@ -36,7 +36,8 @@ returns c =
     let b = c .before .before .before .before .before in
     let d = b .before .before .before .before .before .before in
     let entry = d .before .before .before .before .before .before .before in
-    bytes-read _ _ _ _ _ _ _ _ (b .read-with-event-room .result) _ _ _ (entry .pre .words) (loaded-front _ _ _ _ (d .load .ensures) (entry .pre .given)) (b .read-with-event-room .ensures) (c .place-in-table .ensures)
+    bytes-read _ _ _ _ _ _ _ _ (b .read-with-event-room .result) _ _ _ (seen _ _ _ _ (entry .pre) (d .load .ensures))
+    (b .read-with-event-room .ensures) (c .place-in-table .ensures)
 
 pub read-with-table-room-spec : {M : Type 1} → statement M
 read-with-table-room-spec =

@@ -2,7 +2,7 @@
 use native.Mathlib.Omega.{arith}
 use lib.ListN.{length-take}
 use Rattle.bim.proofs.Lists.{bytes-written}
-use Rattle.buffers.proofs.BytesLaws.{loaded-front}
+use Rattle.bim.proofs.TableLaws.{seen}
 use borrow.Author.Needs.{needs}
 use Rattle.bim.proofs.writes.write_with_table_room.Statement.{statement}
 use Rattle.bim.proofs.writes.write_with_table_room.Tie as tie
@@ -33,7 +33,8 @@ returns c =
     let d = c .before .before .before in
     let e = d .before .before .before .before .before in
     let entry = e .before .before .before .before .before .before .before in
-    bytes-written _ _ _ _ _ _ _ _ _ _ _ (d .write-with-event-room .result) _ _ (entry .pre .words) (loaded-front _ _ _ _ (e .load .ensures) (entry .pre .given)) (d .write-with-event-room .ensures) (c .place-in-table .ensures)
+    bytes-written _ _ _ _ _ _ _ _ _ _ _ (d .write-with-event-room .result) _ _ (seen _ _ _ _ (entry .pre) (e .load .ensures))
+    (d .write-with-event-room .ensures) (c .place-in-table .ensures)
 
 pub write-with-table-room-spec : {M : Type 1} → statement M
 write-with-table-room-spec =
