@@ -13,7 +13,9 @@ use Rattle.table.specs.First.Verdict.{right, wrong}
 use Rattle.table.specs.Valid.{headerWords, verdict}
 use Rattle.table.specs.Rows.{tableOf}
 use Rattle.model.specs.Model.{events}
-use Rattle.model.specs.Whole.{Reply, Outcome, Made, declines, filled, eventWords, outcome, reading, afterVerdict, textsLeft, writing, verdictMade, orUnmade, asked, modeAsked, outcomeMade, payloadLeft}
+use Rattle.model.specs.Whole.{Outcome, declines, filled, asked}
+use Rattle.model.specs.Whole.{Reply, outcome, reading, afterVerdict, eventWords, textsLeft}
+use Rattle.model.specs.Whole.{Made, outcomeMade, writing, verdictMade, orUnmade, modeAsked, payloadLeft}
 use Rattle.model.specs.Whole.Reply.{accepted, declined}
 use Rattle.model.specs.Whole.Made.{unmade}
 use Rattle.buffers.specs.Bytes.{wordsOf, bytesOf}

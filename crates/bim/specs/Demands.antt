@@ -1,8 +1,8 @@
 -- THE THREE DEMANDS OF THE CALLS THAT A HOST MAKES, over bytes: tables, payloads, events, texts and areas. The calls'
 -- contracts (src/lib.rt, src/bits.rt) are equations with `checkTable`, `readCall`, `writeCall`, `bitsCall` (Calls,
 -- Bits), so that what is said of these is said of the calls. proofs/Demands.antt has the theorems `demand1`,
--- `demand2`, `demand3`. An area of another size than areaBytes (bitsArea of the bit reader's calls) is demand 1's: nothing
--- is accepted with it.
+-- `demand2`, `demand3`. An area of another size than areaBytes (bitsArea of the bit reader's calls) is demand 1's:
+-- nothing is accepted with it.
 use Prim.Native.Nat.{ℕ, _+_, _*_, _/_, _%_, _≤_, _<_, min}
 use mathlib.Core.Path.{_≡_}
 use mathlib.Core.Logic.{_↔_}
@@ -52,8 +52,8 @@ shown e x mode tree used =
 abbrev pub wrote : (room mode n text used : ℕ) → (payload : List ℕ) → Back
 wrote room mode n text used payload = back 0 (areaOf (told 0 mode n text used [])) (filled room payload ∷ [])
 
--- DEMAND 1. Every call is answered: with 0; or with areaSize where the area has another size, which is then zero throughout;
--- or with a refusal whose place and path stand in the area. Only 0 leaves something in an output buffer.
+-- DEMAND 1. Every call is answered: with 0; or with areaSize where the area has another size, which is then zero
+-- throughout; or with a refusal whose place and path stand in the area. Only 0 leaves something in an output buffer.
 pub data Answered (area : ℕ) (sizes : List ℕ) (o : Back) : Type 0 where
   accepted : area ≡ areaBytes → o .number ≡ 0 → Answered area sizes o
   no-area : (area ≡ areaBytes → ⊥) → o ≡ back areaSize (zeros area) (map zeros sizes) → Answered area sizes o
@@ -125,7 +125,9 @@ pub record Reads (t : List ℕ) (name type : ℕ) (s : List ℕ) (e x : ℕ) : T
   pub shows : readCall t name type s e x areaBytes ≡ shown e x mode tree used
   -- content models and occurrence bounds; Blanks of types that are not held, elements of types that are; true bit
   -- counts
-  pub follows : Model (tableOf (wordsOf t)) mode (heldOf (wordsOf t)) mostOpen (row (Row.element name type)) (map bare (events tree)) (texts tree)
+  pub follows :
+      Model (tableOf (wordsOf t)) mode (heldOf (wordsOf t)) mostOpen (row (Row.element name type))
+      (map bare (events tree)) (texts tree)
   pub blanks : Exact (heldOf (wordsOf t)) tree
   pub counts : 8 + total (events tree) ≡ used
 
@@ -151,7 +153,8 @@ NoBlankIn E n = (i : ℕ) → i < n → wordFrom E (event * i) ≡ kinds.blank �
 
 pub record Demand2 : Type 0 where
   -- what is accepted is the reading, and every reading is accepted
-  pub accepts-only : (t : List ℕ) (name type : ℕ) (s : List ℕ) (e x : ℕ) → readCall t name type s e x areaBytes .number ≡ 0
+  pub accepts-only : (t : List ℕ) (name type : ℕ) (s : List ℕ) (e x : ℕ)
+      → readCall t name type s e x areaBytes .number ≡ 0
       → Reads t name type s e x
   pub accepts-all : (t : List ℕ) (name type : ℕ) (s : List ℕ) (e x : ℕ) (mode : Mode) (tree : Nodes) (used : ℕ)
       → Reading t name type s e x mode tree used → readCall t name type s e x areaBytes ≡ shown e x mode tree used
@@ -171,7 +174,8 @@ pub record Demand2 : Type 0 where
   pub writes-back : (t : List ℕ) (name type : ℕ) (s A E T : List ℕ) (e x room : ℕ)
       → back 0 A (E ∷ T ∷ []) ≡ readCall t name type s e x areaBytes → Octets s
       → NoBlankIn E (wordFrom A eventsAt) → length s ≤ room
-      → writeCall t name type (wordFrom A modeAt) (take (event * wordFrom A eventsAt) E) (take (wordFrom A textAt) T) room areaBytes
+      → writeCall t name type (wordFrom A modeAt) (take (event * wordFrom A eventsAt) E) (take (wordFrom A textAt) T)
+      room areaBytes
       ≡ wrote room (wordFrom A modeAt) (wordFrom A eventsAt) (wordFrom A textAt) (wordFrom A bitsAt) s
 
 -- DEMAND 3. Two tables that `bim_check_table` accepts, alike but for held marks, the second holding all that the
