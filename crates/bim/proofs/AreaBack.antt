@@ -5,10 +5,11 @@ use mathlib.Core.List.{List, [], _∷_, _++_}
 use native.Mathlib.Omega.{arith}
 use lib.ListN.{length, getD}
 use lib.Seq.{getD-append-add, ext-getD}
+use Rattle.numbers.specs.Limit.{mostNames}
 use Rattle.model.specs.Whole.{Outcome, filled}
 use Rattle.buffers.specs.Bytes.{spelled, wordFrom, halfFrom, bytesOf, namesOf}
-use Rattle.bim.specs.Area.{areaOf, areaWords, capped}
-use Rattle.bim.specs.Demands.{Fetches, cappedAt}
+use Rattle.bim.specs.Area.{areaOf, areaWords, placeWord, modeAt, eventsAt, textAt, bitsAt, countAt, namesAt}
+use Rattle.bim.specs.Demands.{Fetches, withPlaceWord}
 use Rattle.bim.proofs.Names.{filled-at}
 
 -- a number that stands past the first bytes
@@ -43,20 +44,20 @@ area-fetches o = record {
   bits = omega arith;
   names = omega arith;
   name = λ i.
-      half-past (bytesOf (areaWords o)) (namesOf (filled 64 (o .path))) (2 * i)
-      ∙ name-at (filled 64 (o .path)) i ∙ sym (filled-at 64 (o .path) i);
+      half-past (bytesOf (areaWords o)) (namesOf (filled mostNames (o .path))) (2 * i)
+      ∙ name-at (filled mostNames (o .path)) i ∙ sym (filled-at mostNames (o .path) i);
 }
 
-pub area-one : (o o′ : Outcome) → o .number ≡ o′ .number → areaOf o ≡ areaOf o′ → cappedAt o ≡ cappedAt o′
+pub area-one : (o o′ : Outcome) → o .number ≡ o′ .number → areaOf o ≡ areaOf o′ → withPlaceWord o ≡ withPlaceWord o′
 area-one o o′ n e =
     let f = area-fetches o in
     let g = area-fetches o′ in
     let word : (i : ℕ) → wordFrom (areaOf o) i ≡ wordFrom (areaOf o′) i = λ i. ap (λ (A : List ℕ). wordFrom A i) e in
     let place = sym (f .place) ∙ word 0 ∙ g .place in
-    let mode = sym (f .mode) ∙ word 4 ∙ g .mode in
-    let events = sym (f .events) ∙ word 8 ∙ g .events in
-    let text = sym (f .text) ∙ word 12 ∙ g .text in
-    let bits = sym (f .bits) ∙ word 16 ∙ g .bits in
-    let path : o .path ≡ o′ .path = ext-getD 0 (o .path) (o′ .path) (sym (f .names) ∙ word 20 ∙ g .names)
-    (λ i h. sym (f .name i) ∙ ap (λ (A : List ℕ). halfFrom A (24 + 2 * i)) e ∙ g .name i) in
+    let mode = sym (f .mode) ∙ word modeAt ∙ g .mode in
+    let events = sym (f .events) ∙ word eventsAt ∙ g .events in
+    let text = sym (f .text) ∙ word textAt ∙ g .text in
+    let bits = sym (f .bits) ∙ word bitsAt ∙ g .bits in
+    let path : o .path ≡ o′ .path = ext-getD 0 (o .path) (o′ .path) (sym (f .names) ∙ word countAt ∙ g .names)
+    (λ i h. sym (f .name i) ∙ ap (λ (A : List ℕ). halfFrom A (namesAt + 2 * i)) e ∙ g .name i) in
     λ i. record { number = n i; place = place i; mode = mode i; events = events i; text = text i; bits = bits i; path = path i }

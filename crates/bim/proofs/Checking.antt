@@ -3,7 +3,8 @@ use Prim.Native.Nat.{ℕ}
 use mathlib.Core.Path.{_≡_, sym, ap, _∙_}
 use mathlib.Core.List.{List, []}
 use lib.ListN.{length}
-use Rattle.numbers.specs.Refusal.{areaSize}
+use Rattle.numbers.specs.Refusal.{areaSize, accepted}
+use Rattle.numbers.specs.Refusal as refusal
 use Rattle.numbers.specs.Limit as limit
 use Rattle.table.specs.First.{Verdict}
 use Rattle.table.specs.Views.{verdictIs}
@@ -25,11 +26,11 @@ module _ (t area area′ : List ℕ) where
     checked number place a n o =
         sym (lent-whole (length area) [] (judged (tableVerdict t)) [] w ∙ ap (λ (x : ℕ). back x (areaOf (judged (tableVerdict t))) []) n ∙ ap (λ (x : List ℕ). back number x []) (o ∙ sym a))
 
-    pub check-right : v ≡ Right → area′ ≡ areaOf (told 0 0 0 0 0 []) → back 0 area′ [] ≡ checkTable t (length area)
+    pub check-right : v ≡ Right → area′ ≡ areaOf (told 0 0 0 0 0 []) → back accepted area′ [] ≡ checkTable t (length area)
     unfolding areaOf
     check-right r a = let j = sym e ∙ ap verdictIs r in checked 0 0 a (rw j) (rw j)
 
-    pub check-wrong : (i : ℕ) → v ≡ Wrong i → area′ ≡ areaOf (told i 0 0 0 0 []) → back 1 area′ [] ≡ checkTable t (length area)
+    pub check-wrong : (i : ℕ) → v ≡ Wrong i → area′ ≡ areaOf (told i 0 0 0 0 []) → back refusal.table area′ [] ≡ checkTable t (length area)
     unfolding areaOf
     check-wrong i r a = let j = sym e ∙ ap verdictIs r in checked 1 i a (rw j) (rw j)
 

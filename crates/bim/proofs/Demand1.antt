@@ -6,6 +6,8 @@ use native.Mathlib.Omega.{arith}
 use native.Mathlib.Decide.{ℕ-discrete}
 use borrow.Author.Tests.{eq-eqb, ne-eqb}
 use lib.ListN.{length}
+use Rattle.numbers.specs.Limit.{mostNames}
+use Rattle.numbers.specs.Limit as limit
 use Rattle.wire.specs.Res.{Res, got, fault}
 use Rattle.wire.specs.Bits.{bitAt}
 use Rattle.table.specs.First.{Verdict}
@@ -20,11 +22,11 @@ use Rattle.bim.specs.Bits as bits
 use Rattle.bim.proofs.Paths.{path-most}
 use Rattle.bim.specs.Demands.{Answered, AnsweredBits}
 
--- every call over an area: 24, or an outcome, whose buffers are zero where its number is not 0
+-- every call over an area: areaSize, or an outcome, whose buffers are zero where its number is not 0
 lent-answered : (area : ℕ) (sizes : List ℕ) (o : Outcome) (buffers : List (List ℕ))
-    → (area ≡ 152 → (o .number ≡ 0 → ⊥) → Answered area sizes (back (o .number) (areaOf o) buffers))
+    → (area ≡ limit.area → (o .number ≡ 0 → ⊥) → Answered area sizes (back (o .number) (areaOf o) buffers))
     → Answered area sizes (lent area sizes o buffers)
-lent-answered area sizes o buffers h = elim (ℕ-discrete area 152) [
+lent-answered area sizes o buffers h = elim (ℕ-discrete area limit.area) [
   | yes e ↦ rw (lent-whole area sizes o buffers e)
       (elim (ℕ-discrete (o .number) 0) [ yes z ↦ Answered.accepted e z | no z ↦ h e z ])
   | no n ↦ Answered.no-area n (unlent area sizes o buffers n)
@@ -37,7 +39,7 @@ pub check-answered : (t : List ℕ) (area : ℕ) → Answered area [] (checkTabl
 unfolding checkTable
 check-answered t area = lent-answered area [] (judged (tableVerdict t)) [] (λ e n. go (tableVerdict t) e n)
   where
-    go : (v : Verdict) → area ≡ 152 → (judged v .number ≡ 0 → ⊥)
+    go : (v : Verdict) → area ≡ limit.area → (judged v .number ≡ 0 → ⊥)
         → Answered area [] (back (judged v .number) (areaOf (judged v)) [])
     go right e n = absurd (n refl)
     go (wrong i) e n = Answered.refused 1 i [] e (omega arith) (omega arith) refl
@@ -49,7 +51,7 @@ read-answered t name type s e x area =
     lent-answered area (e ∷ x ∷ []) (outcome (readBytes t name type s e x)) _
     (λ y n. go (readBytes t name type s e x) (path-most t name type s e x) y n)
   where
-    go : (r : Reply) → length (outcome r .path) ≤ 64 → area ≡ 152 → (outcome r .number ≡ 0 → ⊥)
+    go : (r : Reply) → length (outcome r .path) ≤ mostNames → area ≡ limit.area → (outcome r .number ≡ 0 → ⊥)
         → Answered area (e ∷ x ∷ []) (back (outcome r .number) (areaOf (outcome r)) (eventsBack e r ∷ textsLeft x r ∷ []))
     go (accepted mode ns q) h y n = absurd (n refl)
     go (declined k p π) h y n = Answered.refused k p π y (from-one k n) h refl
@@ -60,24 +62,24 @@ unfolding writeCall outcomeMade payloadLeft
 write-answered t name type mode E X room area = lent-answered area (room ∷ []) (told m₀) _ (λ y n. go m₀ y n)
   where
     told : Made → Outcome
-    told m = outcomeMade mode (length E / 16) (length X) m
+    told m = outcomeMade mode (length E / limit.event) (length X) m
 
     m₀ : Made
     m₀ = writeBytes t name type mode E X room
 
-    go : (m : Made) → area ≡ 152 → (told m .number ≡ 0 → ⊥)
+    go : (m : Made) → area ≡ limit.area → (told m .number ≡ 0 → ⊥)
         → Answered area (room ∷ []) (back (told m .number) (areaOf (told m)) (payloadLeft room m ∷ []))
     go (made s q) y n = absurd (n refl)
     go (unmade k p) y n = Answered.refused k p [] y (from-one k n) (omega arith) refl
 
 pub bits-answered : (s : List ℕ) (at : ℕ) (c : Coding) (area : ℕ) → AnsweredBits s at area (bits.bitsCall s at c area)
 unfolding bits.bitsCall codeAt answered
-bits-answered s at c area = elim (ℕ-discrete area 12) [
-  | yes e ↦ rw (eq-eqb area 12 e) (go (coded c (bitAt s) (wallOf s) at) e)
-  | no n ↦ rw (ne-eqb area 12 n) (AnsweredBits.no-area n refl)
+bits-answered s at c area = elim (ℕ-discrete area limit.bitsArea) [
+  | yes e ↦ rw (eq-eqb area limit.bitsArea e) (go (coded c (bitAt s) (wallOf s) at) e)
+  | no n ↦ rw (ne-eqb area limit.bitsArea n) (AnsweredBits.no-area n refl)
 ]
   where
-    go : (m : Res (ℕ × ℕ)) → area ≡ 12 → AnsweredBits s at area (bits.told (answered s at m))
+    go : (m : Res (ℕ × ℕ)) → area ≡ limit.bitsArea → AnsweredBits s at area (bits.told (answered s at m))
     go (got r) e = AnsweredBits.accepted e refl
     go (fault k) e = elim (ℕ-discrete k 0) [
       | yes z ↦ AnsweredBits.accepted e z

@@ -9,6 +9,8 @@ use borrow.Author.Tests.{eqb-true, eq-eqb}
 use lib.Dec.{eqb}
 use lib.ListN.{length, take}
 use lib.Seq.{take-at}
+use Rattle.numbers.specs.Limit.{mostPayload}
+use Rattle.numbers.specs.Limit as limit
 use Rattle.table.specs.First.{Verdict}
 use Rattle.table.specs.First.Verdict.{right, wrong}
 use Rattle.buffers.specs.Bytes.{wordsOf, spelled, bytesOf, wordFrom}
@@ -26,7 +28,7 @@ use Rattle.theorems.proofs.NamedReading.{zero-accepts}
 use Rattle.theorems.proofs.NamedWriting.{zero-makes}
 use Rattle.theorems.specs.Demand2.{Valid, payloadOf, bytesFor}
 use Rattle.theorems.proofs.Demand2.{valid-written, valid-read, written-valid, read-write}
-use Rattle.bim.specs.Area.{areaOf}
+use Rattle.bim.specs.Area.{areaOf, areaBytes, modeAt, eventsAt, textAt, bitsAt}
 use Rattle.bim.specs.Calls.{Back, back, lent, tableVerdict, readBytes, eventsBack, readCall, writeList, unlisted, writeBytes, writeCall}
 use Rattle.bim.proofs.WriteLaws.{Unlisted, unlisted-is, one-word}
 use Rattle.bim.specs.Demands.{shown, wrote, Reading, Same, Reads, Writes, NoBlankIn}
@@ -47,7 +49,7 @@ module _ (t : List ℕ) (name type : ℕ) where
     abbrev R : Reply
     R = reading (wordsOf t) name type s (e / 4) x
 
-    pub call-tells : tableVerdict t ≡ right → readCall t name type s e x 152 ≡ tells e x R
+    pub call-tells : tableVerdict t ≡ right → readCall t name type s e x areaBytes ≡ tells e x R
     unfolding readCall readBytes lent afterVerdict
     call-tells v = rw v
 
@@ -56,7 +58,7 @@ module _ (t : List ℕ) (name type : ℕ) where
     is-accepted h = reading-complete (wordsOf t) name type s (e / 4) x _ _ _ (h .is)
 
     pub accepts-all : (mode : Mode) (tree : Nodes) (used : ℕ) → Reading t name type s e x mode tree used
-        → readCall t name type s e x 152 ≡ shown e x mode tree used
+        → readCall t name type s e x areaBytes ≡ shown e x mode tree used
     accepts-all mode tree used h =
         call-tells (whole-right t (h .whole) (h .is .enters .table-right)) ∙ ap (tells e x) (is-accepted h)
         ∙ tells-shown e x mode tree used
@@ -97,7 +99,7 @@ module _ (t : List ℕ) (name type : ℕ) where
       let z : accepted mode tree used ≡ accepted mode′ tree′ used′ = sym r ∙ r′ in
       record { modes = cc; trees = cc; bits = cc }
 
-  pub accepts-only : (s : List ℕ) (e x : ℕ) → readCall t name type s e x 152 .number ≡ 0 → Reads t name type s e x
+  pub accepts-only : (s : List ℕ) (e x : ℕ) → readCall t name type s e x areaBytes .number ≡ 0 → Reads t name type s e x
   unfolding readCall readBytes lent afterVerdict outcome
   accepts-only s e x c = by-table (tableVerdict t) refl c
     where
@@ -124,60 +126,60 @@ module _ (t : List ℕ) (name type : ℕ) where
 
   -- a payload made of whole events, as the call tells it
   made-tells : (n : ℕ) (E X : List ℕ) (room : ℕ) (payload : List ℕ) (used : ℕ) → tableVerdict t ≡ right
-      → length E % 16 ≡ 0
+      → length E % limit.event ≡ 0
       → writing (wordsOf t) name type n (wordsOf E) X room ≡ made payload used
-      → writeCall t name type n E X room 152 ≡ wrote room n (length E / 16) (length X) used payload
+      → writeCall t name type n E X room areaBytes ≡ wrote room n (length E / limit.event) (length X) used payload
   unfolding writeCall writeBytes writeList lent verdictMade payloadLeft outcomeMade
-  made-tells n E X room payload used v h m = rw (v, eq-eqb (length E % 16) 0 h, m)
+  made-tells n E X room payload used v h m = rw (v, eq-eqb (length E % limit.event) 0 h, m)
 
   pub writes-all : (mode : Mode) (E X : List ℕ) (room : ℕ) (h : Valid (wordsOf t) name type mode (wordsOf E) X)
-      → length t % 4 ≡ 0 → length E % 16 ≡ 0 → bytesFor (h .bits) ≤ min room 8192
-      → writeCall t name type (modeNumber mode) E X room 152
-      ≡ wrote room (modeNumber mode) (length E / 16) (length X) (8 + length (h .bits)) (payloadOf mode (h .bits))
+      → length t % 4 ≡ 0 → length E % limit.event ≡ 0 → bytesFor (h .bits) ≤ min room mostPayload
+      → writeCall t name type (modeNumber mode) E X room areaBytes
+      ≡ wrote room (modeNumber mode) (length E / limit.event) (length X) (8 + length (h .bits)) (payloadOf mode (h .bits))
   writes-all mode E X room h w k f =
       made-tells (modeNumber mode) E X room _ _ (whole-right t w (h .enters .table-right)) k
       (valid-written (wordsOf t) name type mode (wordsOf E) X room h f)
 
   module _ (n : ℕ) (E X : List ℕ) (room : ℕ) where
     abbrev told : Made → ℕ
-    told m = outcomeMade n (length E / 16) (length X) m .number
+    told m = outcomeMade n (length E / limit.event) (length X) m .number
 
     -- a list that is no whole one is refused as one of one word is, but for the place
-    not-listed : told (unlisted (wordsOf t) name type n (length E / 16)) ≡ 0 → ⊥
+    not-listed : told (unlisted (wordsOf t) name type n (length E / limit.event)) ≡ 0 → ⊥
     unfolding outcomeMade
     not-listed z = go (unlisted-is (wordsOf t) name type n)
       where
         go : Unlisted (wordsOf t) name type n → ⊥
-        go (Unlisted.late f) = let w = rw (f (length E / 16)) at z in omega arith
+        go (Unlisted.late f) = let w = rw (f (length E / limit.event)) at z in omega arith
         go (Unlisted.early k p h f) =
             let same : writing (wordsOf t) name type n (0 ∷ []) X room ≡ unmade k p =
             one-word (wordsOf t) name type n 0 X room ∙ f 0 in
-            let none : k ≡ 0 = rw (f (length E / 16)) at z in
+            let none : k ≡ 0 = rw (f (length E / limit.event)) at z in
             let m = zero-makes (wordsOf t) name type n (0 ∷ []) X room 0 0 (rw same none) in
             let w : made (m .payload) (m .bits) ≡ unmade k p = sym (m .is) ∙ same in
             let y : _≡_ {A = ℕ} 0 1 = cc in
             omega arith
 
     abbrev listed : Bool → Made
-    listed b = cond b (writing (wordsOf t) name type n (wordsOf E) X room) (unlisted (wordsOf t) name type n (length E / 16))
+    listed b = cond b (writing (wordsOf t) name type n (wordsOf E) X room) (unlisted (wordsOf t) name type n (length E / limit.event))
 
-    pub writes-only : writeCall t name type n E X room 152 .number ≡ 0 → Writes t name type n E X room
+    pub writes-only : writeCall t name type n E X room areaBytes .number ≡ 0 → Writes t name type n E X room
     unfolding writeCall writeBytes writeList lent verdictMade outcomeMade
-    writes-only c = go (tableVerdict t) refl (eqb (length E % 16) 0) refl c
+    writes-only c = go (tableVerdict t) refl (eqb (length E % limit.event) 0) refl c
       where
-        go : (v : Verdict) → tableVerdict t ≡ v → (b : Bool) → eqb (length E % 16) 0 ≡ b
+        go : (v : Verdict) → tableVerdict t ≡ v → (b : Bool) → eqb (length E % limit.event) 0 ≡ b
             → told (verdictMade v (listed b)) ≡ 0 → Writes t name type n E X room
         go (wrong i) v b y c = absurd (omega arith)
         go right v false y c = absurd (not-listed c)
         go right v true y c =
-            let m = zero-makes (wordsOf t) name type n (wordsOf E) X room (length E / 16) (length X) c in
+            let m = zero-makes (wordsOf t) name type n (wordsOf E) X room (length E / limit.event) (length X) c in
             let f = written-valid (wordsOf t) name type n (wordsOf E) X room (m .payload) (m .bits) (m .is) in
             let h = f .valid in
             let w = h .bits in
             let size : length (m .payload) ≡ 1 + (length w + 7) / 8 = ap length (f .bytes) ∙ omega (arith, pack-length w) in
             let fits = f .fits in
             let used = f .bits-used in
-            let small : bytesFor w ≤ 8192 = omega arith in
+            let small : bytesFor w ≤ mostPayload = omega arith in
             let whole = right-whole t v .0 in
             let words = words-length E in
             let P = payloadOf (f .mode) w in
@@ -193,10 +195,10 @@ module _ (t : List ℕ) (name type : ℕ) where
               used = m .bits;
               size = omega arith;
               fits = omega arith;
-              wrote-it = made-tells n E X room (m .payload) (m .bits) v (eqb-true (length E % 16) 0 y) (m .is);
+              wrote-it = made-tells n E X room (m .payload) (m .bits) v (eqb-true (length E % limit.event) 0 y) (m .is);
               counts = omega arith;
               reads = λ e x a d.
-                  ap (λ (y : List ℕ). readCall t name type y e x 152) (f .bytes) ∙ call-tells P e x v
+                  ap (λ (y : List ℕ). readCall t name type y e x areaBytes) (f .bytes) ∙ call-tells P e x v
                   ∙ ap (tells e x) (read e x a d) ∙ tells-shown e x (f .mode) (h .tree) (8 + length w)
                   ∙ ap (shown e x (f .mode) (h .tree)) (sym used);
             }
@@ -206,13 +208,13 @@ module _ (t : List ℕ) (name type : ℕ) where
       → Reading t name type s e x mode tree used → NoBlank (events tree) → length s ≤ room
       → (m n k u : ℕ) (E T : List ℕ) → m ≡ modeNumber mode → n ≡ length (events tree) → k ≡ length (texts tree)
       → u ≡ used → E ≡ bytesOf (eventWords (events tree)) → T ≡ texts tree
-      → writeCall t name type m E T room 152 ≡ wrote room m n k u s
+      → writeCall t name type m E T room areaBytes ≡ wrote room m n k u s
   back-written s e x room mode tree used o r p h m n k u E T em en ek eu eE eT =
       let L = eventWords (events tree) in
       let a = bytes-length L in
       let b = events-words (events tree) in
-      let i : length (bytesOf L) % 16 ≡ 0 = omega arith in
-      let j : length (bytesOf L) / 16 ≡ length (events tree) = omega arith in
+      let i : length (bytesOf L) % limit.event ≡ 0 = omega arith in
+      let j : length (bytesOf L) / limit.event ≡ length (events tree) = omega arith in
       let w = read-write (wordsOf t) name type s (e / 4) x room mode tree used o (is-accepted s e x r) p h in
       let v = whole-right t (r .whole) (r .is .enters .table-right) in
       rw (em, en, ek, eu, eE, eT)
@@ -225,21 +227,21 @@ unfolding spelled eventWords
 no-blank [] z h = tt
 no-blank (a ∷ L) z h = (λ k. h 0 (omega arith) (omega (arith, k)), no-blank L z (λ i l k. h (suc i) (omega arith) (next i ∙ k)))
   where
-    next : (i : ℕ) → wordFrom (bytesOf (eventWords (a ∷ L)) ++ z) (16 * suc i) ≡ wordFrom (bytesOf (eventWords L) ++ z) (16 * i)
+    next : (i : ℕ) → wordFrom (bytesOf (eventWords (a ∷ L)) ++ z) (limit.event * suc i) ≡ wordFrom (bytesOf (eventWords L) ++ z) (limit.event * i)
     next i =
-        let j : 16 * suc i ≡ 16 + 16 * i = omega arith in
+        let j : limit.event * suc i ≡ 16 + limit.event * i = omega arith in
         let first = bytesOf (a .kind ∷ a .p ∷ a .q ∷ a .bits ∷ []) in
         ap (λ (y : ℕ). wordFrom (bytesOf (eventWords (a ∷ L)) ++ z) y) j
-        ∙ word-past first (bytesOf (eventWords L) ++ z) (16 * i)
+        ∙ word-past first (bytesOf (eventWords L) ++ z) (limit.event * i)
 
 two-buffers : {a b c d : List ℕ} → _≡_ {A = List (List ℕ)} (a ∷ b ∷ []) (c ∷ d ∷ []) → (a ≡ c) × (b ≡ d)
 two-buffers e = (cc, cc)
 
 pub writes-back : (t : List ℕ) (name type : ℕ) (s A E T : List ℕ) (e x room : ℕ)
-    → back 0 A (E ∷ T ∷ []) ≡ readCall t name type s e x 152 → Octets s → NoBlankIn E (wordFrom A 8)
+    → back 0 A (E ∷ T ∷ []) ≡ readCall t name type s e x areaBytes → Octets s → NoBlankIn E (wordFrom A eventsAt)
     → length s ≤ room
-    → writeCall t name type (wordFrom A 4) (take (16 * wordFrom A 8) E) (take (wordFrom A 12) T) room 152
-    ≡ wrote room (wordFrom A 4) (wordFrom A 8) (wordFrom A 12) (wordFrom A 16) s
+    → writeCall t name type (wordFrom A modeAt) (take (limit.event * wordFrom A eventsAt) E) (take (wordFrom A textAt) T) room areaBytes
+    ≡ wrote room (wordFrom A modeAt) (wordFrom A eventsAt) (wordFrom A textAt) (wordFrom A bitsAt) s
 unfolding filled
 writes-back t name type s A E T e x room c o p h =
     let r = accepts-only t name type s e x (sym (ap (λ (b : Back). b .number) c)) in
@@ -252,11 +254,11 @@ writes-back t name type s A E T e x room c o p h =
     let fetch : (i n : ℕ) → wordFrom (areaOf shows) i ≡ n → wordFrom A i ≡ n
     = λ i n y. ap (λ (B : List ℕ). wordFrom B i) area ∙ y in
     let count = fetch 8 (length L) (f .events) in
-    let octets = fetch 12 (length (texts (r .tree))) (f .text) in
-    let size : length (bytesOf (eventWords L)) ≡ 16 * wordFrom A 8 =
+    let octets = fetch textAt (length (texts (r .tree))) (f .text) in
+    let size : length (bytesOf (eventWords L)) ≡ limit.event * wordFrom A eventsAt =
     omega (arith, bytes-length (eventWords L), events-words L, count) in
     back-written t name type s e x room (r .mode) (r .tree) (r .used) o (r .reading)
     (no-blank L _ (rw (buffers .0, count) at p)) h _ _ _ _ _ _
     (fetch 4 (modeNumber (r .mode)) (f .mode)) count octets (fetch 16 (r .used) (f .bits))
-    (ap (take (16 * wordFrom A 8)) (buffers .0) ∙ take-at (bytesOf (eventWords L)) _ (16 * wordFrom A 8) size)
-    (ap (take (wordFrom A 12)) (buffers .1) ∙ take-at (texts (r .tree)) _ (wordFrom A 12) (sym octets))
+    (ap (take (limit.event * wordFrom A eventsAt)) (buffers .0) ∙ take-at (bytesOf (eventWords L)) _ (limit.event * wordFrom A eventsAt) size)
+    (ap (take (wordFrom A textAt)) (buffers .1) ∙ take-at (texts (r .tree)) _ (wordFrom A textAt) (sym octets))

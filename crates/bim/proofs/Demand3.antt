@@ -6,6 +6,7 @@ use mathlib.Core.List.{List, [], _∷_, _++_}
 use mathlib.Core.Option.{Option, none, some}
 use native.Mathlib.Omega.{arith}
 use lib.ListN.{length, length-append}
+use Rattle.numbers.specs.Limit.{mostNames, mostWord}
 use Rattle.table.specs.First.Verdict.{right}
 use Rattle.buffers.specs.Bytes.{wordsOf}
 use Rattle.model.specs.Model.{Mark, Nodes, Path, Plan}
@@ -17,7 +18,7 @@ use Rattle.theorems.specs.Open.{StillOpen, Excuse}
 use Rattle.model.specs.Whole.{Reply, accepted, declined, outcome, textsLeft, afterVerdict, reading}
 use Rattle.theorems.specs.Demand3 as model
 use Rattle.theorems.proofs.Demand3 as model-laws
-use Rattle.bim.specs.Area.{areaOf, capped}
+use Rattle.bim.specs.Area.{areaOf, areaBytes, placeWord}
 use Rattle.bim.specs.Calls.{Back, tableVerdict, readBytes, eventsBack, readCall}
 use Rattle.bim.proofs.Paths.{path-most}
 use Rattle.bim.specs.Demands.{less, Pair, Reading, Reads, new, SecondAccepts, OnlyFirstAccepts}
@@ -53,17 +54,17 @@ open-within new p ρ π (a-blank {s} {x} w h z u j) (StillOpen.here k n b lo hi)
 open-within new p ρ π (a-blank {s} {x} w h z u j) (StillOpen.past o) =
     let r = open-within new p ρ π j o in omega (arith, length-append (s ++ w) x)
 
-capped-small : (p : ℕ) → p ≤ 4294967295 → capped p ≡ p
-capped-small p h = omega arith
+word-small : (p : ℕ) → p ≤ mostWord → placeWord p ≡ p
+word-small p h = omega arith
 
-capped-twice : (p : ℕ) → capped (capped p) ≡ capped p
-capped-twice p = omega arith
+word-twice : (p : ℕ) → placeWord (placeWord p) ≡ placeWord p
+word-twice p = omega arith
 
 module _ (t t′ : List ℕ) (name type : ℕ) (s : List ℕ) (e x : ℕ) (pair : Pair t t′) where
   abbrev N : ℕ → Bool
   N = new t t′
 
-  pub second-accepts : readCall t′ name type s e x 152 .number ≡ 0 → SecondAccepts t t′ name type s e x
+  pub second-accepts : readCall t′ name type s e x areaBytes .number ≡ 0 → SecondAccepts t t′ name type s e x
   second-accepts c =
       let r = accepts-only t′ name type s e x c in
       let is = is-accepted t′ name type s e x (r .reading) in
@@ -80,21 +81,21 @@ module _ (t t′ : List ℕ) (name type : ℕ) (s : List ℕ) (e x : ℕ) (pair 
       }
 
   -- the place in the area excuses as the place itself does
-  capped-excuse : (mode : Mode) (tree : Nodes) (used n p : ℕ) (ρ : Path) → Reading t name type s e x mode tree used
-      → Excuse N [] tree n p ρ → Excuse N [] tree n (capped p) ρ
-  capped-excuse mode tree used n p ρ r (Excuse.no-slot k) = Excuse.no-slot k
-  capped-excuse mode tree used n p ρ r (Excuse.no-bytes k) = Excuse.no-bytes k
-  capped-excuse mode tree used n p ρ r (Excuse.still-open o) =
+  word-excuse : (mode : Mode) (tree : Nodes) (used n p : ℕ) (ρ : Path) → Reading t name type s e x mode tree used
+      → Excuse N [] tree n p ρ → Excuse N [] tree n (placeWord p) ρ
+  word-excuse mode tree used n p ρ r (Excuse.no-slot k) = Excuse.no-slot k
+  word-excuse mode tree used n p ρ r (Excuse.no-bytes k) = Excuse.no-bytes k
+  word-excuse mode tree used n p ρ r (Excuse.still-open o) =
       let i = r .is .is in
       let f = i .found in
       let below = open-within N p ρ [] (f .is) o in
       let next = f .stands .next in
       let within = f .within in
       let few = i .mode-byte .few in
-      rw (capped-small p (omega arith)) (Excuse.still-open o)
+      rw (word-small p (omega arith)) (Excuse.still-open o)
 
-  pub only-first-accepts : readCall t name type s e x 152 .number ≡ 0
-      → (readCall t′ name type s e x 152 .number ≡ 0 → ⊥) → OnlyFirstAccepts t t′ name type s e x
+  pub only-first-accepts : readCall t name type s e x areaBytes .number ≡ 0
+      → (readCall t′ name type s e x areaBytes .number ≡ 0 → ⊥) → OnlyFirstAccepts t t′ name type s e x
   unfolding readBytes afterVerdict outcome eventsBack textsLeft areaOf
   only-first-accepts c z = go (reading (wordsOf t′) name type s (e / 4) x) refl z
     where
@@ -104,11 +105,11 @@ module _ (t t′ : List ℕ) (name type : ℕ) (s : List ℕ) (e x : ℕ) (pair 
       right′ : tableVerdict t′ ≡ right
       right′ = checked-right t′ (pair .second-valid)
 
-      path-short : (q : Reply) → reading (wordsOf t′) name type s (e / 4) x ≡ q → length (outcome q .path) ≤ 64
+      path-short : (q : Reply) → reading (wordsOf t′) name type s (e / 4) x ≡ q → length (outcome q .path) ≤ mostNames
       path-short q y = rw (right′, y) at (path-most t′ name type s e x)
 
       go : (q : Reply) → reading (wordsOf t′) name type s (e / 4) x ≡ q
-          → (readCall t′ name type s e x 152 .number ≡ 0 → ⊥) → OnlyFirstAccepts t t′ name type s e x
+          → (readCall t′ name type s e x areaBytes .number ≡ 0 → ⊥) → OnlyFirstAccepts t t′ name type s e x
       go (accepted mode ns used) y z =
           absurd (z (ap (λ (b : Back). b .number) (call-tells t′ name type s e x right′ ∙ ap (tells e x) y)))
       go (declined n p π) y z =
@@ -122,10 +123,10 @@ module _ (t t′ : List ℕ) (name type : ℕ) (s : List ℕ) (e x : ℕ) (pair 
             reading = R .reading;
             first = R .shows;
             number = n;
-            place = capped p;
+            place = placeWord p;
             path = π;
-            second = call-tells t′ name type s e x right′ ∙ ap (tells e x) y ∙ rw (capped-twice p);
+            second = call-tells t′ name type s e x right′ ∙ ap (tells e x) y ∙ rw (word-twice p);
             place-fits = omega arith;
             path-fits = path-short (declined n p π) y;
-            excuse = capped-excuse (R .mode) (R .tree) (R .used) n p π (R .reading) k;
+            excuse = word-excuse (R .mode) (R .tree) (R .used) n p π (R .reading) k;
           }

@@ -1,9 +1,10 @@
--- No reading has more than 64 elements open: a path fits the area.
+-- No reading has more than mostOpen elements open: a path fits the area.
 use Prim.Native.Nat.{ℕ, zero, suc, _+_, _/_, _≤_}
 use mathlib.Core.List.{List, [], _∷_}
 use mathlib.Core.Bool.{Bool, true, false}
 use native.Mathlib.Omega.{arith}
 use lib.ListN.{length, length-reverse}
+use Rattle.numbers.specs.Limit.{mostNames}
 use Rattle.table.specs.First.{Verdict}
 use Rattle.table.specs.First.Verdict.{right, wrong}
 use Rattle.table.specs.Rows.{Row, Content, Attribute, Table, tableOf}
@@ -82,7 +83,7 @@ module _ {b : ℕ → ℕ} {mode : Mode} {held : ℕ → Bool} where
   goes-open (a-blank n e z h) (Opens.into o q) = q
 
   refuses-short : {P : Plan} {r : Room} {π ρ : Path} {wall at n p : ℕ} → Refuses b mode held P r π wall at n p ρ
-      → (D : ℕ) → Opens D P → length π + D ≤ 64 → length ρ ≤ 64
+      → (D : ℕ) → Opens D P → length π + D ≤ mostNames → length ρ ≤ mostNames
   refuses-short (here x) D o h = omega arith
   refuses-short (inside x s d) (suc D) (Opens.into o q) h = refuses-short d D (o (x .t)) (omega arith)
   refuses-short (unmet x s g e) (suc D) (Opens.into o q) h = omega arith
@@ -90,7 +91,7 @@ module _ {b : ℕ → ℕ} {mode : Mode} {held : ℕ → Bool} where
   refuses-short (later f d) D o h = refuses-short d D (goes-open f o) h
 
 replies-short : {l : List ℕ} {name type : ℕ} {s : List ℕ} {words bytes : ℕ} {R : Reply}
-    → Replies l name type s words bytes R → length (outcome R .path) ≤ 64
+    → Replies l name type s words bytes R → length (outcome R .path) ≤ mostNames
 unfolding outcome
 replies-short (no-table v) = omega arith
 replies-short (no-root v a) = omega arith
@@ -103,10 +104,10 @@ replies-short (whole i r e) = omega arith
 
 -- so the path of every reading of bytes fits
 pub path-most : (t : List ℕ) (name type : ℕ) (s : List ℕ) (e x : ℕ)
-    → length (outcome (readBytes t name type s e x) .path) ≤ 64
+    → length (outcome (readBytes t name type s e x) .path) ≤ mostNames
 unfolding readBytes outcome afterVerdict
 path-most t name type s e x = go (tableVerdict t)
   where
-    go : (v : Verdict) → length (outcome (afterVerdict v (reading (wordsOf t) name type s (e / 4) x)) .path) ≤ 64
+    go : (v : Verdict) → length (outcome (afterVerdict v (reading (wordsOf t) name type s (e / 4) x)) .path) ≤ mostNames
     go right = replies-short (reading-replies (wordsOf t) name type s (e / 4) x)
     go (wrong i) = omega arith

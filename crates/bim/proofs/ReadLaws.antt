@@ -18,12 +18,12 @@ use Rattle.model.proofs.Entries.{words-length as event-words}
 use Rattle.buffers.specs.Bytes.{wordsOf, spelled, bytesOf}
 use Rattle.buffers.proofs.BytesLaws.{bytes-length}
 use Rattle.bim.specs.Calls.{zeros, readBytes, eventsBack}
-use Rattle.bim.specs.TableRoom.{placed}
-use Rattle.bim.proofs.TableLaws.{placed-same, Told, whole, part}
-use Rattle.bim.specs.EventRoom.{slotWords, placedIn}
+use Rattle.bim.specs.TableRoom.{placeInTable}
+use Rattle.bim.proofs.TableLaws.{in-table-same, Told, whole, part}
+use Rattle.bim.specs.EventRoom.{slotWords, outcomeInTable}
 
-pub placed-in-same : (k : ℕ) (o : Outcome) → placedIn k k o ≡ o
-placed-in-same k o = λ i. record { number = o .number; place = placed-same k (o .place) i; mode = o .mode; events = o .events; text = o .text; bits = o .bits; path = o .path }
+pub outcome-in-same : (k : ℕ) (o : Outcome) → outcomeInTable k k o ≡ o
+outcome-in-same k o = λ i. record { number = o .number; place = in-table-same k (o .place) i; mode = o .mode; events = o .events; text = o .text; bits = o .bits; path = o .path }
 
 -- as much room as the bytes have
 same-room : (l : List ℕ) (name type : ℕ) (s : List ℕ) (e x : ℕ) → reading l name type s (e / 4) x ≡ reading l name type s (slotWords e) x
@@ -34,23 +34,23 @@ same-room l name type s e x =
 
 -- what the reading of the words lent tells of the reading of the bytes
 pub record Read (R R′ : Reply) (k m e x : ℕ) : Type 0 where
-  pub answer : outcome R ≡ placedIn k m (outcome R′)
+  pub answer : outcome R ≡ outcomeInTable k m (outcome R′)
   pub events : eventsBack e R ≡ eventsBack e R′
   pub texts : textsLeft x R ≡ textsLeft x R′
 
 same-reply : (R R′ : Reply) (k m e x : ℕ) → R ≡ R′ → k ≡ m → Read R R′ k m e x
 same-reply R R′ k m e x r g =
     record {
-      answer = ap outcome r ∙ sym (placed-in-same k (outcome R′)) ∙ ap (λ (j : ℕ). placedIn k j (outcome R′)) g;
+      answer = ap outcome r ∙ sym (outcome-in-same k (outcome R′)) ∙ ap (λ (j : ℕ). outcomeInTable k j (outcome R′)) g;
       events = ap (eventsBack e) r;
       texts = ap (textsLeft x) r;
     }
 
-both-declined : (R R′ : Reply) (k m e x i : ℕ) → R ≡ declined refusal.table (placed k m i) [] → R′ ≡ declined refusal.table i [] → Read R R′ k m e x
+both-declined : (R R′ : Reply) (k m e x i : ℕ) → R ≡ declined refusal.table (placeInTable k m i) [] → R′ ≡ declined refusal.table i [] → Read R R′ k m e x
 unfolding outcome eventsBack textsLeft
 both-declined R R′ k m e x i r r′ =
     record {
-      answer = ap outcome r ∙ sym (ap (λ (z : Reply). placedIn k m (outcome z)) r′);
+      answer = ap outcome r ∙ sym (ap (λ (z : Reply). outcomeInTable k m (outcome z)) r′);
       events = ap (eventsBack e) r ∙ sym (ap (eventsBack e) r′);
       texts = ap (textsLeft x) r ∙ sym (ap (textsLeft x) r′);
     }

@@ -5,7 +5,7 @@ use mathlib.Core.List.{List, [], _∷_, _++_}
 use native.Mathlib.Omega.{arith}
 use lib.ListN.{length, take, drop, replicate}
 use lib.Seq.{length-take-le}
-use Rattle.numbers.specs.Refusal.{areaSize}
+use Rattle.numbers.specs.Refusal.{areaSize, eventRoom}
 use Rattle.numbers.specs.Limit as limit
 use Rattle.model.specs.Whole.{Reply, Outcome, outcome, reading, eventsLeft, textsLeft}
 use Rattle.reader.specs.Answers.{answerIs}
@@ -18,9 +18,9 @@ use Rattle.bim.proofs.AreaLaws.{first-length}
 use Rattle.bim.specs.Calls.{back, zeros, readBytes, readCall, eventsBack}
 use Rattle.bim.proofs.CallLaws.{unlent, lent-whole}
 use Rattle.bim.proofs.Paths.{path-most}
-use Rattle.bim.specs.TableRoom.{wordsLent, placed}
-use Rattle.bim.proofs.TableLaws.{Told, told}
-use Rattle.bim.specs.EventRoom.{slotWords, placedIn, ReadBack}
+use Rattle.bim.specs.TableRoom.{placeInTable}
+use Rattle.bim.proofs.TableLaws.{Seen}
+use Rattle.bim.specs.EventRoom.{slotWords, outcomeInTable, ReadBack}
 use Rattle.bim.proofs.ReadLaws.{read-lent, events-fit, events-stored}
 use Rattle.bim.proofs.RoomLaws.{more-room}
 
@@ -45,7 +45,7 @@ pub read-as : {R R′ : Reply} {e x : ℕ} {o : Outcome} {E X : List ℕ} → R�
 read-as {e = e} {x = x} {o = o} {E = E} {X = X} r b = subst (λ (S : Reply). ReadBack S e x o E X) (sym r) b
 
 -- with fewer words lent, where they were not too few
-pub few-read : (l : List ℕ) (name type : ℕ) (s : List ℕ) (w w′ e x : ℕ) (o : Outcome) (E X : List ℕ) → w ≤ w′ → (o .number ≡ 7 → ⊥)
+pub few-read : (l : List ℕ) (name type : ℕ) (s : List ℕ) (w w′ e x : ℕ) (o : Outcome) (E X : List ℕ) → w ≤ w′ → (o .number ≡ eventRoom → ⊥)
     → ReadBack (reading l name type s w x) e x o E X → ReadBack (reading l name type s w′ x) e x o E X
 few-read l name type s w w′ e x o E X h z b = read-as (more-room l name type s w w′ x h (λ n. z (ap (λ (p : Outcome). p .number) (b .answer) ∙ n))) b
 
@@ -64,14 +64,14 @@ abbrev pub moveTo : ℕ → Answer → Answer
 moveTo p a = record { number = a .number; place = p; mode = a .mode; events = a .events; text = a .text; bits = a .bits; path = a .path }
 
 -- the words of the table, and the place in it
-pub bytes-read : (t : List ℕ) (name type : ℕ) (s : List ℕ) (e x k : ℕ) (words : List ℕ) (a : Answer) (E X : List ℕ) (p : ℕ) → k ≡ wordsLent (length t) → take k words ≡ take k (wordsOf t)
-    → ReadBack (reading (take k words) name type s (slotWords e) x) e x (answerIs a) E X → p ≡ placed k (length t / 4) (a .place)
+pub bytes-read : (t : List ℕ) (name type : ℕ) (s : List ℕ) (e x k : ℕ) (words : List ℕ) (a : Answer) (E X : List ℕ) (p : ℕ) → Seen t words k
+    → ReadBack (reading (take k words) name type s (slotWords e) x) e x (answerIs a) E X → p ≡ placeInTable k (length t / 4) (a .place)
     → ReadBack (readBytes t name type s e x) e x (answerIs (moveTo p a)) E X
-bytes-read t name type s e x k words a E X p n l b q =
-    let c = read-lent t name type s e x k (subst (Told t) (sym n) (told t)) in
-    let b′ : ReadBack (reading (take k (wordsOf t)) name type s (slotWords e) x) e x (answerIs a) E X = read-as (ap (λ (y : List ℕ). reading y name type s (slotWords e) x) (sym l)) b in
+bytes-read t name type s e x k words a E X p v b q =
+    let c = read-lent t name type s e x k (v .tells) in
+    let b′ : ReadBack (reading (take k (wordsOf t)) name type s (slotWords e) x) e x (answerIs a) E X = read-as (ap (λ (y : List ℕ). reading y name type s (slotWords e) x) (sym (v .front))) b in
     record {
-      answer = ap (λ (j : ℕ). answerIs (moveTo j a)) q ∙ ap (placedIn k (length t / 4)) (b′ .answer) ∙ sym (c .answer);
+      answer = ap (λ (j : ℕ). answerIs (moveTo j a)) q ∙ ap (outcomeInTable k (length t / 4)) (b′ .answer) ∙ sym (c .answer);
       events = b′ .events ∙ sym (c .events);
       texts = b′ .texts ∙ sym (c .texts);
     }
@@ -94,7 +94,7 @@ module _ (t : List ℕ) (name type : ℕ) (s E X A E′ X′ A′ : List ℕ) wh
       R = readBytes t name type s (length E) (length X)
 
 -- the path fits
-pub path-fits : (t : List ℕ) (name type : ℕ) (s : List ℕ) (e x : ℕ) (a : Answer) (E X : List ℕ) → ReadBack (readBytes t name type s e x) e x (answerIs a) E X → a .path .count ≤ 64
+pub path-fits : (t : List ℕ) (name type : ℕ) (s : List ℕ) (e x : ℕ) (a : Answer) (E X : List ℕ) → ReadBack (readBytes t name type s e x) e x (answerIs a) E X → a .path .count ≤ limit.mostNames
 path-fits t name type s e x a E X b =
     let n = first-length (a .path .names) (a .path .count) in
     let m = path-most t name type s e x in

@@ -1,9 +1,10 @@
--- More room for events changes no reading but one that was refused for lack of it, 7.
+-- More room for events changes no reading but one that was refused for lack of it, eventRoom.
 use Prim.Native.Nat.{ℕ, _≤_}
 use mathlib.Core.Path.{_≡_, refl}
 use mathlib.Core.Bool.{Bool}
 use mathlib.Core.List.{List}
 use native.Mathlib.Omega.{arith}
+use Rattle.numbers.specs.Refusal.{eventRoom}
 use Rattle.model.specs.Model.{Plan, Nodes, Path}
 use Rattle.model.specs.Items.{Mode}
 use Rattle.model.specs.Read.{Room, less, lessOne}
@@ -28,7 +29,7 @@ module _ {b : ℕ → ℕ} {mode : Mode} {held : ℕ → Bool} where
       more (goes-wider f r′ w) (goes-wider g (less r′ ns) (record { slots = omega arith; bytes = omega arith }))
 
   stop-wider : {P : Plan} {r : Room} {wall at n : ℕ} → Stop b mode held r wall at P n → (r′ : Room) → Wider r r′
-      → (n ≡ 7 → ⊥) → Stop b mode held r′ wall at P n
+      → (n ≡ eventRoom → ⊥) → Stop b mode held r′ wall at P n
   stop-wider too-deep r′ w z = too-deep
   stop-wider (no-item e) r′ w z = no-item e
   stop-wider (no-bytes e h) r′ w z = no-bytes e (omega arith)
@@ -39,7 +40,7 @@ module _ {b : ℕ → ℕ} {mode : Mode} {held : ℕ → Bool} where
   stop-wider (no-blank n e y k) r′ w z = absurd (z refl)
 
   refuses-wider : {P : Plan} {r : Room} {π ρ : Path} {wall at n p : ℕ} → Refuses b mode held P r π wall at n p ρ
-      → (r′ : Room) → Wider r r′ → (n ≡ 7 → ⊥) → Refuses b mode held P r′ π wall at n p ρ
+      → (r′ : Room) → Wider r r′ → (n ≡ eventRoom → ⊥) → Refuses b mode held P r′ π wall at n p ρ
   refuses-wider (here x) r′ w z = here (stop-wider x r′ w z)
   refuses-wider (inside x s d) r′ w z =
       inside {r = r′} x (omega arith) (refuses-wider d (lessOne r′) (record { slots = omega arith; bytes = w .bytes }) z)
@@ -53,7 +54,7 @@ module _ (l : List ℕ) (name type : ℕ) (s : List ℕ) (w w′ x : ℕ) (h : w
   wider : Wider (roomOf w x) (roomOf w′ x)
   wider = record { slots = omega arith; bytes = refl }
 
-  replies-wider : {R : Reply} → Replies l name type s w x R → (outcome R .number ≡ 7 → ⊥) → Replies l name type s w′ x R
+  replies-wider : {R : Reply} → Replies l name type s w x R → (outcome R .number ≡ eventRoom → ⊥) → Replies l name type s w′ x R
   unfolding outcome
   replies-wider (no-table v) z = no-table v
   replies-wider (no-root v a) z = no-root v a
@@ -63,6 +64,6 @@ module _ (l : List ℕ) (name type : ℕ) (s : List ℕ) (w w′ x : ℕ) (h : w
   replies-wider (whole i r e) z = whole i (goes-wider r (roomOf w′ x) wider) e
 
   -- more words lent: the same reading, but where there were too few
-  pub more-room : (outcome (reading l name type s w x) .number ≡ 7 → ⊥)
+  pub more-room : (outcome (reading l name type s w x) .number ≡ eventRoom → ⊥)
       → reading l name type s w′ x ≡ reading l name type s w x
   more-room z = replies-reading l name type s w′ x (replies-wider (reading-replies l name type s w x) z)

@@ -1,12 +1,12 @@
 -- A table whose length is wrong, judged by its first four words: what the calls lend of it to the word functions.
 use Prim.Native.Nat.{ℕ, zero, suc, _/_, _%_, _≤_, _<_, min}
-use mathlib.Core.Path.{_≡_, refl, sym, ap, _∙_}
-use mathlib.Core.List.{List, [], _∷_}
+use mathlib.Core.Path.{_≡_, refl, sym, ap, subst, _∙_}
+use mathlib.Core.List.{List, [], _∷_, _++_}
 use mathlib.Core.Bool.{Bool, true, false, cond, _&&_, true≢false}
 use native.Mathlib.Omega.{arith}
 use borrow.Author.Tests.{leb-true, leb-false, ne-eqb, eq-eqb, lt-ltb, le-ltb, eqb-true}
 use lib.Dec.{eqb, leb}
-use lib.ListN.{length, take, getD, length-take, List·getD-eq-default}
+use lib.ListN.{length, take, drop, getD, length-take, List·getD-eq-default}
 use lib.Seq.{take-all}
 use Rattle.numbers.specs.Limit.{mostTypes, mostAttributes, mostParticles, mostTableWords}
 use Rattle.signed.proofs.Laws.{ordered}
@@ -16,9 +16,9 @@ use Rattle.table.specs.First.Verdict.{right, wrong}
 use Rattle.table.proofs.FirstLaws.{then-right, then-wrong, right-every, wrong-fails}
 use Rattle.table.specs.Valid.{given, headerWords, verdict, verdictFrom}
 use Rattle.buffers.specs.Bytes.{wordsOf}
-use Rattle.buffers.proofs.BytesLaws.{words-length}
+use Rattle.buffers.proofs.BytesLaws.{words-length, loaded-front}
 use Rattle.bim.specs.Calls.{tableVerdict}
-use Rattle.bim.specs.TableRoom.{placed, wordsLent}
+use Rattle.bim.specs.TableRoom.{placeInTable, wordsLent, Lends}
 
 -- the words of the header are those of the first four words
 header-front : (l : List ℕ) → headerWords (take 4 l) ≡ headerWords l
@@ -100,7 +100,7 @@ too-long l h = go (first 0 (headerWords l)) refl
 -- So four words are enough: they are no table, and tell the header's fault or the length's.
 pub record Four (l : List ℕ) (m : ℕ) (i : ℕ) : Type 0 where
   pub seen : verdict (take 4 l) ≡ wrong i
-  pub meant : headed l m ≡ wrong (placed (length (take 4 l)) m i)
+  pub meant : headed l m ≡ wrong (placeInTable (length (take 4 l)) m i)
 
 four-words : (l : List ℕ) (m : ℕ) → (i : ℕ) × Four l m i
 unfolding _then_
@@ -122,7 +122,7 @@ four-words l m = go (first 0 (headerWords l)) refl
 -- what the words lent tell of the table
 pub data Told (t : List ℕ) (k : ℕ) : Type 0 where
   whole : tableVerdict t ≡ verdict (wordsOf t) → take k (wordsOf t) ≡ wordsOf t → k ≡ length t / 4 → Told t k
-  part : (i : ℕ) → verdict (take k (wordsOf t)) ≡ wrong i → tableVerdict t ≡ wrong (placed k (length t / 4) i) → Told t k
+  part : (i : ℕ) → verdict (take k (wordsOf t)) ≡ wrong i → tableVerdict t ≡ wrong (placeInTable k (length t / 4) i) → Told t k
 
 module _ (t : List ℕ) where
   abbrev l : List ℕ
@@ -134,7 +134,7 @@ module _ (t : List ℕ) where
   in-part : (k : ℕ) → tableVerdict t ≡ headed l m → take k l ≡ take 4 l → k ≡ length (take 4 l) → Told t k
   in-part k v e g =
       let f = four-words l m in
-      part (f .0) (ap verdict e ∙ f .1 .seen) (v ∙ f .1 .meant ∙ ap (λ (j : ℕ). wrong (placed j m (f .0))) (sym g))
+      part (f .0) (ap verdict e ∙ f .1 .seen) (v ∙ f .1 .meant ∙ ap (λ (j : ℕ). wrong (placeInTable j m (f .0))) (sym g))
 
   of-four : (n : ℕ) → n ≡ m → take (min n 4) l ≡ take 4 l
   of-four n e = ordered n 4 (λ h. go (omega (arith, words-length t))) (λ h. let z : min n 4 ≡ 4 = omega arith in rw z)
@@ -154,13 +154,23 @@ module _ (t : List ℕ) where
           rw (e, f) (in-part 4 (rw e (too-long l (omega arith) ∙ ap (headed l) n)) refl (omega (arith, length-take 4 l)))
       go false y e f = rw e (in-part (min m 4) (rw e) (of-four m refl) (omega (arith, length-take 4 l, words-length t)))
 
+-- the words of a table in the room that each call lends: what they are, and what they tell of it
+pub record Seen (t words : List ℕ) (k : ℕ) : Type 0 where
+  pub front : take k words ≡ take k (wordsOf t)
+  pub tells : Told t k
+
+pub seen : (t room words : List ℕ) (k : ℕ) → Lends k (length t) (length room)
+    → words ≡ take k (wordsOf t) ++ drop k room → Seen t words k
+seen t room words k h l =
+    record { front = loaded-front t room words k l (h .given); tells = subst (Told t) (sym (h .words)) (told t) }
+
 -- the verdict over the words lent, its place moved
 abbrev pub moved : (seen given : ℕ) → Verdict → Verdict
 moved seen given right = right
-moved seen given (wrong i) = wrong (placed seen given i)
+moved seen given (wrong i) = wrong (placeInTable seen given i)
 
-pub placed-same : (k i : ℕ) → placed k k i ≡ i
-placed-same k i = go (eqb i k) refl
+pub in-table-same : (k i : ℕ) → placeInTable k k i ≡ i
+in-table-same k i = go (eqb i k) refl
   where
     go : (b : Bool) → eqb i k ≡ b → cond b k i ≡ i
     go true e = sym (eqb-true i k e)
@@ -168,7 +178,7 @@ placed-same k i = go (eqb i k) refl
 
 pub moved-same : (k : ℕ) (v : Verdict) → moved k k v ≡ v
 moved-same k right = refl
-moved-same k (wrong i) = ap wrong (placed-same k i)
+moved-same k (wrong i) = ap wrong (in-table-same k i)
 
 pub verdict-lent : (t : List ℕ) (k : ℕ) → Told t k → tableVerdict t ≡ moved k (length t / 4) (verdict (take k (wordsOf t)))
 verdict-lent t k (whole e f g) =

@@ -11,7 +11,7 @@ use Rattle.table.specs.First.{Verdict, first, _then_}
 use Rattle.table.specs.First.Verdict.{right, wrong}
 use Rattle.table.specs.Valid.{headerWords, verdict}
 use Rattle.buffers.specs.Bytes.{wordsOf}
-use Rattle.bim.specs.Area.{areaOf}
+use Rattle.bim.specs.Area.{areaOf, areaBytes}
 use Rattle.bim.specs.Calls.{back, lent, judged, tableVerdict, checkTable}
 
 never-right : (v : Verdict) (i : ℕ) → (v then wrong i) ≡ right → ⊥
@@ -35,7 +35,7 @@ module _ (t : List ℕ) where
   whole-right e f = rw (eq-eqb (length t % 4) 0 e, f)
 
   -- `bim_check_table` gives 0 only of such a table
-  pub checked-right : checkTable t 152 .number ≡ 0 → tableVerdict t ≡ right
+  pub checked-right : checkTable t areaBytes .number ≡ 0 → tableVerdict t ≡ right
   unfolding checkTable lent
   checked-right e = go (tableVerdict t) refl e
     where

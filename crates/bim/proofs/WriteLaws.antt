@@ -22,18 +22,18 @@ use Rattle.model.specs.Whole.Made.{unmade}
 use Rattle.buffers.specs.Bytes.{wordsOf}
 use Rattle.buffers.proofs.BytesLaws.{words-length}
 use Rattle.bim.specs.Calls.{unlisted, writeList, writeBytes}
-use Rattle.bim.specs.TableRoom.{placed}
+use Rattle.bim.specs.TableRoom.{placeInTable}
 use Rattle.bim.proofs.TableLaws.{Told, whole, part}
-use Rattle.bim.specs.EventRoom.{placedIn}
-use Rattle.bim.proofs.ReadLaws.{placed-in-same}
+use Rattle.bim.specs.EventRoom.{outcomeInTable}
+use Rattle.bim.proofs.ReadLaws.{outcome-in-same}
 
-guards-two : (u v : Bool) (n : ℕ) → (guard u 2 >> guard v 2) ≡ fault n → n ≡ 2
+guards-two : (u v : Bool) (n : ℕ) → (guard u refusal.root >> guard v refusal.root) ≡ fault n → n ≡ refusal.root
 unfolding guard _>>_
 guards-two true true n e = let z : _≡_ {A = ℕ} 0 1 = cc in absurd (omega arith)
 guards-two true false n e = cc
 guards-two false v n e = cc
 
-mode-fault : (mode n : ℕ) → modeAsked mode ≡ fault n → n ≡ 22
+mode-fault : (mode n : ℕ) → modeAsked mode ≡ fault n → n ≡ refusal.writeMode
 unfolding modeAsked
 mode-fault zero n e = let z : _≡_ {A = ℕ} 0 1 = cc in absurd (omega arith)
 mode-fault (suc zero) n e = let z : _≡_ {A = ℕ} 0 1 = cc in absurd (omega arith)
@@ -66,10 +66,10 @@ module _ (l : List ℕ) (name type mode : ℕ) where
 
   -- noReading is at the place that is asked for, and no number before it depends on that place
   pub data Unlisted : Type 0 where
-    early : (k p : ℕ) → (k ≡ 18 → ⊥) → ((n : ℕ) → unlisted l name type mode n ≡ unmade k p) → Unlisted
+    early : (k p : ℕ) → (k ≡ noReading → ⊥) → ((n : ℕ) → unlisted l name type mode n ≡ unmade k p) → Unlisted
     late : ((n : ℕ) → unlisted l name type mode n ≡ unmade noReading n) → Unlisted
 
-  asked-two : (types n : ℕ) → asked types name type ≡ fault n → n ≡ 2
+  asked-two : (types n : ℕ) → asked types name type ≡ fault n → n ≡ refusal.root
   unfolding asked atMost _>>_ _>>=_
   asked-two types n e = guards-two (leb (suc type) types) (leb name mostName) n e
 
@@ -85,21 +85,21 @@ module _ (l : List ℕ) (name type mode : ℕ) where
 
 -- what the writing of the words lent tells of the writing of the bytes
 pub record Wrote (M M′ : Made) (k m mode events text room : ℕ) : Type 0 where
-  pub answer : outcomeMade mode events text M ≡ placedIn k m (outcomeMade mode events text M′)
+  pub answer : outcomeMade mode events text M ≡ outcomeInTable k m (outcomeMade mode events text M′)
   pub payload : payloadLeft room M ≡ payloadLeft room M′
 
 same-made : (M M′ : Made) (k m mode events text room : ℕ) → M ≡ M′ → k ≡ m → Wrote M M′ k m mode events text room
 same-made M M′ k m mode events text room r g =
     record {
-      answer = ap (outcomeMade mode events text) r ∙ sym (placed-in-same k (outcomeMade mode events text M′)) ∙ ap (λ (j : ℕ). placedIn k j (outcomeMade mode events text M′)) g;
+      answer = ap (outcomeMade mode events text) r ∙ sym (outcome-in-same k (outcomeMade mode events text M′)) ∙ ap (λ (j : ℕ). outcomeInTable k j (outcomeMade mode events text M′)) g;
       payload = ap (payloadLeft room) r;
     }
 
-both-unmade : (M M′ : Made) (k m mode events text room i : ℕ) → M ≡ unmade refusal.table (placed k m i) → M′ ≡ unmade refusal.table i → Wrote M M′ k m mode events text room
+both-unmade : (M M′ : Made) (k m mode events text room i : ℕ) → M ≡ unmade refusal.table (placeInTable k m i) → M′ ≡ unmade refusal.table i → Wrote M M′ k m mode events text room
 unfolding outcomeMade payloadLeft
 both-unmade M M′ k m mode events text room i r r′ =
     record {
-      answer = ap (outcomeMade mode events text) r ∙ sym (ap (λ (z : Made). placedIn k m (outcomeMade mode events text z)) r′);
+      answer = ap (outcomeMade mode events text) r ∙ sym (ap (λ (z : Made). outcomeInTable k m (outcomeMade mode events text z)) r′);
       payload = ap (payloadLeft room) r ∙ sym (ap (payloadLeft room) r′);
     }
 

@@ -1,4 +1,5 @@
--- THE CALLS FOR C, over bytes, on every input: the number given back, and the final content of the area and of each output buffer.
+-- THE CALLS FOR C, over bytes, on every input: the number given back, and the final content of the area and of each
+-- output buffer.
 use Prim.Native.Nat.{ℕ, _/_, _%_}
 use mathlib.Core.Bool.{cond}
 use mathlib.Core.List.{List, [], _∷_, map}
@@ -12,7 +13,9 @@ use Rattle.table.specs.First.Verdict.{right, wrong}
 use Rattle.table.specs.Valid.{headerWords, verdict}
 use Rattle.table.specs.Rows.{tableOf}
 use Rattle.model.specs.Model.{events}
-use Rattle.model.specs.Whole.{Reply, Outcome, Made, declines, filled, eventWords, outcome, reading, afterVerdict, textsLeft, writing, verdictMade, orUnmade, asked, modeAsked, outcomeMade, payloadLeft}
+use Rattle.model.specs.Whole.{Outcome, declines, filled, asked}
+use Rattle.model.specs.Whole.{Reply, outcome, reading, afterVerdict, eventWords, textsLeft}
+use Rattle.model.specs.Whole.{Made, outcomeMade, writing, verdictMade, orUnmade, modeAsked, payloadLeft}
 use Rattle.model.specs.Whole.Reply.{accepted, declined}
 use Rattle.model.specs.Whole.Made.{unmade}
 use Rattle.buffers.specs.Bytes.{wordsOf, bytesOf}
@@ -30,13 +33,15 @@ back number area buffers = record { number = number; area = area; buffers = buff
 abbrev pub zeros : ℕ → List ℕ
 zeros n = replicate n 0
 
--- its size first: the area, whatever that is, and the output buffers are zero throughout; else the answer is in the area
+-- its size first: an area of another size, and the output buffers, are zero throughout; else the answer is in the area
 unfoldable pub lent : (area : ℕ) (sizes : List ℕ) → Outcome → List (List ℕ) → Back
-lent area sizes o buffers = cond (eqb area areaBytes) (back (o .number) (areaOf o) buffers) (back areaSize (zeros area) (map zeros sizes))
+lent area sizes o buffers =
+    cond (eqb area areaBytes) (back (o .number) (areaOf o) buffers) (back areaSize (zeros area) (map zeros sizes))
 
 -- The table's bytes judged: where they are no multiple of 4, the header of the whole words, and then the length.
 unfoldable pub tableVerdict : List ℕ → Verdict
-tableVerdict t = cond (eqb (length t % 4) 0) (verdict (wordsOf t)) (first 0 (headerWords (wordsOf t)) then wrong (length t / 4))
+tableVerdict t =
+    cond (eqb (length t % 4) 0) (verdict (wordsOf t)) (first 0 (headerWords (wordsOf t)) then wrong (length t / 4))
 
 abbrev pub judged : Verdict → Outcome
 judged right = declines 0 0 []
@@ -46,7 +51,8 @@ judged (wrong i) = declines refusal.table i []
 unfoldable pub checkTable : List ℕ → ℕ → Back
 checkTable t area = lent area [] (judged (tableVerdict t)) []
 
--- The reading of bytes: e / 4 words are lent for events, so that there is room for e / limit.event of them, at most mostEvents.
+-- The reading of bytes: e / 4 words are lent for events, so that there is room for e / limit.event of them, at most
+-- mostEvents.
 unfoldable pub readBytes : List ℕ → ℕ → ℕ → List ℕ → ℕ → ℕ → Reply
 readBytes t name type s e x = afterVerdict (tableVerdict t) (reading (wordsOf t) name type s (e / 4) x)
 
@@ -61,14 +67,17 @@ readCall t name type s e x area =
     let r = readBytes t name type s e x in
     lent area (e ∷ x ∷ []) (outcome r) (eventsBack e r ∷ textsLeft x r ∷ [])
 
--- The writing of a list's bytes: where they are no whole events, noReading at the number of them that are whole, after table, root and mode.
+-- The writing of a list's bytes: where they are no whole events, noReading at the number of them that are whole, after
+-- table, root and mode.
 unfoldable pub unlisted : List ℕ → ℕ → ℕ → ℕ → ℕ → Made
 unlisted l name type mode n =
-    verdictMade (verdict l) (orUnmade (asked (tableOf l .types) name type) (λ u. orUnmade (modeAsked mode) (λ m. unmade noReading n)))
+    verdictMade (verdict l)
+    (orUnmade (asked (tableOf l .types) name type) (λ u. orUnmade (modeAsked mode) (λ m. unmade noReading n)))
 
 unfoldable pub writeList : List ℕ → ℕ → ℕ → ℕ → List ℕ → List ℕ → ℕ → Made
 writeList l name type mode e x room =
-    cond (eqb (length e % limit.event) 0) (writing l name type mode (wordsOf e) x room) (unlisted l name type mode (length e / limit.event))
+    cond (eqb (length e % limit.event) 0) (writing l name type mode (wordsOf e) x room)
+    (unlisted l name type mode (length e / limit.event))
 
 unfoldable pub writeBytes : List ℕ → ℕ → ℕ → ℕ → List ℕ → List ℕ → ℕ → Made
 writeBytes t name type mode e x room = verdictMade (tableVerdict t) (writeList (wordsOf t) name type mode e x room)

@@ -1,8 +1,8 @@
 -- THE THREE DEMANDS OF THE CALLS THAT A HOST MAKES, over bytes: tables, payloads, events, texts and areas. The calls'
 -- contracts (src/lib.rt, src/bits.rt) are equations with `checkTable`, `readCall`, `writeCall`, `bitsCall` (Calls,
 -- Bits), so that what is said of these is said of the calls. proofs/Demands.antt has the theorems `demand1`,
--- `demand2`, `demand3`. An area of another size than 152 bytes (12 of the bit reader's calls) is demand 1's: nothing
--- is accepted with it.
+-- `demand2`, `demand3`. An area of another size than areaBytes (bitsArea of the bit reader's calls) is demand 1's:
+-- nothing is accepted with it.
 use Prim.Native.Nat.{ℕ, _+_, _*_, _/_, _%_, _≤_, _<_, min}
 use mathlib.Core.Path.{_≡_}
 use mathlib.Core.Logic.{_↔_}
@@ -12,7 +12,7 @@ use mathlib.Core.Option.{Option, none, some}
 use lib.ListN.{length, getD, take}
 use Rattle.numbers.specs.Refusal.{areaSize, notHeld}
 use Rattle.numbers.specs.Kind as kinds
-use Rattle.numbers.specs.Limit.{bitsArea, mostNames, mostOpen, mostPayload, mostWord}
+use Rattle.numbers.specs.Limit.{bitsArea, event, mostNames, mostOpen, mostPayload, mostWord}
 use Rattle.table.specs.Rows.{Row, tableOf, heldOf}
 use Rattle.table.specs.Held.{Alike}
 use Rattle.value.specs.Simple.{Octets}
@@ -32,7 +32,7 @@ use Rattle.theorems.specs.Demand2.{Valid, payloadOf, bytesFor}
 use Rattle.theorems.specs.Demand3.{newOf}
 use Rattle.bit_reader.specs.Codes.{leftAt}
 use Rattle.bit_reader.specs.declared.codes.Coding.{Coding}
-use Rattle.bim.specs.Area.{areaOf, areaBytes, capped, told}
+use Rattle.bim.specs.Area.{areaOf, areaBytes, placeWord, told, modeAt, eventsAt, textAt, bitsAt, countAt, namesAt}
 use Rattle.bim.specs.Calls.{Back, back, zeros, checkTable, readCall, writeCall}
 use Rattle.bim.specs.Bits.{bitsCall}
 
@@ -52,8 +52,8 @@ shown e x mode tree used =
 abbrev pub wrote : (room mode n text used : ℕ) → (payload : List ℕ) → Back
 wrote room mode n text used payload = back 0 (areaOf (told 0 mode n text used [])) (filled room payload ∷ [])
 
--- DEMAND 1. Every call is answered: with 0; or with 24 where the area has another size, which is then zero throughout;
--- or with a refusal whose place and path stand in the area. Only 0 leaves something in an output buffer.
+-- DEMAND 1. Every call is answered: with 0; or with areaSize where the area has another size, which is then zero
+-- throughout; or with a refusal whose place and path stand in the area. Only 0 leaves something in an output buffer.
 pub data Answered (area : ℕ) (sizes : List ℕ) (o : Back) : Type 0 where
   accepted : area ≡ areaBytes → o .number ≡ 0 → Answered area sizes o
   no-area : (area ≡ areaBytes → ⊥) → o ≡ back areaSize (zeros area) (map zeros sizes) → Answered area sizes o
@@ -70,18 +70,18 @@ pub data AnsweredBits (s : List ℕ) (at area : ℕ) (o : Back) : Type 0 where
 
 -- What the accessors of include/bim.h fetch from an area.
 pub record Fetches (A : List ℕ) (o : Outcome) : Type 0 where
-  pub place : wordFrom A 0 ≡ capped (o .place)
-  pub mode : wordFrom A 4 ≡ o .mode
-  pub events : wordFrom A 8 ≡ o .events
-  pub text : wordFrom A 12 ≡ o .text
-  pub bits : wordFrom A 16 ≡ o .bits
-  pub names : wordFrom A 20 ≡ length (o .path)
-  pub name : (i : ℕ) → halfFrom A (24 + 2 * i) ≡ getD (o .path) i 0
+  pub place : wordFrom A 0 ≡ placeWord (o .place)
+  pub mode : wordFrom A modeAt ≡ o .mode
+  pub events : wordFrom A eventsAt ≡ o .events
+  pub text : wordFrom A textAt ≡ o .text
+  pub bits : wordFrom A bitsAt ≡ o .bits
+  pub names : wordFrom A countAt ≡ length (o .path)
+  pub name : (i : ℕ) → halfFrom A (namesAt + 2 * i) ≡ getD (o .path) i 0
 
-abbrev pub cappedAt : Outcome → Outcome
-cappedAt o = record {
+abbrev pub withPlaceWord : Outcome → Outcome
+withPlaceWord o = record {
   number = o .number;
-  place = capped (o .place);
+  place = placeWord (o .place);
   mode = o .mode;
   events = o .events;
   text = o .text;
@@ -99,7 +99,7 @@ pub record Demand1 : Type 0 where
   -- an area can be read back, part by part; so two answers with one number and one area are one answer, but for
   -- places over 2^32 - 1
   pub fetches : (o : Outcome) → Fetches (areaOf o) o
-  pub one-area : (o o′ : Outcome) → o .number ≡ o′ .number → areaOf o ≡ areaOf o′ → cappedAt o ≡ cappedAt o′
+  pub one-area : (o o′ : Outcome) → o .number ≡ o′ .number → areaOf o ≡ areaOf o′ → withPlaceWord o ≡ withPlaceWord o′
 
 -- DEMAND 2. The payload's bytes s have this reading: `IsReading` (model/specs/Reader) says that table and root are
 -- right, that s is a mode byte, bits that the grammar (001, 8.4 and 8.5: `Grammar.Is`) lets stand for the tree, and
@@ -125,7 +125,9 @@ pub record Reads (t : List ℕ) (name type : ℕ) (s : List ℕ) (e x : ℕ) : T
   pub shows : readCall t name type s e x areaBytes ≡ shown e x mode tree used
   -- content models and occurrence bounds; Blanks of types that are not held, elements of types that are; true bit
   -- counts
-  pub follows : Model (tableOf (wordsOf t)) mode (heldOf (wordsOf t)) mostOpen (row (Row.element name type)) (map bare (events tree)) (texts tree)
+  pub follows :
+      Model (tableOf (wordsOf t)) mode (heldOf (wordsOf t)) mostOpen (row (Row.element name type))
+      (map bare (events tree)) (texts tree)
   pub blanks : Exact (heldOf (wordsOf t)) tree
   pub counts : 8 + total (events tree) ≡ used
 
@@ -140,18 +142,19 @@ pub record Writes (t : List ℕ) (name type n : ℕ) (E X : List ℕ) (room : �
   pub used : ℕ
   pub size : length payload ≡ (used + 7) / 8
   pub fits : length payload ≤ room
-  pub wrote-it : writeCall t name type n E X room areaBytes ≡ wrote room n (length E / 16) (length X) used payload
+  pub wrote-it : writeCall t name type n E X room areaBytes ≡ wrote room n (length E / event) (length X) used payload
   pub counts : 8 + total (events (valid .tree)) ≡ used
   pub reads : (e x : ℕ) → length E ≤ e → length X ≤ x
       → readCall t name type payload e x areaBytes ≡ shown e x mode (valid .tree) used
 
 -- None of the first n events in these bytes is a Blank.
 abbrev pub NoBlankIn : List ℕ → ℕ → Type 0
-NoBlankIn E n = (i : ℕ) → i < n → wordFrom E (16 * i) ≡ kinds.blank → ⊥
+NoBlankIn E n = (i : ℕ) → i < n → wordFrom E (event * i) ≡ kinds.blank → ⊥
 
 pub record Demand2 : Type 0 where
   -- what is accepted is the reading, and every reading is accepted
-  pub accepts-only : (t : List ℕ) (name type : ℕ) (s : List ℕ) (e x : ℕ) → readCall t name type s e x areaBytes .number ≡ 0
+  pub accepts-only : (t : List ℕ) (name type : ℕ) (s : List ℕ) (e x : ℕ)
+      → readCall t name type s e x areaBytes .number ≡ 0
       → Reads t name type s e x
   pub accepts-all : (t : List ℕ) (name type : ℕ) (s : List ℕ) (e x : ℕ) (mode : Mode) (tree : Nodes) (used : ℕ)
       → Reading t name type s e x mode tree used → readCall t name type s e x areaBytes ≡ shown e x mode tree used
@@ -162,17 +165,18 @@ pub record Demand2 : Type 0 where
   pub writes-only : (t : List ℕ) (name type n : ℕ) (E X : List ℕ) (room : ℕ)
       → writeCall t name type n E X room areaBytes .number ≡ 0 → Writes t name type n E X room
   pub writes-all : (t : List ℕ) (name type : ℕ) (mode : Mode) (E X : List ℕ) (room : ℕ)
-      → (h : Valid (wordsOf t) name type mode (wordsOf E) X) → length t % 4 ≡ 0 → length E % 16 ≡ 0
+      → (h : Valid (wordsOf t) name type mode (wordsOf E) X) → length t % 4 ≡ 0 → length E % event ≡ 0
       → bytesFor (h .bits) ≤ min room mostPayload
       → writeCall t name type (modeNumber mode) E X room areaBytes
-      ≡ wrote room (modeNumber mode) (length E / 16) (length X) (8 + length (h .bits)) (payloadOf mode (h .bits))
+      ≡ wrote room (modeNumber mode) (length E / event) (length X) (8 + length (h .bits)) (payloadOf mode (h .bits))
   -- what was read without a Blank is written back byte for byte, given room: the host hands over mode, events and
   -- texts as the area counts them. The first two premises are the two clauses of `bim_read`'s contract
   pub writes-back : (t : List ℕ) (name type : ℕ) (s A E T : List ℕ) (e x room : ℕ)
       → back 0 A (E ∷ T ∷ []) ≡ readCall t name type s e x areaBytes → Octets s
-      → NoBlankIn E (wordFrom A 8) → length s ≤ room
-      → writeCall t name type (wordFrom A 4) (take (16 * wordFrom A 8) E) (take (wordFrom A 12) T) room areaBytes
-      ≡ wrote room (wordFrom A 4) (wordFrom A 8) (wordFrom A 12) (wordFrom A 16) s
+      → NoBlankIn E (wordFrom A eventsAt) → length s ≤ room
+      → writeCall t name type (wordFrom A modeAt) (take (event * wordFrom A eventsAt) E) (take (wordFrom A textAt) T)
+      room areaBytes
+      ≡ wrote room (wordFrom A modeAt) (wordFrom A eventsAt) (wordFrom A textAt) (wordFrom A bitsAt) s
 
 -- DEMAND 3. Two tables that `bim_check_table` accepts, alike but for held marks, the second holding all that the
 -- first holds.

@@ -5,7 +5,7 @@ use buffers::store;
 use numbers::limit;
 ghost use mathlib.Core.Path.{_≡_};
 ghost use mathlib.Core.List.{[]};
-ghost use Prim.Native.Nat.{_≤_};
+ghost use Prim.Native.Nat.{_*_, _≤_};
 ghost use lib.ListN.{length, getD};
 ghost use Rattle.numbers.specs.Limit as limit;
 ghost use Rattle.numbers.specs.Limit.{mostNames};
@@ -14,13 +14,16 @@ ghost use Rattle.reader.specs.Answers.{firstNames};
 ghost use Rattle.buffers.specs.Bytes.{namesOf};
 ghost use Rattle.bim.specs.Area as meaning;
 
-const PLACE: usize = limit::MOST_WORD as usize;
+const MOST_PLACE: usize = limit::MOST_WORD as usize;
 
-// A place stops at MOST_WORD.
-fn capped(place: usize) -> u32
-    ensures { λ r. ⌜ r ≡ meaning.capped place ⌝ }
+// The bytes of the six words that stand before the names.
+const HEAD: usize = limit::AREA - 2 * limit::MOST_NAMES;
+
+// A place as a word of the area: one past MOST_WORD is told as MOST_WORD.
+fn place_word(place: usize) -> u32
+    ensures { λ r. ⌜ r ≡ meaning.placeWord place ⌝ }
 {
-    if place < PLACE {
+    if place < MOST_PLACE {
         place as u32
     } else {
         limit::MOST_WORD
@@ -39,9 +42,10 @@ fn name_at(names: &[u16], count: usize, i: usize) -> u16
     0
 }
 
-// The first count names, and zeros for the rest, name by name.
+// Stores the first count names, and zeros for the rest of MOST_NAMES, name by name.
 fn put_each(s: &mut [u8], names: &[u16], count: usize)
-    requires { ⌜ (length (now s) ≡ 128) × (count ≤ mostNames) ⌝ }
+    requires room { ⌜ length (now s) ≡ 2 * mostNames ⌝ }
+    requires most { ⌜ count ≤ mostNames ⌝ }
     ensures { λ _. ⌜ now (s .exit) ≡ namesOf (filled mostNames (firstNames (now (names .entry)) count)) ⌝ }
 {
     let mut i = 0;
@@ -51,9 +55,10 @@ fn put_each(s: &mut [u8], names: &[u16], count: usize)
     }
 }
 
-// The same; most answers have no name.
+// Stores the first count names and clears the rest. Most answers have none: those bytes are cleared in one pass.
 fn put_names(s: &mut [u8], names: &[u16], count: usize)
-    requires { ⌜ (length (now s) ≡ 128) × (count ≤ mostNames) ⌝ }
+    requires room { ⌜ length (now s) ≡ 2 * mostNames ⌝ }
+    requires most { ⌜ count ≤ mostNames ⌝ }
     ensures { λ _. ⌜ now (s .exit) ≡ namesOf (filled mostNames (firstNames (now (names .entry)) count)) ⌝ }
 {
     if count == 0 {
@@ -75,11 +80,13 @@ pub fn tell(
     count: usize,
 )
     requires { ⌜ (length (now area) ≡ limit.area) × (count ≤ mostNames) ⌝ }
-    ensures { λ _. ⌜ now (area .exit) ≡ meaning.areaOf (meaning.told place mode events text bits (firstNames (now (names .entry)) count)) ⌝ }
+    ensures { λ _. ⌜
+        now (area .exit)
+        ≡ meaning.areaOf (meaning.told place mode events text bits (firstNames (now (names .entry)) count)) ⌝ }
 {
-    let head = [capped(place), mode, events, text, bits, count as u32];
+    let head = [place_word(place), mode, events, text, bits, count as u32];
     store(&head, area);
-    put_names(&mut area[24..], names, count);
+    put_names(&mut area[HEAD..], names, count);
 }
 
 // The area of an answer that is a place alone.

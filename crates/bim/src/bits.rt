@@ -1,4 +1,5 @@
-// The lent bit reader for a C host: one code of bytes at a place. The number is given back; value, place and bits left stand in an area.
+// The lent bit reader for a C host: one code of bytes at a place. The number is given back; value, place and bits
+// left stand in an area.
 use bit_reader::code;
 use bit_reader::codes::Coding;
 use bit_reader::codes::left_at;
@@ -17,7 +18,9 @@ ghost use Rattle.bim.specs.Bits.{bitsCall};
 
 // A code read, and told in an area of BITS_AREA bytes.
 fn read_code(bytes: &[u8], place: u32, coding: Coding, area: &mut [u8]) -> u32
-    ensures { λ r. ⌜ back r (now (area .exit)) [] ≡ bitsCall (now (bytes .entry)) place coding (length (now (area .entry))) ⌝ }
+    ensures { λ r. ⌜
+        back r (now (area .exit)) []
+        ≡ bitsCall (now (bytes .entry)) place coding (length (now (area .entry))) ⌝ }
 {
     if area.len() != limit::BITS_AREA {
         clear(area);
@@ -34,7 +37,9 @@ fn read_code(bytes: &[u8], place: u32, coding: Coding, area: &mut [u8]) -> u32
 // A number in so many bits.
 #[no_mangle]
 pub extern "C" fn bim_bits_fixed(bytes: &[u8], place: u32, width: u32, area: &mut [u8]) -> u32
-    ensures { λ r. ⌜ back r (now (area .exit)) [] ≡ bitsCall (now (bytes .entry)) place (coding.Fixed width) (length (now (area .entry))) ⌝ }
+    ensures { λ r. ⌜
+        back r (now (area .exit)) []
+        ≡ bitsCall (now (bytes .entry)) place (coding.Fixed width) (length (now (area .entry))) ⌝ }
 {
     read_code(bytes, place, Coding::Fixed(width), area)
 }
@@ -42,7 +47,9 @@ pub extern "C" fn bim_bits_fixed(bytes: &[u8], place: u32, width: u32, area: &mu
 // A vluimsbf5 in shortest form.
 #[no_mangle]
 pub extern "C" fn bim_bits_vlu5(bytes: &[u8], place: u32, area: &mut [u8]) -> u32
-    ensures { λ r. ⌜ back r (now (area .exit)) [] ≡ bitsCall (now (bytes .entry)) place coding.Five (length (now (area .entry))) ⌝ }
+    ensures { λ r. ⌜
+        back r (now (area .exit)) []
+        ≡ bitsCall (now (bytes .entry)) place coding.Five (length (now (area .entry))) ⌝ }
 {
     read_code(bytes, place, Coding::Five, area)
 }
@@ -50,7 +57,9 @@ pub extern "C" fn bim_bits_vlu5(bytes: &[u8], place: u32, area: &mut [u8]) -> u3
 // A vluimsbf8 of at most two bytes in shortest form.
 #[no_mangle]
 pub extern "C" fn bim_bits_vlu8(bytes: &[u8], place: u32, area: &mut [u8]) -> u32
-    ensures { λ r. ⌜ back r (now (area .exit)) [] ≡ bitsCall (now (bytes .entry)) place coding.Eight (length (now (area .entry))) ⌝ }
+    ensures { λ r. ⌜
+        back r (now (area .exit)) []
+        ≡ bitsCall (now (bytes .entry)) place coding.Eight (length (now (area .entry))) ⌝ }
 {
     read_code(bytes, place, Coding::Eight, area)
 }

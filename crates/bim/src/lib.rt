@@ -1,8 +1,10 @@
-// The calls for a C host, over bytes: words are 4 big-endian bytes, the answer is a number and an area. include/bim.h declares them.
+// The calls for a C host, over bytes: words are 4 big-endian bytes, the answer is a number and an area.
+// include/bim.h declares them; specs/Calls says what each gives back, on every input.
 mod answers;
 mod area;
 mod bits;
 mod reads;
+mod rooms;
 mod tables;
 mod writes;
 
@@ -25,7 +27,9 @@ ghost use Rattle.bim.specs.Calls.{back, checkTable, readCall, writeCall}
 // Judges a table.
 #[no_mangle]
 pub extern "C" fn bim_check_table(table: &[u8], area: &mut [u8]) -> u32
-    ensures { λ r. ⌜ back r (now (area .exit)) [] ≡ checkTable (now (table .entry)) (length (now (area .entry))) ⌝ }
+    ensures { λ r. ⌜
+        back r (now (area .exit)) []
+        ≡ checkTable (now (table .entry)) (length (now (area .entry))) ⌝ }
 {
     if area.len() != limit::AREA {
         clear(area);
@@ -54,7 +58,10 @@ pub extern "C" fn bim_read(
     texts: &mut [u8],
     area: &mut [u8],
 ) -> u32
-    ensures answer { λ r. ⌜ back r (now (area .exit)) (now (events .exit) ∷ now (texts .exit) ∷ []) ≡ readCall (now (table .entry)) «root_name» «root_type» (now (payload .entry)) (length (now (events .entry))) (length (now (texts .entry))) (length (now (area .entry))) ⌝ }
+    ensures answer { λ r. ⌜
+        back r (now (area .exit)) (now (events .exit) ∷ now (texts .exit) ∷ [])
+        ≡ readCall (now (table .entry)) «root_name» «root_type» (now (payload .entry))
+        (length (now (events .entry))) (length (now (texts .entry))) (length (now (area .entry))) ⌝ }
     ensures octets { λ r. ⌜ Octets (now (payload .entry)) ⌝ }
 {
     if area.len() != limit::AREA {
@@ -79,7 +86,10 @@ pub extern "C" fn bim_write(
     payload: &mut [u8],
     area: &mut [u8],
 ) -> u32
-    ensures { λ r. ⌜ back r (now (area .exit)) (now (payload .exit) ∷ []) ≡ writeCall (now (table .entry)) «root_name» «root_type» mode (now (events .entry)) (now (texts .entry)) (length (now (payload .entry))) (length (now (area .entry))) ⌝ }
+    ensures { λ r. ⌜
+        back r (now (area .exit)) (now (payload .exit) ∷ [])
+        ≡ writeCall (now (table .entry)) «root_name» «root_type» mode (now (events .entry)) (now (texts .entry))
+        (length (now (payload .entry))) (length (now (area .entry))) ⌝ }
 {
     if area.len() != limit::AREA {
         clear(payload);

@@ -1,7 +1,9 @@
 // A payload read over bytes.
-use crate::tables::FEW_WORDS;
-use crate::tables::SOME_WORDS;
-use crate::tables::placed;
+use crate::rooms::FEW_EVENT_WORDS;
+use crate::rooms::FEW_WORDS;
+use crate::rooms::SMALL_PAYLOAD;
+use crate::rooms::SOME_WORDS;
+use crate::tables::place_in_table;
 use crate::tables::words_lent;
 use buffers::clear;
 use buffers::load;
@@ -12,23 +14,19 @@ use reader::Answer;
 use reader::read;
 ghost use mathlib.Core.Path.{_≡_};
 ghost use lib.ListN.{length};
-ghost use Prim.Native.Nat.{_*_, _/_, _≤_};
+ghost use Prim.Native.Nat.{_*_, _≤_};
 ghost use Rattle.numbers.specs.Limit.{mostEventWords};
 ghost use Rattle.model.specs.Whole.{reading};
 ghost use Rattle.reader.specs.Answers.{answerIs};
 ghost use Rattle.bim.specs.Calls.{readBytes};
-ghost use Rattle.bim.specs.EventRoom.{slotWords, ReadBack};
-ghost use Rattle.bim.specs.TableRoom.{wordsLent};
-
-// Words of the events that a small payload seldom has more of.
-const FEW_EVENT_WORDS: usize = 512;
-
-// The bytes of a payload that is small.
-const SMALL_PAYLOAD: usize = 64;
+ghost use Rattle.bim.specs.EventRoom.{fewEventWords, slotWords, ReadBack};
+ghost use Rattle.bim.specs.TableRoom.{Lends};
 
 // The words that are lent for events: four for each that has room.
 fn slot_words(bytes: usize) -> usize
-    ensures { λ r. ⌜ (r ≡ slotWords bytes) × (r ≤ mostEventWords) × (4 * r ≤ bytes) ⌝ }
+    ensures words { λ r. ⌜ r ≡ slotWords bytes ⌝ }
+    ensures most { λ r. ⌜ r ≤ mostEventWords ⌝ }
+    ensures fits { λ r. ⌜ 4 * r ≤ bytes ⌝ }
 {
     let n = bytes / limit::EVENT;
     if n < limit::MOST_EVENTS {
@@ -37,8 +35,8 @@ fn slot_words(bytes: usize) -> usize
     limit::MOST_EVENT_WORDS
 }
 
-// The reading of words, into words lent for events; these then as bytes.
-fn read_words(
+// Reads by a table's words into the words lent for events, and stores these as bytes.
+fn read_and_store(
     words: &[u32],
     root_name: u32,
     root_type: u32,
@@ -48,7 +46,12 @@ fn read_words(
     texts: &mut [u8],
 ) -> Answer
     requires { ⌜ 4 * length (now list) ≤ length (now events) ⌝ }
-    ensures { λ r. ⌜ ReadBack (reading (now (words .entry)) «root_name» «root_type» (now (payload .entry)) (length (now (list .entry))) (length (now (texts .entry)))) (length (now (events .entry))) (length (now (texts .entry))) (answerIs r) (now (events .exit)) (now (texts .exit)) ⌝ }
+    ensures { λ r. ⌜
+        ReadBack
+        (reading (now (words .entry)) «root_name» «root_type» (now (payload .entry))
+        (length (now (list .entry))) (length (now (texts .entry))))
+        (length (now (events .entry))) (length (now (texts .entry)))
+        (answerIs r) (now (events .exit)) (now (texts .exit)) ⌝ }
 {
     let a = read(words, root_name, root_type, payload, list, texts);
     clear(events);
@@ -57,8 +60,8 @@ fn read_words(
     a
 }
 
-// The reading of words, with room for every event that has a place.
-fn read_many(
+// Reads with room for every event that has a place: m words of MOST_EVENT_WORDS.
+fn read_with_most_events(
     words: &[u32],
     root_name: u32,
     root_type: u32,
@@ -67,11 +70,17 @@ fn read_many(
     events: &mut [u8],
     texts: &mut [u8],
 ) -> Answer
-    requires { ⌜ (m ≤ mostEventWords) × (4 * m ≤ length (now events)) ⌝ }
-    ensures { λ r. ⌜ ReadBack (reading (now (words .entry)) «root_name» «root_type» (now (payload .entry)) m (length (now (texts .entry)))) (length (now (events .entry))) (length (now (texts .entry))) (answerIs r) (now (events .exit)) (now (texts .exit)) ⌝ }
+    requires most { ⌜ m ≤ mostEventWords ⌝ }
+    requires fits { ⌜ 4 * m ≤ length (now events) ⌝ }
+    ensures { λ r. ⌜
+        ReadBack
+        (reading (now (words .entry)) «root_name» «root_type» (now (payload .entry))
+        m (length (now (texts .entry))))
+        (length (now (events .entry))) (length (now (texts .entry)))
+        (answerIs r) (now (events .exit)) (now (texts .exit)) ⌝ }
 {
     let mut list = [0u32; limit::MOST_EVENT_WORDS];
-    read_words(
+    read_and_store(
         words,
         root_name,
         root_type,
@@ -82,8 +91,9 @@ fn read_many(
     )
 }
 
-// The reading of words, with room for the few events of which a small payload seldom has more; and again where they do not suffice.
-fn read_few(
+// Reads with room for the few events of which a small payload seldom has more; and again, with room for all, where
+// they do not suffice.
+fn read_small_first(
     words: &[u32],
     root_name: u32,
     root_type: u32,
@@ -92,11 +102,18 @@ fn read_few(
     events: &mut [u8],
     texts: &mut [u8],
 ) -> Answer
-    requires { ⌜ (512 ≤ m) × (m ≤ mostEventWords) × (4 * m ≤ length (now events)) ⌝ }
-    ensures { λ r. ⌜ ReadBack (reading (now (words .entry)) «root_name» «root_type» (now (payload .entry)) m (length (now (texts .entry)))) (length (now (events .entry))) (length (now (texts .entry))) (answerIs r) (now (events .exit)) (now (texts .exit)) ⌝ }
+    requires few { ⌜ fewEventWords ≤ m ⌝ }
+    requires most { ⌜ m ≤ mostEventWords ⌝ }
+    requires fits { ⌜ 4 * m ≤ length (now events) ⌝ }
+    ensures { λ r. ⌜
+        ReadBack
+        (reading (now (words .entry)) «root_name» «root_type» (now (payload .entry))
+        m (length (now (texts .entry))))
+        (length (now (events .entry))) (length (now (texts .entry)))
+        (answerIs r) (now (events .exit)) (now (texts .exit)) ⌝ }
 {
     let mut few = [0u32; FEW_EVENT_WORDS];
-    let a = read_words(
+    let a = read_and_store(
         words,
         root_name,
         root_type,
@@ -108,11 +125,11 @@ fn read_few(
     if a.number != refusal::EVENT_ROOM {
         return a;
     }
-    read_many(words, root_name, root_type, payload, m, events, texts)
+    read_with_most_events(words, root_name, root_type, payload, m, events, texts)
 }
 
-// The reading of words. Room is zeroed whole before it is used: little room is lent where little is lent or likely to be used.
-fn read_list(
+// Reads by a table's words, in room for events: little where the host lends little, or where the payload is small.
+fn read_with_event_room(
     words: &[u32],
     root_name: u32,
     root_type: u32,
@@ -120,12 +137,17 @@ fn read_list(
     events: &mut [u8],
     texts: &mut [u8],
 ) -> Answer
-    ensures { λ r. ⌜ ReadBack (reading (now (words .entry)) «root_name» «root_type» (now (payload .entry)) (slotWords (length (now (events .entry)))) (length (now (texts .entry)))) (length (now (events .entry))) (length (now (texts .entry))) (answerIs r) (now (events .exit)) (now (texts .exit)) ⌝ }
+    ensures { λ r. ⌜
+        ReadBack
+        (reading (now (words .entry)) «root_name» «root_type» (now (payload .entry))
+        (slotWords (length (now (events .entry)))) (length (now (texts .entry))))
+        (length (now (events .entry))) (length (now (texts .entry)))
+        (answerIs r) (now (events .exit)) (now (texts .exit)) ⌝ }
 {
     let m = slot_words(events.len());
     if m < FEW_EVENT_WORDS {
         let mut few = [0u32; FEW_EVENT_WORDS];
-        return read_words(
+        return read_and_store(
             words,
             root_name,
             root_type,
@@ -136,13 +158,13 @@ fn read_list(
         );
     }
     if payload.len() <= SMALL_PAYLOAD {
-        return read_few(words, root_name, root_type, payload, m, events, texts);
+        return read_small_first(words, root_name, root_type, payload, m, events, texts);
     }
-    read_many(words, root_name, root_type, payload, m, events, texts)
+    read_with_most_events(words, root_name, root_type, payload, m, events, texts)
 }
 
-// The reading of bytes: the n words of the table that are looked at, in room lent for them.
-fn read_in(
+// Reads by a table's bytes: the n words of it that are looked at, in room lent for them.
+fn read_with_table_room(
     table: &[u8],
     n: usize,
     words: &mut [u32],
@@ -152,17 +174,22 @@ fn read_in(
     events: &mut [u8],
     texts: &mut [u8],
 ) -> Answer
-    requires { ⌜ (n ≡ wordsLent (length (now table))) × (n ≤ length (now table) / 4) × (n ≤ length (now words)) ⌝ }
-    ensures { λ r. ⌜ ReadBack (readBytes (now (table .entry)) «root_name» «root_type» (now (payload .entry)) (length (now (events .entry))) (length (now (texts .entry)))) (length (now (events .entry))) (length (now (texts .entry))) (answerIs r) (now (events .exit)) (now (texts .exit)) ⌝ }
+    requires { ⌜ Lends n (length (now table)) (length (now words)) ⌝ }
+    ensures { λ r. ⌜
+        ReadBack
+        (readBytes (now (table .entry)) «root_name» «root_type» (now (payload .entry))
+        (length (now (events .entry))) (length (now (texts .entry))))
+        (length (now (events .entry))) (length (now (texts .entry)))
+        (answerIs r) (now (events .exit)) (now (texts .exit)) ⌝ }
 {
     load(table, words, n);
-    let mut a = read_list(&words[..n], root_name, root_type, payload, events, texts);
+    let mut a = read_with_event_room(&words[..n], root_name, root_type, payload, events, texts);
     let at = a.place;
-    a.place = placed(n, table.len() / 4, at);
+    a.place = place_in_table(n, table.len() / 4, at);
     a
 }
 
-// The reading of bytes.
+// Reads by a table's bytes, in room for few words of it, for some, for all.
 pub fn read_bytes(
     table: &[u8],
     root_name: u32,
@@ -171,12 +198,17 @@ pub fn read_bytes(
     events: &mut [u8],
     texts: &mut [u8],
 ) -> Answer
-    ensures { λ r. ⌜ ReadBack (readBytes (now (table .entry)) «root_name» «root_type» (now (payload .entry)) (length (now (events .entry))) (length (now (texts .entry)))) (length (now (events .entry))) (length (now (texts .entry))) (answerIs r) (now (events .exit)) (now (texts .exit)) ⌝ }
+    ensures { λ r. ⌜
+        ReadBack
+        (readBytes (now (table .entry)) «root_name» «root_type» (now (payload .entry))
+        (length (now (events .entry))) (length (now (texts .entry))))
+        (length (now (events .entry))) (length (now (texts .entry)))
+        (answerIs r) (now (events .exit)) (now (texts .exit)) ⌝ }
 {
     let n = words_lent(table.len());
     if n <= FEW_WORDS {
         let mut few = [0u32; FEW_WORDS];
-        return read_in(
+        return read_with_table_room(
             table,
             n,
             &mut few,
@@ -189,7 +221,7 @@ pub fn read_bytes(
     }
     if n <= SOME_WORDS {
         let mut some = [0u32; SOME_WORDS];
-        return read_in(
+        return read_with_table_room(
             table,
             n,
             &mut some,
@@ -201,7 +233,7 @@ pub fn read_bytes(
         );
     }
     let mut all = [0u32; limit::MOST_TABLE_WORDS];
-    read_in(
+    read_with_table_room(
         table,
         n,
         &mut all,

@@ -1,7 +1,9 @@
 // A list written over bytes.
-use crate::tables::FEW_WORDS;
-use crate::tables::SOME_WORDS;
-use crate::tables::placed;
+use crate::rooms::FEW_EVENT_WORDS;
+use crate::rooms::FEW_EVENTS;
+use crate::rooms::FEW_WORDS;
+use crate::rooms::SOME_WORDS;
+use crate::tables::place_in_table;
 use crate::tables::words_lent;
 use buffers::load;
 use numbers::limit;
@@ -14,10 +16,10 @@ ghost use lib.ListN.{length};
 ghost use Rattle.numbers.specs.Limit as limit;
 ghost use Rattle.writer.specs.Answers.{Writes};
 ghost use Rattle.bim.specs.Calls.{unlisted, writeList, writeBytes};
-ghost use Rattle.bim.specs.TableRoom.{wordsLent};
+ghost use Rattle.bim.specs.TableRoom.{Lends};
 
-// Bytes that are no list: one word is none either, and is refused where they are. The place of NO_READING is n.
-fn write_none(
+// Refuses bytes that are no list: one word is none either, and is refused where they are. The place of NO_READING is n.
+fn refuse_unlisted(
     words: &[u32],
     root_name: u32,
     root_type: u32,
@@ -26,7 +28,11 @@ fn write_none(
     texts: &[u8],
     payload: &mut [u8],
 ) -> Answer
-    ensures { λ r. ⌜ Writes (unlisted (now (words .entry)) «root_name» «root_type» mode n) mode n (length (now (texts .entry))) (length (now (payload .entry))) r (now (payload .exit)) ⌝ }
+    ensures { λ r. ⌜
+        Writes
+        (unlisted (now (words .entry)) «root_name» «root_type» mode n)
+        mode n (length (now (texts .entry))) (length (now (payload .entry)))
+        r (now (payload .exit)) ⌝ }
 {
     let none = [0u32; 1];
     let mut a = write(words, root_name, root_type, mode, &none, texts, payload);
@@ -37,8 +43,8 @@ fn write_none(
     a
 }
 
-// A list's bytes as words, in room lent for them.
-fn write_words(
+// Loads a list's bytes as words, in room lent for them, and writes them.
+fn load_and_write(
     words: &[u32],
     root_name: u32,
     root_type: u32,
@@ -48,8 +54,14 @@ fn write_words(
     texts: &[u8],
     payload: &mut [u8],
 ) -> Answer
-    requires { ⌜ (length (now events) % limit.event ≡ 0) × (length (now events) / 4 ≤ length (now list)) ⌝ }
-    ensures { λ r. ⌜ Writes (writeList (now (words .entry)) «root_name» «root_type» mode (now (events .entry)) (now (texts .entry)) (length (now (payload .entry)))) mode (length (now (events .entry)) / limit.event) (length (now (texts .entry))) (length (now (payload .entry))) r (now (payload .exit)) ⌝ }
+    requires whole { ⌜ length (now events) % limit.event ≡ 0 ⌝ }
+    requires room { ⌜ length (now events) / 4 ≤ length (now list) ⌝ }
+    ensures { λ r. ⌜
+        Writes
+        (writeList (now (words .entry)) «root_name» «root_type» mode
+        (now (events .entry)) (now (texts .entry)) (length (now (payload .entry))))
+        mode (length (now (events .entry)) / limit.event) (length (now (texts .entry))) (length (now (payload .entry)))
+        r (now (payload .exit)) ⌝ }
 {
     let k = events.len() / 4;
     load(events, list, k);
@@ -64,11 +76,8 @@ fn write_words(
     )
 }
 
-// The events of a list that is short.
-const FEW_EVENTS: usize = 128;
-
-// A list's bytes, by a table's words.
-fn write_list(
+// Writes a list's bytes by a table's words, in room for few events or for all.
+fn write_with_event_room(
     words: &[u32],
     root_name: u32,
     root_type: u32,
@@ -77,20 +86,25 @@ fn write_list(
     texts: &[u8],
     payload: &mut [u8],
 ) -> Answer
-    ensures { λ r. ⌜ Writes (writeList (now (words .entry)) «root_name» «root_type» mode (now (events .entry)) (now (texts .entry)) (length (now (payload .entry)))) mode (length (now (events .entry)) / limit.event) (length (now (texts .entry))) (length (now (payload .entry))) r (now (payload .exit)) ⌝ }
+    ensures { λ r. ⌜
+        Writes
+        (writeList (now (words .entry)) «root_name» «root_type» mode
+        (now (events .entry)) (now (texts .entry)) (length (now (payload .entry))))
+        mode (length (now (events .entry)) / limit.event) (length (now (texts .entry))) (length (now (payload .entry)))
+        r (now (payload .exit)) ⌝ }
 {
     let size = events.len();
     let over = size % limit::EVENT;
     let n = size / limit::EVENT;
     if over != 0 {
-        return write_none(words, root_name, root_type, mode, n, texts, payload);
+        return refuse_unlisted(words, root_name, root_type, mode, n, texts, payload);
     }
     if limit::MOST_EVENTS < n {
-        return write_none(words, root_name, root_type, mode, n, texts, payload);
+        return refuse_unlisted(words, root_name, root_type, mode, n, texts, payload);
     }
     if n <= FEW_EVENTS {
-        let mut few = [0u32; 4 * FEW_EVENTS];
-        return write_words(
+        let mut few = [0u32; FEW_EVENT_WORDS];
+        return load_and_write(
             words,
             root_name,
             root_type,
@@ -102,7 +116,7 @@ fn write_list(
         );
     }
     let mut list = [0u32; limit::MOST_EVENT_WORDS];
-    write_words(
+    load_and_write(
         words,
         root_name,
         root_type,
@@ -114,8 +128,8 @@ fn write_list(
     )
 }
 
-// The writing of bytes: the n words of the table that are looked at, in room lent for them.
-fn write_in(
+// Writes by a table's bytes: the n words of it that are looked at, in room lent for them.
+fn write_with_table_room(
     table: &[u8],
     n: usize,
     words: &mut [u32],
@@ -126,11 +140,16 @@ fn write_in(
     texts: &[u8],
     payload: &mut [u8],
 ) -> Answer
-    requires { ⌜ (n ≡ wordsLent (length (now table))) × (n ≤ length (now table) / 4) × (n ≤ length (now words)) ⌝ }
-    ensures { λ r. ⌜ Writes (writeBytes (now (table .entry)) «root_name» «root_type» mode (now (events .entry)) (now (texts .entry)) (length (now (payload .entry)))) mode (length (now (events .entry)) / limit.event) (length (now (texts .entry))) (length (now (payload .entry))) r (now (payload .exit)) ⌝ }
+    requires { ⌜ Lends n (length (now table)) (length (now words)) ⌝ }
+    ensures { λ r. ⌜
+        Writes
+        (writeBytes (now (table .entry)) «root_name» «root_type» mode
+        (now (events .entry)) (now (texts .entry)) (length (now (payload .entry))))
+        mode (length (now (events .entry)) / limit.event) (length (now (texts .entry))) (length (now (payload .entry)))
+        r (now (payload .exit)) ⌝ }
 {
     load(table, words, n);
-    let mut a = write_list(
+    let mut a = write_with_event_room(
         &words[..n],
         root_name,
         root_type,
@@ -140,11 +159,11 @@ fn write_in(
         payload,
     );
     let at = a.place;
-    a.place = placed(n, table.len() / 4, at);
+    a.place = place_in_table(n, table.len() / 4, at);
     a
 }
 
-// The writing of bytes.
+// Writes by a table's bytes, in room for few words of it, for some, for all.
 pub fn write_bytes(
     table: &[u8],
     root_name: u32,
@@ -154,12 +173,17 @@ pub fn write_bytes(
     texts: &[u8],
     payload: &mut [u8],
 ) -> Answer
-    ensures { λ r. ⌜ Writes (writeBytes (now (table .entry)) «root_name» «root_type» mode (now (events .entry)) (now (texts .entry)) (length (now (payload .entry)))) mode (length (now (events .entry)) / limit.event) (length (now (texts .entry))) (length (now (payload .entry))) r (now (payload .exit)) ⌝ }
+    ensures { λ r. ⌜
+        Writes
+        (writeBytes (now (table .entry)) «root_name» «root_type» mode
+        (now (events .entry)) (now (texts .entry)) (length (now (payload .entry))))
+        mode (length (now (events .entry)) / limit.event) (length (now (texts .entry))) (length (now (payload .entry)))
+        r (now (payload .exit)) ⌝ }
 {
     let n = words_lent(table.len());
     if n <= FEW_WORDS {
         let mut few = [0u32; FEW_WORDS];
-        return write_in(
+        return write_with_table_room(
             table,
             n,
             &mut few,
@@ -173,7 +197,7 @@ pub fn write_bytes(
     }
     if n <= SOME_WORDS {
         let mut some = [0u32; SOME_WORDS];
-        return write_in(
+        return write_with_table_room(
             table,
             n,
             &mut some,
@@ -186,7 +210,7 @@ pub fn write_bytes(
         );
     }
     let mut all = [0u32; limit::MOST_TABLE_WORDS];
-    write_in(
+    write_with_table_room(
         table,
         n,
         &mut all,

@@ -17,7 +17,11 @@ ghost use Rattle.list.specs.Listing as meaning;
 
 // A table of no words.
 fn unread(input: &[u8], events: &mut [u32], texts: &mut [u8]) -> Answer
-    ensures { λ r. ⌜ Replies (declined refusal.table 0 []) (length (now (events .entry))) (length (now (texts .entry))) r (now (events .exit)) (now (texts .exit)) ⌝ }
+    ensures { λ r. ⌜
+        Replies
+        (declined refusal.table 0 [])
+        (length (now (events .entry))) (length (now (texts .entry)))
+        r (now (events .exit)) (now (texts .exit)) ⌝ }
 {
     let words = [0u32; 4];
     read(&words[..0], 0, 0, input, events, texts)
@@ -29,7 +33,7 @@ const LOOKED_AT: usize = limit::MOST_PAYLOAD + 1;
 // Where the payload ends, as far as it is looked at.
 fn payload_end(from: usize, size: usize) -> usize
     requires { ⌜ from ≤ size ⌝ }
-    ensures { λ r. ⌜ r ≡ min size (from + 8193) ⌝ }
+    ensures { λ r. ⌜ r ≡ min size (from + meaning.lookedAt) ⌝ }
 {
     if size - from < LOOKED_AT {
         return size;
@@ -39,8 +43,13 @@ fn payload_end(from: usize, size: usize) -> usize
 
 // The parts behind a count of n words.
 fn read_parts(input: &[u8], n: usize, events: &mut [u32], texts: &mut [u8]) -> Answer
-    requires { ⌜ (n ≤ mostTableWords) × (meaning.payloadAt n ≤ length (now input)) ⌝ }
-    ensures { λ r. ⌜ Replies (meaning.listed (now (input .entry)) n (length (now (events .entry))) (length (now (texts .entry)))) (length (now (events .entry))) (length (now (texts .entry))) r (now (events .exit)) (now (texts .exit)) ⌝ }
+    requires most { ⌜ n ≤ mostTableWords ⌝ }
+    requires whole { ⌜ meaning.payloadAt n ≤ length (now input) ⌝ }
+    ensures { λ r. ⌜
+        Replies
+        (meaning.listed (now (input .entry)) n (length (now (events .entry))) (length (now (texts .entry))))
+        (length (now (events .entry))) (length (now (texts .entry)))
+        r (now (events .exit)) (now (texts .exit)) ⌝ }
 {
     let at = 4 + 4 * n;
     let root_name = half(input, at);
@@ -61,7 +70,11 @@ fn read_parts(input: &[u8], n: usize, events: &mut [u32], texts: &mut [u8]) -> A
 
 // The whole input.
 pub fn read_input(input: &[u8], events: &mut [u32], texts: &mut [u8]) -> Answer
-    ensures { λ r. ⌜ Replies (meaning.listing (now (input .entry)) (length (now (events .entry))) (length (now (texts .entry)))) (length (now (events .entry))) (length (now (texts .entry))) r (now (events .exit)) (now (texts .exit)) ⌝ }
+    ensures { λ r. ⌜
+        Replies
+        (meaning.listing (now (input .entry)) (length (now (events .entry))) (length (now (texts .entry))))
+        (length (now (events .entry))) (length (now (texts .entry)))
+        r (now (events .exit)) (now (texts .exit)) ⌝ }
 {
     let size = input.len();
     if size < 8 {

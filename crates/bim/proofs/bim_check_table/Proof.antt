@@ -1,4 +1,4 @@
--- `bim_check_table`: 24, the table right, the table wrong.
+-- `bim_check_table`: areaSize, the table right, the table wrong.
 use Rattle.bim.proofs.Checking.{check-ways}
 use borrow.Author.Needs.{needs}
 use Rattle.bim.proofs.bim_check_table.Statement.{statement}

@@ -1,4 +1,4 @@
--- `bim_read`: 24, or the reading of bytes told in the area; and each byte of the payload is one.
+-- `bim_read`: areaSize, or the reading of bytes told in the area; and each byte of the payload is one.
 use native.Mathlib.Omega.{arith}
 use denote.Ref.{now}
 use Rattle.bim.proofs.Replies.{read-unlent, read-told, path-fits, octets}

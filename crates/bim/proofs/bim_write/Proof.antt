@@ -1,4 +1,4 @@
--- `bim_write`: 24, or the writing of bytes told in the area.
+-- `bim_write`: areaSize, or the writing of bytes told in the area.
 use Rattle.bim.proofs.Lists.{write-unlent, write-told}
 use borrow.Author.Needs.{needs}
 use Rattle.bim.proofs.bim_write.Statement.{statement}

@@ -4,6 +4,7 @@ use mathlib.Core.Path.{_≡_, refl}
 use mathlib.Core.List.{_++_}
 use native.Mathlib.Omega.{arith}
 use lib.ListN.{length, take, drop}
+use Rattle.numbers.specs.Limit.{mostNames}
 use Rattle.model.specs.Whole.{filled}
 use Rattle.buffers.specs.Bytes.{namesOf}
 use Rattle.reader.specs.Answers.{firstNames}
@@ -14,10 +15,10 @@ use Rattle.bim.proofs.area.put_each.Statement.{statement}
 use Rattle.bim.proofs.area.put_each.Tie as tie
 
 abbrev Inv-loop : tie.InvT-loop
-Inv-loop s₀ names count i₀ s i = (i ≤ 64) × (length s ≡ length s₀) × (s ≡ namesOf (take i (filled 64 (firstNames names count))) ++ drop (2 * i) s₀)
+Inv-loop s₀ names count i₀ s i = (i ≤ mostNames) × (length s ≡ length s₀) × (s ≡ namesOf (take i (filled mostNames (firstNames names count))) ++ drop (2 * i) s₀)
 
 abbrev μ-loop : tie.MeasureT-loop
-μ-loop s₀ names count i₀ s i = 64 - i
+μ-loop s₀ names count i₀ s i = mostNames - i
 
 loop-holds : tie.Need-loop-holds Inv-loop μ-loop
 loop-holds c = let a = c .before .before .args in (omega arith, refl, names-none (firstNames (a .names .now) (a .count)) (a .s .now) (omega (arith, first-length (a .names .now) (a .count))) (omega arith))

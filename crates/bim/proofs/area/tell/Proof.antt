@@ -5,8 +5,8 @@ use borrow.Author.Needs.{needs}
 use Rattle.bim.proofs.area.tell.Statement.{statement}
 use Rattle.bim.proofs.area.tell.Tie as tie
 
-capped-requires : tie.Need-capped-requires
-capped-requires c κs = search needs
+place-word-requires : tie.Need-place-word-requires
+place-word-requires c κs = search needs
 
 cast-t11 : tie.Need-cast-t11
 cast-t11 c = search needs
@@ -37,13 +37,13 @@ returns c =
     let b = c .before .before .before .before .before .before in
     let a = b .before .before .before .before .before .before .args in
     area-told (a .place) (a .mode) (a .events) (a .text) (a .bits) (a .count) _ (a .names .now) (a .area .now) _ _ (omega arith)
-    (b .before .before .before .capped .ensures) (b .store .ensures) (c .before .before .put-names .ensures)
+    (b .before .before .before .place-word .ensures) (b .store .ensures) (c .before .before .put-names .ensures)
 
 pub tell-spec : {M : Type 1} → statement M
 tell-spec =
     tie.close
     (tie.spec
-    capped-requires
+    place-word-requires
     cast-t11
     slice-aggregate-store
     store-requires

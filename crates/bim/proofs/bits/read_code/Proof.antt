@@ -1,4 +1,4 @@
--- `read_code`: 24, or the answer told.
+-- `read_code`: areaSize, or the answer told.
 use borrow.Author.Needs.{needs}
 use Rattle.bim.proofs.Codes.{code-ways}
 use Rattle.bim.proofs.bits.read_code.Statement.{statement}

@@ -1,10 +1,10 @@
--- `read_words`: the reader's words, then those of its events as bytes over zeros.
+-- `read_and_store`: the reader's words, then those of its events as bytes over zeros.
 use native.Mathlib.Omega.{arith}
 use lib.ListN.{length-take}
 use Rattle.bim.proofs.Replies.{words-fit, words-read}
 use borrow.Author.Needs.{needs}
-use Rattle.bim.proofs.reads.read_words.Statement.{statement}
-use Rattle.bim.proofs.reads.read_words.Tie as tie
+use Rattle.bim.proofs.reads.read_and_store.Statement.{statement}
+use Rattle.bim.proofs.reads.read_and_store.Tie as tie
 
 read-requires : tie.Need-read-requires
 read-requires c κs = search needs
@@ -54,8 +54,8 @@ returns c =
     words-read _ _ _ _ (entry .args .events .now) _ _ _ _ (r .ensures .answer) (r .ensures .events-left) (r .ensures .texts-left) (r .kept .1 .1 .1 .1 .0)
     (b .clear .ensures) (c .before .before .store .ensures)
 
-pub read-words-spec : {M : Type 1} → statement M
-read-words-spec =
+pub read-and-store-spec : {M : Type 1} → statement M
+read-and-store-spec =
     tie.close
     (tie.spec
     read-requires

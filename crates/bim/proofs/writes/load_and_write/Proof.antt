@@ -1,4 +1,4 @@
--- `write_words`: a list's bytes are its words.
+-- `load_and_write`: a list's bytes are its words.
 use native.Mathlib.Omega.{arith}
 use Prim.Native.Nat.{_/_}
 use lib.ListN.{length, length-take}
@@ -6,8 +6,8 @@ use mathlib.Core.Path.{refl}
 use Rattle.bim.proofs.Lists.{list-whole}
 use Rattle.buffers.proofs.BytesLaws.{loaded-front}
 use borrow.Author.Needs.{needs}
-use Rattle.bim.proofs.writes.write_words.Statement.{statement}
-use Rattle.bim.proofs.writes.write_words.Tie as tie
+use Rattle.bim.proofs.writes.load_and_write.Statement.{statement}
+use Rattle.bim.proofs.writes.load_and_write.Tie as tie
 
 load-requires : tie.Need-load-requires
 load-requires c κs = search needs
@@ -34,8 +34,8 @@ returns c =
     let e = entry .args .events .now in
     list-whole _ _ _ _ _ _ _ _ _ _ _ _ (entry .pre .0) refl (loaded-front e _ _ (length e / 4) (b .load .ensures) (omega arith)) (c .before .before .write .ensures)
 
-pub write-words-spec : {M : Type 1} → statement M
-write-words-spec =
+pub load-and-write-spec : {M : Type 1} → statement M
+load-and-write-spec =
     tie.close
     (tie.spec
     load-requires

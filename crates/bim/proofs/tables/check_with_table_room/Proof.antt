@@ -1,10 +1,10 @@
--- `check_in`: the verdict over the words lent, its place moved.
+-- `check_with_table_room`: the verdict over the words lent, its place moved.
 use Rattle.bim.proofs.Judging.{judged-ways}
 use native.Mathlib.Omega.{arith}
 use lib.ListN.{length-take}
 use borrow.Author.Needs.{needs}
-use Rattle.bim.proofs.tables.check_in.Statement.{statement}
-use Rattle.bim.proofs.tables.check_in.Tie as tie
+use Rattle.bim.proofs.tables.check_with_table_room.Statement.{statement}
+use Rattle.bim.proofs.tables.check_with_table_room.Tie as tie
 
 load-requires : tie.Need-load-requires
 load-requires c κs = search needs
@@ -24,8 +24,8 @@ enum-told c = search needs
 enum-known-i : tie.Need-enum-known-i
 enum-known-i c = search needs
 
-placed-requires : tie.Need-placed-requires
-placed-requires c κs = search needs
+place-in-table-requires : tie.Need-place-in-table-requires
+place-in-table-requires c κs = search needs
 
 same-length : tie.Need-same-length
 same-length c = search needs
@@ -39,8 +39,8 @@ same-length-2 c = search needs
 returns-2 : tie.Need-returns-2
 returns-2 c = search (needs, judged-ways)
 
-pub check-in-spec : {M : Type 1} → statement M
-check-in-spec =
+pub check-with-table-room-spec : {M : Type 1} → statement M
+check-with-table-room-spec =
     tie.close
     (tie.spec
     load-requires
@@ -49,7 +49,7 @@ check-in-spec =
     check-requires
     enum-told
     enum-known-i
-    placed-requires
+    place-in-table-requires
     same-length
     returns
     same-length-2
