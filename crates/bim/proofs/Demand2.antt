@@ -13,7 +13,7 @@ use Rattle.table.specs.First.{Verdict}
 use Rattle.table.specs.First.Verdict.{right, wrong}
 use Rattle.buffers.specs.Bytes.{wordsOf, spelled, bytesOf, wordFrom}
 use Rattle.buffers.proofs.BytesLaws.{words-length, words-bytes, bytes-length}
-use Rattle.value.specs.Simple.{Octets}
+use Rattle.value.specs.Simple.{AllBytes}
 use Rattle.model.specs.Model.{Event, Nodes, events, texts}
 use Rattle.model.specs.Items.{Mode}
 use Rattle.model.specs.Plain.{NoBlank}
@@ -202,7 +202,7 @@ module _ (t : List ℕ) (name type : ℕ) where
             }
 
   -- the second half, with the list and the texts as numbers of the area tell them
-  back-written : (s : List ℕ) (e x room : ℕ) (mode : Mode) (tree : Nodes) (used : ℕ) → Octets s
+  back-written : (s : List ℕ) (e x room : ℕ) (mode : Mode) (tree : Nodes) (used : ℕ) → AllBytes s
       → Reading t name type s e x mode tree used → NoBlank (events tree) → length s ≤ room
       → (m n k u : ℕ) (E T : List ℕ) → m ≡ modeNumber mode → n ≡ length (events tree) → k ≡ length (texts tree)
       → u ≡ used → E ≡ bytesOf (eventWords (events tree)) → T ≡ texts tree
@@ -236,7 +236,7 @@ two-buffers : {a b c d : List ℕ} → _≡_ {A = List (List ℕ)} (a ∷ b ∷ 
 two-buffers e = (cc, cc)
 
 pub writes-back : (t : List ℕ) (name type : ℕ) (s A E T : List ℕ) (e x room : ℕ)
-    → back 0 A (E ∷ T ∷ []) ≡ readCall t name type s e x 152 → Octets s → NoBlankIn E (wordFrom A 8)
+    → back 0 A (E ∷ T ∷ []) ≡ readCall t name type s e x 152 → AllBytes s → NoBlankIn E (wordFrom A 8)
     → length s ≤ room
     → writeCall t name type (wordFrom A 4) (take (16 * wordFrom A 8) E) (take (wordFrom A 12) T) room 152
     ≡ wrote room (wordFrom A 4) (wordFrom A 8) (wordFrom A 12) (wordFrom A 16) s

@@ -21,7 +21,7 @@ use Rattle.wire.proofs.ReadWays.{read-value, read-refuse, wide}
 use Rattle.wire.specs.Lawful.{Stands}
 use Rattle.signed.specs.Words.{up, wordOf}
 use Rattle.utf8.specs.Text.{textFault}
-use Rattle.value.specs.Code.{Code, five, signed, some, shifted, Fits, bitsOf, choiceAt, numberAt, signedOf, someOf, codeAt}
+use Rattle.value.specs.Code.{Code, five, signed, some, shifted, HasCode, bitsOf, choiceAt, numberAt, signedOf, someOf, codeAt}
 use Rattle.value.proofs.CodeLaws.{code-lawful}
 use Rattle.value.specs.Simple.{bytesAt, textOf, simpleAt}
 use Rattle.value.proofs.SimpleLaws.{bytes-none, passes-then, passes-fault}
@@ -254,12 +254,12 @@ module _ (s : List ℕ) (wall at : ℕ) (f : formT.Form) where
 
 -- a text's count is at most mostText
 module _ (s : List ℕ) (wall at : ℕ) (r : Read) (e : readIs r ≡ numberAt (bitAt s) mostText wall at) (n : ℕ) (p : Bits) (g : r ≡ read.Value n p) where
-  count-found : Stands (bitAt s) (Fits (five mostText) n) (bitsOf (five mostText) n) wall at (p .0)
+  count-found : Stands (bitAt s) (HasCode (five mostText) n) (bitsOf (five mostText) n) wall at (p .0)
   unfolding codeAt
   count-found = code-lawful (five mostText) .found (bitAt s) (bit-lt s) wall at .says (n, p .0) (read-value e g)
 
   pub count-small : n ≤ mostText
-  unfolding Fits
+  unfolding HasCode
   count-small = omega (arith, count-found .fits)
 
 pub ruleset simple-ways = (way-simple-refuse, way-simple-read, way-simple-count, way-simple-text, count-small)

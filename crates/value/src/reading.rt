@@ -23,8 +23,8 @@ ghost use Rattle.wire.specs.Bits.{bitAt, num};
 ghost use Rattle.wire.specs.Answer.{readIs};
 ghost use Rattle.utf8.specs.Text.{textFault};
 ghost use Rattle.value.specs.Code.{choiceAt, numberAt, signedOf, someOf, codeAt, signed, some, shifted};
-ghost use Rattle.value.specs.Simple.{bytesAt, textOf, simpleAt};
-ghost use Rattle.value.specs.Answer.{innerIs, codeIs, formIs, valueIs};
+ghost use Rattle.value.specs.Simple.{bytesAt, textOf};
+ghost use Rattle.value.specs.Answer.{innerIs, codeIs, formIs, valueIs, ReadsSimple};
 
 // One of n choices.
 pub fn choice(s: &[u8], wall: Bits, at: Bits, n: u32) -> Read
@@ -203,7 +203,7 @@ fn text_after(s: &[u8], wall: Bits, n: u32, p: Bits) -> Value
 // A simple value by its form.
 pub fn simple(s: &[u8], wall: Bits, at: Bits, f: Form) -> Value
     requires { ⌜ wall .0 ≤ 8 * length (now s) ⌝ }
-    ensures { λ r. ⌜ valueIs (bitAt (now (s .entry))) r ≡ simpleAt (formIs f) (bitAt (now (s .entry))) (wall .0) (at .0) ⌝ }
+    ensures { λ r. ⌜ ReadsSimple (now (s .entry)) r (formIs f) (wall .0) (at .0) ⌝ }
 {
     match f {
         Form::Number(c) => match code(s, wall, at, c) {

@@ -1,15 +1,15 @@
 -- The two laws of vluimsbf5: the shortest code of a number is read as it, and what a strict reading accepts is that code.
-use Prim.Native.Nat.{ℕ, zero, suc, _+_, _-_, _*_, _/_, _%_, _^_, _<_, _≤_, max}
+use Prim.Native.Nat.{ℕ, zero, suc, _+_, _-_, _*_, _/_, _^_, _<_, _≤_, max}
 use mathlib.Core.Path.{_≡_, refl, sym, ap, ap₂, _∙_}
 use mathlib.Core.Bool.{Bool, true, false, cond}
-use mathlib.Core.List.{List, [], _∷_, _++_}
+use mathlib.Core.List.{_∷_}
 use native.Mathlib.Nat.{add-zero, zero-add, div-eq-of-lt, div-lt-iff-lt-mul, pow-le-pow-right}
 use native.Mathlib.Omega.{arith}
 use native.Mathlib.Decide.{decLt, ℕ-discrete}
 use lib.Pow.{pow-pos}
 use lib.ListN.{length, replicate, length-replicate}
 use Rattle.numbers.specs.Refusal.{notShortest}
-use Rattle.wire.specs.Res.{Res, got, fault, Ensures}
+use Rattle.wire.specs.Res.{got, fault, Ensures}
 use Rattle.wire.proofs.Res.{gives, stops, bind}
 use Rattle.wire.specs.Bits.{num, fixedAt, digits, Has}
 use Rattle.wire.specs.At.{At}

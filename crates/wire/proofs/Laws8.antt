@@ -1,16 +1,16 @@
 -- The two laws of vluimsbf8: the shortest code of a number below 2^14 is read as it, and what a strict reading accepts is that code.
-use Prim.Native.Nat.{ℕ, zero, suc, _+_, _-_, _*_, _/_, _%_, _^_, _<_, _≤_}
-use mathlib.Core.Path.{_≡_, refl, sym, ap, _∙_}
+use Prim.Native.Nat.{ℕ, _+_, _-_, _*_, _/_, _%_, _<_, _≤_}
+use mathlib.Core.Path.{_≡_, refl, ap, _∙_}
 use mathlib.Core.Bool.{Bool, true, false, cond}
-use mathlib.Core.List.{List, _++_}
+use mathlib.Core.List.{_++_}
 use native.Mathlib.Omega.{arith}
 use native.Mathlib.Decide.{decLt, ℕ-discrete}
 use borrow.Author.Tests.{lt-ltb, le-ltb, eq-eqb, ne-eqb}
-use lib.ListN.{length, length-append}
+use lib.ListN.{length}
 use Rattle.numbers.specs.Refusal.{notShortest}
-use Rattle.wire.specs.Res.{Res, got, fault, Ensures}
+use Rattle.wire.specs.Res.{got, fault, Ensures}
 use Rattle.wire.proofs.Res.{gives, stops, bind}
-use Rattle.wire.specs.Bits.{num, fixedAt, digits, Has}
+use Rattle.wire.specs.Bits.{fixedAt, digits, Has}
 use Rattle.wire.specs.At.{At}
 use Rattle.wire.proofs.BitLaws.{num-lt, fixed-in, fixed-gives, has-left, has-right, num-digits, length-digits, at-both, at-digits}
 use Rattle.wire.specs.Number.{second8At, number8, strict, read8, code8}

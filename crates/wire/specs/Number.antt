@@ -2,7 +2,7 @@
 -- strict reading above it asks for that. And the shortest codes, as bits.
 use Prim.Native.Nat.{ℕ, zero, suc, _+_, _-_, _*_, _/_, _%_, _^_}
 use mathlib.Core.Bool.{Bool, true, false, cond}
-use mathlib.Core.List.{List, [], _∷_, _++_}
+use mathlib.Core.List.{List, _∷_, _++_}
 use lib.ListN.{replicate}
 use lib.Dec.{ltb, eqb}
 use Rattle.numbers.specs.Refusal.{pastEnd, notShortest, tooLarge}
