@@ -15,7 +15,7 @@ use Rattle.table.specs.First.{Verdict}
 use Rattle.table.specs.First.Verdict.{right, wrong}
 use Rattle.buffers.specs.Bytes.{wordsOf, spelled, bytesOf, wordFrom}
 use Rattle.buffers.proofs.BytesLaws.{words-length, words-bytes, bytes-length}
-use Rattle.value.specs.Simple.{Octets}
+use Rattle.value.specs.Simple.{AllBytes}
 use Rattle.model.specs.Model.{Event, Nodes, events, texts}
 use Rattle.model.specs.Items.{Mode}
 use Rattle.model.specs.Plain.{NoBlank}
@@ -204,7 +204,7 @@ module _ (t : List ℕ) (name type : ℕ) where
             }
 
   -- the second half, with the list and the texts as numbers of the area tell them
-  back-written : (s : List ℕ) (e x room : ℕ) (mode : Mode) (tree : Nodes) (used : ℕ) → Octets s
+  back-written : (s : List ℕ) (e x room : ℕ) (mode : Mode) (tree : Nodes) (used : ℕ) → AllBytes s
       → Reading t name type s e x mode tree used → NoBlank (events tree) → length s ≤ room
       → (m n k u : ℕ) (E T : List ℕ) → m ≡ modeNumber mode → n ≡ length (events tree) → k ≡ length (texts tree)
       → u ≡ used → E ≡ bytesOf (eventWords (events tree)) → T ≡ texts tree
@@ -238,7 +238,7 @@ two-buffers : {a b c d : List ℕ} → _≡_ {A = List (List ℕ)} (a ∷ b ∷ 
 two-buffers e = (cc, cc)
 
 pub writes-back : (t : List ℕ) (name type : ℕ) (s A E T : List ℕ) (e x room : ℕ)
-    → back 0 A (E ∷ T ∷ []) ≡ readCall t name type s e x areaBytes → Octets s → NoBlankIn E (wordFrom A eventsAt)
+    → back 0 A (E ∷ T ∷ []) ≡ readCall t name type s e x areaBytes → AllBytes s → NoBlankIn E (wordFrom A eventsAt)
     → length s ≤ room
     → writeCall t name type (wordFrom A modeAt) (take (limit.event * wordFrom A eventsAt) E) (take (wordFrom A textAt) T) room areaBytes
     ≡ wrote room (wordFrom A modeAt) (wordFrom A eventsAt) (wordFrom A textAt) (wordFrom A bitsAt) s

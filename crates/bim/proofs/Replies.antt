@@ -12,7 +12,7 @@ use Rattle.reader.specs.Answers.{answerIs}
 use Rattle.reader.specs.declared.Answer.{Answer}
 use Rattle.buffers.specs.Bytes.{wordsOf, bytesOf}
 use Rattle.buffers.proofs.BytesLaws.{Bytes}
-use Rattle.value.specs.Simple.{Octets}
+use Rattle.value.specs.Simple.{AllBytes}
 use Rattle.bim.specs.Area.{areaOf}
 use Rattle.bim.proofs.AreaLaws.{first-length}
 use Rattle.bim.specs.Calls.{back, zeros, readBytes, readCall, eventsBack}
@@ -102,6 +102,6 @@ path-fits t name type s e x a E X b =
     omega arith
 
 -- a list whose elements are bytes, as a slice's are
-pub octets : (s : List ℕ) → Bytes s → Octets s
+pub octets : (s : List ℕ) → Bytes s → AllBytes s
 octets [] h = tt
 octets (x ∷ s) h = (h 0, octets s (λ i. h (suc i)))

@@ -7,7 +7,7 @@ use native.Mathlib.Omega.{arith}
 use Rattle.numbers.specs.Refusal.{eventRoom}
 use Rattle.model.specs.Model.{Plan, Nodes, Path}
 use Rattle.model.specs.Items.{Mode}
-use Rattle.model.specs.Read.{Room, less, lessOne}
+use Rattle.model.specs.Read.{Room, roomLess, lessOne}
 use Rattle.model.proofs.Readings.{Extent, Goes, an-item, an-element, a-blank, nothing, more, Stop, too-deep, no-item, no-bytes, no-slot, no-head, unheld, no-start, no-blank, Refuses, here, inside, unmet, no-end, later}
 use Rattle.model.specs.Whole.{Reply, outcome, roomOf, reading}
 use Rattle.model.proofs.Replies.{Replies, no-table, no-root, no-mode, stopped, unpadded, whole, reading-replies, replies-reading}
@@ -26,7 +26,7 @@ module _ {b : ℕ → ℕ} {mode : Mode} {held : ℕ → Bool} where
   goes-wider (a-blank n e z h) r′ w = a-blank {r = r′} n e z (omega arith)
   goes-wider nothing r′ w = nothing
   goes-wider (more {ns} f g) r′ w =
-      more (goes-wider f r′ w) (goes-wider g (less r′ ns) (record { slots = omega arith; bytes = omega arith }))
+      more (goes-wider f r′ w) (goes-wider g (roomLess r′ ns) (record { slots = omega arith; bytes = omega arith }))
 
   stop-wider : {P : Plan} {r : Room} {wall at n : ℕ} → Stop b mode held r wall at P n → (r′ : Room) → Wider r r′
       → (n ≡ eventRoom → ⊥) → Stop b mode held r′ wall at P n
@@ -48,7 +48,7 @@ module _ {b : ℕ → ℕ} {mode : Mode} {held : ℕ → Bool} where
       unmet {r = r′} x (omega arith) (goes-wider g (lessOne r′) (record { slots = omega arith; bytes = w .bytes })) e
   refuses-wider (no-end x s g e h) r′ w z = absurd (z refl)
   refuses-wider (later {ns} f d) r′ w z =
-      later (goes-wider f r′ w) (refuses-wider d (less r′ ns) (record { slots = omega arith; bytes = omega arith }) z)
+      later (goes-wider f r′ w) (refuses-wider d (roomLess r′ ns) (record { slots = omega arith; bytes = omega arith }) z)
 
 module _ (l : List ℕ) (name type : ℕ) (s : List ℕ) (w w′ x : ℕ) (h : w ≤ w′) where
   wider : Wider (roomOf w x) (roomOf w′ x)

@@ -15,7 +15,7 @@ use Rattle.numbers.specs.Kind as kinds
 use Rattle.numbers.specs.Limit.{bitsArea, event, mostNames, mostOpen, mostPayload, mostWord}
 use Rattle.table.specs.Rows.{Row, tableOf, heldOf}
 use Rattle.table.specs.Held.{Alike}
-use Rattle.value.specs.Simple.{Octets}
+use Rattle.value.specs.Simple.{AllBytes}
 use Rattle.buffers.specs.Bytes.{wordsOf, bytesOf, wordFrom, halfFrom}
 use Rattle.model.specs.Model.{Mark, Nodes, Path, events, texts}
 use Rattle.model.specs.Items.{Mode}
@@ -172,7 +172,7 @@ pub record Demand2 : Type 0 where
   -- what was read without a Blank is written back byte for byte, given room: the host hands over mode, events and
   -- texts as the area counts them. The first two premises are the two clauses of `bim_read`'s contract
   pub writes-back : (t : List ℕ) (name type : ℕ) (s A E T : List ℕ) (e x room : ℕ)
-      → back 0 A (E ∷ T ∷ []) ≡ readCall t name type s e x areaBytes → Octets s
+      → back 0 A (E ∷ T ∷ []) ≡ readCall t name type s e x areaBytes → AllBytes s
       → NoBlankIn E (wordFrom A eventsAt) → length s ≤ room
       → writeCall t name type (wordFrom A modeAt) (take (event * wordFrom A eventsAt) E) (take (wordFrom A textAt) T)
       room areaBytes

@@ -21,7 +21,7 @@ use writes::write_bytes;
 ghost use mathlib.Core.Path.{_≡_};
 ghost use mathlib.Core.List.{[], _∷_};
 ghost use lib.ListN.{length};
-ghost use Rattle.value.specs.Simple.{Octets};
+ghost use Rattle.value.specs.Simple.{AllBytes};
 ghost use Rattle.bim.specs.Calls.{back, checkTable, readCall, writeCall};
 
 // Judges a table.
@@ -62,7 +62,7 @@ pub extern "C" fn bim_read(
         back r (now (area .exit)) (now (events .exit) ∷ now (texts .exit) ∷ [])
         ≡ readCall (now (table .entry)) «root_name» «root_type» (now (payload .entry))
         (length (now (events .entry))) (length (now (texts .entry))) (length (now (area .entry))) ⌝ }
-    ensures octets { λ r. ⌜ Octets (now (payload .entry)) ⌝ }
+    ensures octets { λ r. ⌜ AllBytes (now (payload .entry)) ⌝ }
 {
     if area.len() != limit::AREA {
         clear(events);

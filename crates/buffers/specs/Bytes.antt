@@ -1,7 +1,7 @@
 -- Words and names as big-endian bytes, and bytes as words.
 use Prim.Native.Nat.{ℕ, _+_, _*_, _/_, _%_}
 use mathlib.Core.List.{List, [], _∷_, _++_}
-use lib.ListN.{getD}
+use lib.ListN.{length, drop, getD}
 
 -- the word that four bytes are, the most significant first; and the bytes of a word, and of a name
 abbrev pub word : (a b c d : ℕ) → ℕ
@@ -35,6 +35,10 @@ spelled f (x ∷ l) = f x ++ spelled f l
 
 abbrev pub bytesOf : List ℕ → List ℕ
 bytesOf = spelled four
+
+-- a buffer with the words' bytes at its front
+abbrev pub stored : (words s : List ℕ) → List ℕ
+stored words s = bytesOf words ++ drop (4 * length words) s
 
 abbrev pub namesOf : List ℕ → List ℕ
 namesOf = spelled two

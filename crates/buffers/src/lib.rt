@@ -4,7 +4,7 @@ ghost use mathlib.Core.List.{_++_};
 ghost use Prim.Native.Nat.{_+_, _*_, _/_, _≤_, _<_};
 ghost use lib.ListN.{length, take, drop, replicate};
 ghost use lib.Seq.{sets};
-ghost use Rattle.buffers.specs.Bytes.{wordFrom, halfFrom, four, two, wordsOf, bytesOf};
+ghost use Rattle.buffers.specs.Bytes.{wordFrom, halfFrom, four, two, wordsOf, stored};
 
 // A byte as a word.
 fn wide(x: u8) -> u32
@@ -61,7 +61,7 @@ fn put_word(s: &mut [u8], at: usize, w: u32)
 // Words as bytes at the front of a buffer.
 pub fn store(words: &[u32], s: &mut [u8])
     requires { ⌜ 4 * length (now words) ≤ length (now s) ⌝ }
-    ensures { λ _. ⌜ now (s .exit) ≡ bytesOf (now (words .entry)) ++ drop (4 * length (now (words .entry))) (now (s .entry)) ⌝ }
+    ensures { λ _. ⌜ now (s .exit) ≡ stored (now (words .entry)) (now (s .entry)) ⌝ }
 {
     let mut i = 0;
     while i < words.len() {

@@ -10,7 +10,6 @@ use Rattle.numbers.specs.Refusal.{notHeld}
 use Rattle.numbers.specs.Kind as kinds
 use Rattle.model.specs.Model.{event, Nodes, Path, Plan}
 use Rattle.model.specs.Model.Plan.{element}
-use Rattle.model.specs.Model.Nodes.{none}
 use Rattle.model.specs.Model.Answer.{refused}
 use Rattle.model.specs.Items.{Mode, Length, long, HeadIs, no-head, Head, headAt}
 use Rattle.model.proofs.ItemLaws.{same-type}

@@ -163,5 +163,5 @@ beside =
     ∷ []
 
 pub cases : map (λ (c : Case). shown (c .ask)) (proved ++ beside) ≡ map (λ (c : Case). c .comes) (proved ++ beside)
-unfolding words hollow tangle worked front back list blank shownRes shownReply shownMade shown nest proved beside Model.eventOf Model.value Model.maybe Model.attribute Model.attributes Model.contents Model.rows Model.within Model.due Model.plan Model._then_ Model.flagOf Model.events Model.texts Model.slotsOf Model.bytesOf Model.bitsOf Items.formOf Items.formAt Items.itemAt Items.lengthAt Items.headAt Read.onto Read.after Read.code Read.kept Read.stored Read.met Read.ended Read.closed Read.entered Read.bare Read.sized Read.opened Read.elementAt Read.read Write.put Write.along Write.unlike Write.matched Write.taken Write.wordOf Write.flagIn Write.simpleOut Write.formOut Write.itemOut Write.coded Write.headOut Write.sealed Write.tooDeep Write.allowed Write.elementOut Write.write Pack.pack Whole.modeByte Whole.modeNumber Whole.modeAt Whole.modeOf Whole.zeros Whole.padding Whole.padded Whole.replied Whole.rootIn Whole.inMode Whole.payload Whole.asked Whole.afterAsked Whole.afterVerdict Whole.reading Whole.eventWords Whole.filled Whole.outcome Whole.eventsLeft Whole.textsLeft Whole.eventsFrom Whole.roomed Whole.spent Whole.modeAsked Whole.shaped Whole.written Whole.orUnmade Whole.verdictMade Whole.writing Whole.outcomeMade Whole.payloadLeft Code.Fits Code.bitsOf Code.choiceAt Code.numberAt Code.signedOf Code.someOf Code.codeAt Code.fits Code.codeOut Code.sizeOut Simple.spanCode Simple.rangeCode Simple.unboundedCode Simple.boundedCode Simple.timesCode Simple.simpleOf Simple.bytes Simple.bytesAt Simple.unless Simple.textOf Simple.simpleAt First.first First._then_ First.judge Valid.given Valid.headerWords Valid.frontWords Valid.unusedWords Valid.rangeWords Valid.enumerationWords Valid.kindWords Valid.emptyWords Valid.simpleWords Valid.particlesWords Valid.contentWords Valid.attributeWords Valid.elementWords Valid.groupWords Valid.occursWords Valid.particleWords Valid.rows Valid.typeRow Valid.attributeRow Valid.particleRow Valid.rowWords Valid.verdictFrom Valid.verdict Valid.rightAt Rows.contentFrom Rows.rowFrom Rows.contentOf Rows.rowAt Rows.rowOf Rows.attributeOf Rows.attributesFrom Rows.firstOf Rows.countOf Rows.attributesOf Rows.tableOf Rows.heldOf Res._>>=_ Res._>>_ Res.guard Res.atMost Bits.bitAt Bits.num Bits.fixedAt Bits.digits Width.leastFrom Width.width Number.onesAt Number.isShort Number.groupsAt Number.number5 Number.second8At Number.number8 Number.strict Number.read5 Number.read8 Number.more Number.codeOf5 Number.code5 Number.code8 utf8.has utf8.lines utf8.begun utf8.open-lines utf8.goesOn utf8.faultOf utf8.textFault signed.gapOf signed.signOf signed.magnitudeOf signed.wordOf signed.wrapped
+unfolding words hollow tangle worked front back list blank shownRes shownReply shownMade shown nest proved beside Model.eventOf Model.value Model.maybe Model.attribute Model.attributes Model.contents Model.rows Model.within Model.due Model.plan Model._then_ Model.flagOf Model.events Model.texts Model.treeSlots Model.treeBytes Model.treeBits Items.formOf Items.formAt Items.itemAt Items.lengthAt Items.headAt Read.onto Read.after Read.code Read.kept Read.stored Read.met Read.ended Read.closed Read.entered Read.bare Read.sized Read.opened Read.elementAt Read.read Write.put Write.along Write.unlike Write.matched Write.taken Write.wordOf Write.flagIn Write.simpleOut Write.formOut Write.itemOut Write.coded Write.headOut Write.sealed Write.tooDeep Write.allowed Write.elementOut Write.write Pack.pack Whole.modeByte Whole.modeNumber Whole.modeAt Whole.modeOf Whole.zeros Whole.padding Whole.padded Whole.replied Whole.rootIn Whole.inMode Whole.payload Whole.asked Whole.afterAsked Whole.afterVerdict Whole.reading Whole.eventWords Whole.filled Whole.outcome Whole.eventsLeft Whole.textsLeft Whole.eventsFrom Whole.roomed Whole.spent Whole.modeAsked Whole.shaped Whole.written Whole.orUnmade Whole.verdictMade Whole.writing Whole.outcomeMade Whole.payloadLeft Code.HasCode Code.bitsOf Code.choiceAt Code.numberAt Code.signedOf Code.someOf Code.codeAt Code.fits Code.codeOut Code.sizeOut Simple.spanCode Simple.rangeCode Simple.unboundedCode Simple.boundedCode Simple.timesCode Simple.simpleOf Simple.bytes Simple.bytesAt Simple.unless Simple.textOf Simple.simpleAt First.first First._then_ First.judge Valid.given Valid.headerWords Valid.frontWords Valid.unusedWords Valid.rangeWords Valid.enumerationWords Valid.kindWords Valid.emptyWords Valid.simpleWords Valid.particlesWords Valid.contentWords Valid.attributeWords Valid.elementWords Valid.groupWords Valid.occursWords Valid.particleWords Valid.rows Valid.typeRow Valid.attributeRow Valid.particleRow Valid.rowWords Valid.verdictFrom Valid.verdict Valid.rightAt Rows.contentFrom Rows.rowFrom Rows.contentOf Rows.rowAt Rows.rowOf Rows.attributeOf Rows.attributesFrom Rows.firstOf Rows.countOf Rows.attributesOf Rows.tableOf Rows.heldOf Res._>>=_ Res._>>_ Res.guard Res.atMost Bits.bitAt Bits.num Bits.fixedAt Bits.digits Width.leastFrom Width.width Number.onesAt Number.isShort Number.groupsAt Number.number5 Number.second8At Number.number8 Number.strict Number.read5 Number.read8 Number.more Number.codeOf5 Number.code5 Number.code8 utf8.has utf8.lines utf8.begun utf8.open-lines utf8.goesOn utf8.faultOf utf8.textFault signed.gapOf signed.signOf signed.magnitudeOf signed.wordOf signed.wrapped
 cases = refl

@@ -2,21 +2,21 @@
 use Prim.Native.Nat.{ℕ, _≤_}
 use mathlib.Core.Bool.{Bool}
 use native.Mathlib.Omega.{arith}
-use Rattle.model.specs.Model.{Plan, Nodes, Path, Answer, slotsOf, bytesOf}
+use Rattle.model.specs.Model.{Plan, Nodes, Path, Answer, treeSlots, treeBytes}
 use Rattle.model.specs.Model.Answer.{given, refused}
 use Rattle.model.specs.Items.{Mode}
 use Rattle.model.specs.Read.{Room, read}
 use Rattle.model.proofs.Readings.{Extent, Goes, an-item, an-element, a-blank, nothing, more, read-by}
 use Rattle.model.proofs.Trees.{slots-then, bytes-then}
 
-abbrev pub Fits : Room → Answer → Type 0
-Fits r (given ns q) = (slotsOf ns ≤ r .slots) × (bytesOf ns ≤ r .bytes)
-Fits r (refused n p π) = Unit {0}
+abbrev pub FitsRoom : Room → Answer → Type 0
+FitsRoom r (given ns q) = (treeSlots ns ≤ r .slots) × (treeBytes ns ≤ r .bytes)
+FitsRoom r (refused n p π) = Unit {0}
 
 module _ (b : ℕ → ℕ) (mode : Mode) (held : ℕ → Bool) where
   pub goes-fits : {x : Extent} {P Q : Plan} {r : Room} {wall at q : ℕ} {ns : Nodes}
-      → Goes b mode held x P r wall at ns q Q → (slotsOf ns ≤ r .slots) × (bytesOf ns ≤ r .bytes)
-  unfolding slotsOf bytesOf
+      → Goes b mode held x P r wall at ns q Q → (treeSlots ns ≤ r .slots) × (treeBytes ns ≤ r .bytes)
+  unfolding treeSlots treeBytes
   goes-fits (an-item e h k) = omega arith
   goes-fits (an-element x g e h) = let l = goes-fits g in omega arith
   goes-fits (a-blank n e z h) = omega arith
@@ -24,5 +24,5 @@ module _ (b : ℕ → ℕ) (mode : Mode) (held : ℕ → Bool) where
   goes-fits (more {ns} {ms} f g) =
       let x = goes-fits f in let y = goes-fits g in omega (arith, slots-then ns ms, bytes-then ns ms)
 
-  pub read-fits : (P : Plan) (r : Room) (π : Path) (wall at : ℕ) → Fits r (read b mode held P r π wall at)
-  read-fits P r π wall at = read-by b mode held (Fits r) P r π wall at (λ ns q g. goes-fits g) (λ n p ρ d. tt)
+  pub read-fits : (P : Plan) (r : Room) (π : Path) (wall at : ℕ) → FitsRoom r (read b mode held P r π wall at)
+  read-fits P r π wall at = read-by b mode held (FitsRoom r) P r π wall at (λ ns q g. goes-fits g) (λ n p ρ d. tt)

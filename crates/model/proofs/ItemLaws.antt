@@ -10,7 +10,7 @@ use Rattle.wire.proofs.Res.{gives, bind, under, then, under-then}
 use Rattle.wire.specs.At.{At}
 use Rattle.wire.proofs.BitLaws.{at-none, at-both, at-left, at-right}
 use Rattle.wire.specs.Lawful.{Binary}
-use Rattle.value.specs.Code.{Fits, bitsOf}
+use Rattle.value.specs.Code.{HasCode, bitsOf}
 use Rattle.value.proofs.CodeLaws.{code-lawful}
 use Rattle.value.proofs.SimpleLaws.{simple-found, simple-reads}
 use Rattle.model.specs.Model.{Item}
@@ -46,7 +46,7 @@ module _ (b : ℕ → ℕ) (bit : Binary b) where
       }
 
   -- TheLength after bits o that a head may begin with
-  length-found : (mode : Mode) (t wall at p : ℕ) (o : List ℕ) → ((n : ℕ) → Fits lengths n → HeadIs mode t t (long n) (o ++ bitsOf lengths n)) → At b at o p
+  length-found : (mode : Mode) (t wall at p : ℕ) (o : List ℕ) → ((n : ℕ) → HasCode lengths n → HeadIs mode t t (long n) (o ++ bitsOf lengths n)) → At b at o p
       → Ensures (lengthAt 1 b t wall p) (FindsHead b mode t wall at)
   unfolding lengthAt
   length-found mode t wall at p o is st =
@@ -55,11 +55,11 @@ module _ (b : ℕ → ℕ) (bit : Binary b) where
       gives (rw z (record { bits = o ++ bitsOf lengths (r .0); is = is (r .0) (f .fits); stands = at-both st (f .stands); within = λ k. f .within }), omega arith, h)
 
   pub head-found : (mode : Mode) (t wall at : ℕ) → Ensures (headAt mode b t wall at) (FindsHead b mode t wall at)
-  unfolding headAt lengthAt Fits
+  unfolding headAt lengthAt HasCode
   head-found never t wall at = gives (record { bits = []; is = no-head; stands = at-none; within = λ h. h })
   head-found optional t wall at = bind (code-lawful flag .found b bit wall at) λ r f. go (r .0) (r .1) (f .fits) (f .stands) (f .within)
     where
-      go : (v p : ℕ) → Fits flag v → At b at (bitsOf flag v) p → p ≤ wall → Ensures (lengthAt v b t wall p) (FindsHead b optional t wall at)
+      go : (v p : ℕ) → HasCode flag v → At b at (bitsOf flag v) p → p ≤ wall → Ensures (lengthAt v b t wall p) (FindsHead b optional t wall at)
       go zero p h f k = gives (record { bits = _; is = flag-off; stands = f; within = λ l. k })
       go (suc zero) p h f k = length-found optional t wall at p (bitsOf flag 1) (λ n x. flag-on x) f
       go (suc (suc v)) p h f k = absurd (omega arith)
@@ -85,12 +85,12 @@ same-type flag-off = refl
 same-type (flag-on h) = refl
 same-type (head-on h) = refl
 
-flag-zero : Fits flag 0
-unfolding Fits
+flag-zero : HasCode flag 0
+unfolding HasCode
 flag-zero = omega arith
 
-flag-one : Fits flag 1
-unfolding Fits
+flag-one : HasCode flag 1
+unfolding HasCode
 flag-one = omega arith
 
 module _ (b : ℕ → ℕ) where
@@ -103,7 +103,7 @@ module _ (b : ℕ → ℕ) where
   unfolding itemAt
   item-reads i h f k = form-reads h f k
 
-  length-reads : (t n wall at p : ℕ) → Fits lengths n → At b at (bitsOf lengths n) p → p + n ≤ wall → lengthAt 1 b t wall at ≡ got (Head.sized t p (p + n))
+  length-reads : (t n wall at p : ℕ) → HasCode lengths n → At b at (bitsOf lengths n) p → p + n ≤ wall → lengthAt 1 b t wall at ≡ got (Head.sized t p (p + n))
   unfolding lengthAt
   length-reads t n wall at p h f k = then _ (code-lawful lengths .reads b wall at n p h f (omega arith)) (under-then refusal.length k refl)
 

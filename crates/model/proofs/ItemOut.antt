@@ -8,7 +8,7 @@ use lib.Seq.{take-at, drop-at}
 use Rattle.numbers.specs.Refusal.{outsideRow, textBytes}
 use Rattle.wire.specs.Res.{got, Ensures}
 use Rattle.wire.proofs.Res.{gives, bind, tested, under, then, tested-then, under-then}
-use Rattle.value.specs.Code.{Code, choice, Fits, bitsOf, fits, codeOut}
+use Rattle.value.specs.Code.{Code, choice, HasCode, bitsOf, fits, codeOut}
 use Rattle.value.proofs.CodeLaws.{fits-true, true-fits}
 use Rattle.value.specs.Simple.{Simple, plain, text, count, bytes, SimpleIs, a-code, a-text}
 use Rattle.value.proofs.SimpleLaws.{passes, passes-then}
@@ -29,7 +29,7 @@ pub record ItemWritten (i : Item) (v : ℕ) (T w U : List ℕ) : Type 0 where
   pub is : ItemIs i v texts w
   pub text : T ≡ texts ++ U
 
-code-written : (c : Code) (v : ℕ) → Ensures (codeOut c v) (λ w. (w ≡ bitsOf c v) × Fits c v)
+code-written : (c : Code) (v : ℕ) → Ensures (codeOut c v) (λ w. (w ≡ bitsOf c v) × HasCode c v)
 unfolding codeOut
 code-written c v = tested (fits c v) 20 λ h. gives (refl, fits-true c v h)
 
@@ -68,7 +68,7 @@ item-written i e T = record {
 }
 
 -- and what may stand is written
-code-out : (c : Code) (v : ℕ) → Fits c v → codeOut c v ≡ got (bitsOf c v)
+code-out : (c : Code) (v : ℕ) → HasCode c v → codeOut c v ≡ got (bitsOf c v)
 unfolding codeOut
 code-out c v h = tested-then outsideRow (true-fits c v h) refl
 
@@ -103,17 +103,17 @@ present-one : {f : Form} {v : ℕ} {T w : List ℕ} → FormIs f v T w → f ≡
 present-one is-present e = refl
 present-one (is-simple h) e = absurd (let z : _≡_ {A = ℕ} 0 1 = cc in omega arith)
 
-pub form-plain : {f : Form} {v : ℕ} {ts w : List ℕ} → FormIs f v ts w → (c : Code) → f ≡ simply (plain c) → Fits c v × (ts ≡ [])
+pub form-plain : {f : Form} {v : ℕ} {ts w : List ℕ} → FormIs f v ts w → (c : Code) → f ≡ simply (plain c) → HasCode c v × (ts ≡ [])
 form-plain is-present c e = absurd (let n : _≡_ {A = ℕ} 0 1 = cc in omega arith)
 form-plain (is-simple {s} h) c e = let z : s ≡ plain c = cc in plain-is h c z
 
 -- what each item's value is
 pub optional-value : (name : ℕ) {v : ℕ} {ts w : List ℕ} → ItemIs (optional name) v ts w → v < 2
-unfolding formOf Fits
+unfolding formOf HasCode
 optional-value name h = form-plain h (choice 2) refl .0
 
 pub picked-value : (n : ℕ) {v : ℕ} {ts w : List ℕ} → ItemIs (picked n) v ts w → v < n
-unfolding formOf Fits
+unfolding formOf HasCode
 picked-value n h = omega (arith, form-plain h _ refl .0)
 
 pub word-back : (i : Item) (v n : ℕ) (ts w : List ℕ) → ItemIs i v ts w → wordOf i (bare (eventOf i v n)) ≡ v

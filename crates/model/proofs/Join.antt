@@ -6,23 +6,23 @@ use mathlib.Core.Bool.{Bool, true, false}
 use native.Mathlib.Omega.{arith}
 use Rattle.wire.specs.Res.{Res, got, fault}
 use Rattle.table.specs.Rows.{Row, Attribute, Table}
-use Rattle.model.specs.Model.{eventOf, Plan, Nodes, Path, Answer, slotsOf, bytesOf, _then_, value, maybe, attribute, attributes, rows, due, plan}
+use Rattle.model.specs.Model.{eventOf, Plan, Nodes, Path, Answer, treeSlots, treeBytes, _then_, value, maybe, attribute, attributes, rows, due, plan}
 use Rattle.model.specs.Model.Plan.{done, deep, item, element}
 use Rattle.model.specs.Model.Item.{optional, picked, counted}
 use Rattle.model.specs.Model.Nodes.{none}
 use Rattle.model.specs.Model.Answer.{given, refused}
 use Rattle.model.specs.Items.{Mode, itemAt}
-use Rattle.model.specs.Read.{Room, less, onto, after, code, stored, elementAt, read}
+use Rattle.model.specs.Read.{Room, roomLess, onto, after, code, stored, elementAt, read}
 use Rattle.model.proofs.Trees.{then-none, then-assoc, slots-then, bytes-then}
 
-pub less-then : (r : Room) (a b : Nodes) → less r (a then b) ≡ less (less r a) b
+pub less-then : (r : Room) (a b : Nodes) → roomLess r (a then b) ≡ roomLess (roomLess r a) b
 less-then r a b =
-    let s : r .slots - slotsOf (a then b) ≡ r .slots - slotsOf a - slotsOf b = omega (arith, slots-then a b) in
-    let t : r .bytes - bytesOf (a then b) ≡ r .bytes - bytesOf a - bytesOf b = omega (arith, bytes-then a b) in
+    let s : r .slots - treeSlots (a then b) ≡ r .slots - treeSlots a - treeSlots b = omega (arith, slots-then a b) in
+    let t : r .bytes - treeBytes (a then b) ≡ r .bytes - treeBytes a - treeBytes b = omega (arith, bytes-then a b) in
     λ i. record { slots = s i; bytes = t i }
 
-pub less-none : (r : Room) → less r none ≡ r
-unfolding slotsOf bytesOf
+pub less-none : (r : Room) → roomLess r none ≡ r
+unfolding treeSlots treeBytes
 less-none r =
     let s : r .slots - 0 ≡ r .slots = omega arith in
     let t : r .bytes - 0 ≡ r .bytes = omega arith in
@@ -51,10 +51,10 @@ after-done r (refused n p π) = refl
 pub after-after : (r : Room) (o : Answer) (k l : Room → ℕ → Answer) → after r (after r o k) l ≡ after r o (λ s p. after s (k s p) l)
 unfolding after onto
 after-after r (refused n p π) k l = refl
-after-after r (given ns q) k l = go (k (less r ns) q)
+after-after r (given ns q) k l = go (k (roomLess r ns) q)
   where
-    go : (o : Answer) → after r (onto ns o) l ≡ onto ns (after (less r ns) o l)
-    go (given ms p) = rw (less-then r ns ms) (onto-onto ns ms (l (less (less r ns) ms) p))
+    go : (o : Answer) → after r (onto ns o) l ≡ onto ns (after (roomLess r ns) o l)
+    go (given ms p) = rw (less-then r ns ms) (onto-onto ns ms (l (roomLess (roomLess r ns) ms) p))
     go (refused n p π) = refl
 
 pub code-after : {A : Type 0} (r : Room) (c : Res A) (π : Path) (at : ℕ) (k : A → Answer) (l : Room → ℕ → Answer)

@@ -8,7 +8,7 @@ use native.Mathlib.Decide.{decLt}
 use lib.ListN.{length, List·getD-eq-default}
 use Rattle.wire.specs.Bits.{bitAt, num, Has, source}
 use Rattle.wire.specs.Lawful.{Binary}
-use Rattle.value.specs.Simple.{bytesAt, Octets}
+use Rattle.value.specs.Simple.{bytesAt, AllBytes}
 use Rattle.value.proofs.SimpleLaws.{bytes-length}
 use Rattle.model.specs.Grammar.{Bits}
 use Rattle.model.specs.Pack.{pack}
@@ -67,7 +67,7 @@ bytes-moved b c at to (suc n) f =
     (bytes-moved b c (at + 8) (to + 8) n (λ j h. ap b (omega arith) ∙ f (8 + j) (omega arith) ∙ ap c (omega arith)))
 
 -- the bytes of a payload's bits are the payload
-pub bytes-back : (s : List ℕ) → Octets s → bytesAt (bitAt s) 0 (length s) ≡ s
+pub bytes-back : (s : List ℕ) → AllBytes s → bytesAt (bitAt s) 0 (length s) ≡ s
 unfolding bytesAt
 bytes-back [] h = refl
 bytes-back (x ∷ s) h =

@@ -11,13 +11,13 @@ use borrow.Author.Tests.{le-leb, lt-leb, lt-ltb, le-ltb}
 use lib.ListN.{length}
 use Rattle.wire.specs.Res.{Res, got, fault, Ensures}
 use Rattle.wire.proofs.Res.{gives, bind, under, itself}
-use Rattle.model.specs.Model.{Item, event, eventOf, Plan, Mark, Nodes, _then_, slotsOf, Path, Answer}
+use Rattle.model.specs.Model.{Item, event, eventOf, Plan, Mark, Nodes, _then_, treeSlots, Path, Answer}
 use Rattle.model.specs.Model.Plan.{done, deep, item, element}
 use Rattle.model.specs.Model.Nodes.{none, leaf, node}
 use Rattle.model.specs.Model.Answer.{given, refused}
 use Rattle.model.specs.Items.{Mode, never, optional, always, itemAt, Length, free, long, coded, Head, lengthAt, headAt}
 use Rattle.model.proofs.ItemLaws.{headOf, stopOf}
-use Rattle.model.specs.Read.{Room, less, lessOne, onto, after, code, kept, stored, met, ended, closed, Into, entered, mark, bare, sized, opened, elementAt, read}
+use Rattle.model.specs.Read.{Room, roomLess, lessOne, onto, after, code, kept, stored, met, ended, closed, Into, entered, mark, bare, sized, opened, elementAt, read}
 
 -- one part, or all of them
 pub data Extent : Type 0 where
@@ -67,14 +67,14 @@ module _ (b : ℕ → ℕ) (mode : Mode) (held : ℕ → Bool) where
         → length ts ≤ r .bytes → 0 < r .slots
         → Goes one (item i k) r wall at (leaf at (eventOf i v (q - at)) ts none) q (k v)
     an-element : {name type : ℕ} {f : ℕ → Plan} {P : Plan} {r : Room} {wall at q : ℕ} {ns : Nodes} (x : Holds type wall at)
-        → Goes all (f (x .t)) (lessOne r) (wallIn x) (x .body) ns q done → metAt x q ≡ true → 1 + slotsOf ns < r .slots
+        → Goes all (f (x .t)) (lessOne r) (wallIn x) (x .body) ns q done → metAt x q ≡ true → 1 + treeSlots ns < r .slots
         → Goes one (element name type f P) r wall at (node (markIn x name) ns none) q P
     a-blank : {name type t body : ℕ} {f : ℕ → Plan} {P : Plan} {r : Room} {wall at : ℕ} (n : ℕ)
         → headAt mode b type wall at ≡ got (headOf (long n) t body) → held t ≡ false → 0 < r .slots
         → Goes one (element name type f P) r wall at (leaf at (event 7 name t (body + n - at)) [] none) (body + n) P
     nothing : {r : Room} {wall at : ℕ} → Goes all done r wall at none at done
     more : {P Q : Plan} {r : Room} {wall at q p : ℕ} {ns ms : Nodes} → Goes one P r wall at ns q Q
-        → Goes all Q (less r ns) wall q ms p done → Goes all P r wall at (ns then ms) p done
+        → Goes all Q (roomLess r ns) wall q ms p done → Goes all P r wall at (ns then ms) p done
 
   abbrev pub Gives : Plan → Room → ℕ → ℕ → Nodes → ℕ → Type 0
   Gives P r wall at ns q = Goes all P r wall at ns q done
@@ -91,9 +91,9 @@ module _ (b : ℕ → ℕ) (mode : Mode) (held : ℕ → Bool) where
     no-end : {name type : ℕ} {f : ℕ → Plan} {P : Plan} {r : Room} {π : Path} {wall at q : ℕ} {ns : Nodes}
         (x : Holds type wall at) → 0 < r .slots → Gives (f (x .t)) (lessOne r) (wallIn x) (x .body) ns q
         → metAt x q ≡ true
-        → r .slots ≤ 1 + slotsOf ns → Refuses (element name type f P) r π wall at 7 q (name ∷ π)
+        → r .slots ≤ 1 + treeSlots ns → Refuses (element name type f P) r π wall at 7 q (name ∷ π)
     later : {P Q : Plan} {r : Room} {π ρ : Path} {wall at q n p : ℕ} {ns : Nodes} → Goes one P r wall at ns q Q
-        → Refuses Q (less r ns) π wall q n p ρ → Refuses P r π wall at n p ρ
+        → Refuses Q (roomLess r ns) π wall q n p ρ → Refuses P r π wall at n p ρ
 
   -- what was answered
   abbrev pub Reads : Plan → Room → Path → ℕ → ℕ → Answer → Type 0
@@ -122,7 +122,7 @@ module _ (b : ℕ → ℕ) (mode : Mode) (held : ℕ → Bool) where
         go (long n) = rw (x .is, le-ltb 0 (r .slots) (omega arith))
 
   abbrev Comes : Extent → Plan → Room → Path → ℕ → ℕ → Nodes → ℕ → Plan → Type 0
-  Comes one P r π wall at ns q Q = read b mode held P r π wall at ≡ onto ns (read b mode held Q (less r ns) π wall q)
+  Comes one P r π wall at ns q Q = read b mode held P r π wall at ≡ onto ns (read b mode held Q (roomLess r ns) π wall q)
   Comes all P r π wall at ns q Q = read b mode held P r π wall at ≡ given ns q
 
   goes-read : {x : Extent} {P Q : Plan} {r : Room} {wall at q : ℕ} {ns : Nodes} → Goes x P r wall at ns q Q → (π : Path)
@@ -130,7 +130,7 @@ module _ (b : ℕ → ℕ) (mode : Mode) (held : ℕ → Bool) where
   unfolding read elementAt code stored kept after onto opened sized closed ended
   goes-read {r} (an-item {ts} e h k) π = rw (e, le-leb (length ts) (r .bytes) h, lt-ltb 0 (r .slots) k)
   goes-read {r} (an-element {name} {ns} x g y l) π =
-      let s = lt-ltb 0 (r .slots - 1 - slotsOf ns) (omega arith) in
+      let s = lt-ltb 0 (r .slots - 1 - treeSlots ns) (omega arith) in
       rw (x .head, opened-held _ name r π x (omega arith), goes-read g (name ∷ π), y, s)
   goes-read {r} (a-blank n e z k) π = rw (e, z, le-leb 0 (r .bytes) (omega arith), lt-ltb 0 (r .slots) k)
   goes-read nothing π = refl
@@ -157,7 +157,7 @@ module _ (b : ℕ → ℕ) (mode : Mode) (held : ℕ → Bool) where
   refuses-read {r} {π} (unmet {name} x s g y) =
       rw (x .head, opened-held _ name r π x s, goes-read g (name ∷ π), y)
   refuses-read {r} {π} (no-end {name} {ns} x s g y l) =
-      let u = le-ltb 0 (r .slots - 1 - slotsOf ns) (omega arith) in
+      let u = le-ltb 0 (r .slots - 1 - treeSlots ns) (omega arith) in
       rw (x .head, opened-held _ name r π x s, goes-read g (name ∷ π), y, u)
   refuses-read {π} (later f d) = rw (goes-read f π, refuses-read d)
 
@@ -190,11 +190,11 @@ module _ (b : ℕ → ℕ) (mode : Mode) (held : ℕ → Bool) where
     stops : {n p : ℕ} {ρ : Path} → Refuses P r π wall at n p ρ → Some P r π wall at
     stops {n} {p} {ρ} d = record { answer = refused n p ρ; reads = d }
 
-    goes-on : {Q : Plan} {ns : Nodes} {q : ℕ} → Goes one P r wall at ns q Q → Some Q (less r ns) π wall q
+    goes-on : {Q : Plan} {ns : Nodes} {q : ℕ} → Goes one P r wall at ns q Q → Some Q (roomLess r ns) π wall q
         → Some P r π wall at
     goes-on {Q} {ns} {q} f x = go (x .answer) (x .reads)
       where
-        go : (o : Answer) → Reads Q (less r ns) π wall q o → Some P r π wall at
+        go : (o : Answer) → Reads Q (roomLess r ns) π wall q o → Some P r π wall at
         go (given ms p) g = record { answer = given (ns then ms) p; reads = more f g }
         go (refused n p ρ) d = stops (later f d)
 
@@ -209,13 +209,13 @@ module _ (b : ℕ → ℕ) (mode : Mode) (held : ℕ → Bool) where
     some-held x (yes k) = let i = ih (x .t) (lessOne r) (name ∷ π) (wallIn x) (x .body) in go (i .answer) (i .reads)
       where
         end : (ns : Nodes) (q : ℕ) → Gives (f (x .t)) (lessOne r) (wallIn x) (x .body) ns q → (u : Bool) → metAt x q ≡ u
-            → Dec (1 + slotsOf ns < r .slots) → This
+            → Dec (1 + treeSlots ns < r .slots) → This
         end ns q g true e (yes l) = goes-on (an-element x g e l) (rest _ q)
         end ns q g true e (no l) = stops (no-end x k g e (omega arith))
         end ns q g false e l = stops (unmet x k g e)
 
         go : (o : Answer) → Reads (f (x .t)) (lessOne r) (name ∷ π) (wallIn x) (x .body) o → This
-        go (given ns q) g = end ns q g (metAt x q) refl (decLt (1 + slotsOf ns) (r .slots))
+        go (given ns q) g = end ns q g (metAt x q) refl (decLt (1 + treeSlots ns) (r .slots))
         go (refused n p ρ) d = stops (inside x k d)
 
     some-element : (c : Res Head) → headAt mode b type wall at ≡ c → Ensures c Form → This

@@ -9,9 +9,9 @@ use Rattle.wire.specs.Bits.{digits}
 use Rattle.wire.specs.Width.{width}
 use Rattle.wire.specs.Number.{code5, codeOf5, more}
 use Rattle.signed.specs.Words.{signOf, magnitudeOf}
-use Rattle.value.specs.Code.{Code, choice, five, signed, some, shifted, less, choiceBits, bitsOf}
+use Rattle.value.specs.Code.{Code, choice, five, signed, some, shifted, wordLess, choiceBits, bitsOf}
 use Rattle.value.specs.Simple.{Simple, bytes, SimpleIs, a-code, a-text}
-use Rattle.model.specs.Model.{Item, Plan, Nodes, bitsOf as total, eventOf}
+use Rattle.model.specs.Model.{Item, Plan, Nodes, treeBits as total, eventOf}
 use Rattle.model.specs.Model.Item.{required, optional, valued, picked, counted}
 use Rattle.model.specs.Items.{Mode, FormIs, is-present, is-simple, Form, Length, HeadIs, no-head, flag-off, flag-on, head-on}
 use Rattle.model.specs.Grammar.{Bits, Is, nothing, an-item, an-element, a-blank}
@@ -42,7 +42,7 @@ code-bits (five n) v = five-bits v
 code-bits signed v = bits-append (choiceBits 2 (signOf v)) (code5 (magnitudeOf v)) (digits-bits (width 2) (signOf v)) (five-bits (magnitudeOf v))
 code-bits (some c) zero = digits-bits (width 2) 0
 code-bits (some c) (suc k) = bits-append (choiceBits 2 1) (bitsOf c (suc k)) (digits-bits (width 2) 1) (code-bits c (suc k))
-code-bits (shifted lo c) v = code-bits c (less lo v)
+code-bits (shifted lo c) v = code-bits c (wordLess lo v)
 
 bytes-bits : (l : List ℕ) → Bits (bytes l)
 unfolding bytes

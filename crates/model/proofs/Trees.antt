@@ -4,7 +4,7 @@ use mathlib.Core.Path.{_≡_, refl, ap}
 use mathlib.Core.List.{List, [], _∷_, _++_, append-assoc}
 use native.Mathlib.Omega.{arith}
 use lib.ListN.{length, length-append}
-use Rattle.model.specs.Model.{Event, end, Nodes, _then_, events, texts, slotsOf, bytesOf, bitsOf}
+use Rattle.model.specs.Model.{Event, end, Nodes, _then_, events, texts, treeSlots, treeBytes, treeBits}
 use Rattle.model.specs.Model.Nodes.{none, leaf, node}
 use Rattle.model.specs.Trees.{total}
 
@@ -20,20 +20,20 @@ then-assoc none b c = refl
 then-assoc (leaf at e ts r) b c = ap (leaf at e ts) (then-assoc r b c)
 then-assoc (node m i r) b c = ap (node m i) (then-assoc r b c)
 
-pub bits-then : (a b : Nodes) → bitsOf (a then b) ≡ bitsOf a + bitsOf b
-unfolding bitsOf _then_
+pub bits-then : (a b : Nodes) → treeBits (a then b) ≡ treeBits a + treeBits b
+unfolding treeBits _then_
 bits-then none b = omega arith
 bits-then (leaf at e ts r) b = let ih = bits-then r b in omega arith
 bits-then (node m i r) b = let ih = bits-then r b in omega arith
 
-pub slots-then : (a b : Nodes) → slotsOf (a then b) ≡ slotsOf a + slotsOf b
-unfolding slotsOf _then_
+pub slots-then : (a b : Nodes) → treeSlots (a then b) ≡ treeSlots a + treeSlots b
+unfolding treeSlots _then_
 slots-then none b = omega arith
 slots-then (leaf at e ts r) b = let ih = slots-then r b in omega arith
 slots-then (node m i r) b = let ih = slots-then r b in omega arith
 
-pub bytes-then : (a b : Nodes) → bytesOf (a then b) ≡ bytesOf a + bytesOf b
-unfolding bytesOf _then_
+pub bytes-then : (a b : Nodes) → treeBytes (a then b) ≡ treeBytes a + treeBytes b
+unfolding treeBytes _then_
 bytes-then none b = omega arith
 bytes-then (leaf at e ts r) b = let ih = bytes-then r b in omega arith
 bytes-then (node m i r) b = let ih = bytes-then r b in omega arith
@@ -51,8 +51,8 @@ texts-then (leaf at e ts r) b = rw (texts-then r b, append-assoc)
 texts-then (node m i r) b = rw (texts-then r b, append-assoc)
 
 -- the counts are those of the flattening
-pub slots-length : (ns : Nodes) → slotsOf ns ≡ length (events ns)
-unfolding slotsOf events
+pub slots-length : (ns : Nodes) → treeSlots ns ≡ length (events ns)
+unfolding treeSlots events
 slots-length none = refl
 slots-length (leaf at e ts r) = let h = slots-length r in omega arith
 slots-length (node m i r) =
@@ -60,8 +60,8 @@ slots-length (node m i r) =
     let g = slots-length r in
     omega (arith, length-append (events i) (end ∷ events r))
 
-pub bytes-length : (ns : Nodes) → bytesOf ns ≡ length (texts ns)
-unfolding bytesOf texts
+pub bytes-length : (ns : Nodes) → treeBytes ns ≡ length (texts ns)
+unfolding treeBytes texts
 bytes-length none = refl
 bytes-length (leaf at e ts r) = let h = bytes-length r in omega (arith, length-append ts (texts r))
 bytes-length (node m i r) =
@@ -74,8 +74,8 @@ unfolding total
 total-append [] m = omega arith
 total-append (e ∷ l) m = let h = total-append l m in omega arith
 
-pub bits-total : (ns : Nodes) → bitsOf ns ≡ total (events ns)
-unfolding bitsOf events total
+pub bits-total : (ns : Nodes) → treeBits ns ≡ total (events ns)
+unfolding treeBits events total
 bits-total none = refl
 bits-total (leaf at e ts r) = let h = bits-total r in omega arith
 bits-total (node m i r) =

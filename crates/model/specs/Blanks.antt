@@ -6,11 +6,9 @@ use mathlib.Core.List.{List, []}
 use lib.ListN.{length}
 use Rattle.numbers.specs.Kind as kinds
 use Rattle.model.specs.Model.{event, Nodes}
-use Rattle.model.specs.Model.Plan.{element}
 use Rattle.model.specs.Model.Nodes.{none, leaf, node}
 use Rattle.model.specs.Items.{Mode, Length, long, HeadIs}
 use Rattle.model.specs.Grammar.{opens}
-use Rattle.model.specs.Read.{opened}
 
 -- every Blank of a tree is of a type that is not held, and every element that was opened is of one that is
 abbrev pub Exact : (ℕ → Bool) → Nodes → Type 0

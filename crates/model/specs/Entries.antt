@@ -1,7 +1,7 @@
 -- What an entry of reading or writing asks before it begins, and the plan and the list that it then has.
 use Prim.Native.Nat.{ℕ, _/_, _%_, _<_, _≤_}
 use mathlib.Core.Path.{_≡_}
-use mathlib.Core.List.{List, []}
+use mathlib.Core.List.{List}
 use lib.ListN.{length}
 use Rattle.numbers.specs.Limit.{mostEvents, mostName}
 use Rattle.table.specs.First.Verdict.{right}

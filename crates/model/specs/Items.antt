@@ -6,7 +6,7 @@ use mathlib.Core.Bool.{Bool, true, false}
 use mathlib.Core.List.{List, [], _++_}
 use Rattle.numbers.specs.Refusal as refusal
 use Rattle.wire.specs.Res.{Res, got, _>>=_, _>>_, atMost}
-use Rattle.value.specs.Code.{Code, choice, five, Fits, bitsOf, codeAt}
+use Rattle.value.specs.Code.{Code, choice, five, HasCode, bitsOf, codeAt}
 use Rattle.value.specs.Simple.{Simple, plain, timesCode, simpleOf, simpleAt, SimpleIs}
 use Rattle.model.specs.Model.{Item}
 use Rattle.model.specs.Model.Item.{required, valued, picked, counted}
@@ -58,8 +58,8 @@ Measures (long n) k = n ≡ k
 pub data HeadIs : Mode → ℕ → ℕ → Length → List ℕ → Type 0 where
   no-head : {t : ℕ} → HeadIs never t t free []
   flag-off : {t : ℕ} → HeadIs optional t t free (bitsOf flag 0)
-  flag-on : {t n : ℕ} → Fits lengths n → HeadIs optional t t (long n) (bitsOf flag 1 ++ bitsOf lengths n)
-  head-on : {t n : ℕ} → Fits lengths n → HeadIs always t t (long n) (bitsOf lengths n)
+  flag-on : {t n : ℕ} → HasCode lengths n → HeadIs optional t t (long n) (bitsOf flag 1 ++ bitsOf lengths n)
+  head-on : {t n : ℕ} → HasCode lengths n → HeadIs always t t (long n) (bitsOf lengths n)
 
 -- reading: a value, its text bytes, the place past it
 unfoldable pub formAt : Form → (ℕ → ℕ) → ℕ → ℕ → Res (ℕ × List ℕ × ℕ)

@@ -133,20 +133,20 @@ texts (leaf at e ts r) = ts ++ texts r
 texts (node m i r) = texts i ++ texts r
 
 -- how many events and text bytes, and the sum of the events' bits
-unfoldable pub slotsOf : Nodes → ℕ
-slotsOf none = 0
-slotsOf (leaf at e ts r) = 1 + slotsOf r
-slotsOf (node m i r) = 2 + slotsOf i + slotsOf r
+unfoldable pub treeSlots : Nodes → ℕ
+treeSlots none = 0
+treeSlots (leaf at e ts r) = 1 + treeSlots r
+treeSlots (node m i r) = 2 + treeSlots i + treeSlots r
 
-unfoldable pub bytesOf : Nodes → ℕ
-bytesOf none = 0
-bytesOf (leaf at e ts r) = length ts + bytesOf r
-bytesOf (node m i r) = bytesOf i + bytesOf r
+unfoldable pub treeBytes : Nodes → ℕ
+treeBytes none = 0
+treeBytes (leaf at e ts r) = length ts + treeBytes r
+treeBytes (node m i r) = treeBytes i + treeBytes r
 
-unfoldable pub bitsOf : Nodes → ℕ
-bitsOf none = 0
-bitsOf (leaf at e ts r) = e .bits + bitsOf r
-bitsOf (node m i r) = m .bits + bitsOf i + bitsOf r
+unfoldable pub treeBits : Nodes → ℕ
+treeBits none = 0
+treeBits (leaf at e ts r) = e .bits + treeBits r
+treeBits (node m i r) = m .bits + treeBits i + treeBits r
 
 abbrev pub Path : Type 0
 Path = List ℕ

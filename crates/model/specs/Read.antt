@@ -8,7 +8,7 @@ use Rattle.numbers.specs.Refusal as refusal
 use Rattle.numbers.specs.Refusal.{eventRoom, textRoom, notHeld, contentShort}
 use Rattle.numbers.specs.Kind as kinds
 use Rattle.wire.specs.Res.{Res, got, fault}
-use Rattle.model.specs.Model.{Event, event, eventOf, Plan, Mark, Nodes, _then_, slotsOf, bytesOf, Path, Answer}
+use Rattle.model.specs.Model.{Event, event, eventOf, Plan, Mark, Nodes, _then_, treeSlots, treeBytes, Path, Answer}
 use Rattle.model.specs.Model.Plan.{done, deep, item, element}
 use Rattle.model.specs.Model.Nodes.{none, leaf, node}
 use Rattle.model.specs.Model.Answer.{given, refused}
@@ -19,8 +19,8 @@ pub record Room : Type 0 where
   pub slots : ℕ
   pub bytes : ℕ
 
-abbrev pub less : Room → Nodes → Room
-less r ns = record { slots = r .slots - slotsOf ns; bytes = r .bytes - bytesOf ns }
+abbrev pub roomLess : Room → Nodes → Room
+roomLess r ns = record { slots = r .slots - treeSlots ns; bytes = r .bytes - treeBytes ns }
 
 abbrev pub lessOne : Room → Room
 lessOne r = record { slots = r .slots - 1; bytes = r .bytes }
@@ -31,7 +31,7 @@ onto ns (refused n p π) = refused n p π
 
 -- one part after another
 unfoldable pub after : Room → Answer → (Room → ℕ → Answer) → Answer
-after r (given ns q) k = onto ns (k (less r ns) q)
+after r (given ns q) k = onto ns (k (roomLess r ns) q)
 after r (refused n p π) k = refused n p π
 
 -- a leaf's value, or its refusal at the item's place
@@ -59,7 +59,7 @@ ended true false m π body ns q = refused eventRoom q (m .name ∷ π)
 ended false u m π body ns q = refused contentShort body (m .name ∷ π)
 
 unfoldable pub closed : Room → Mark → Path → ℕ → ℕ → Answer → Answer
-closed r m π wall body (given ns q) = ended (met (m .coded) q wall) (ltb 0 (r .slots - slotsOf ns)) m π body ns q
+closed r m π wall body (given ns q) = ended (met (m .coded) q wall) (ltb 0 (r .slots - treeSlots ns)) m π body ns q
 closed r m π wall body (refused n p ρ) = refused n p ρ
 
 -- how what is inside an element is read, by its type

@@ -1,6 +1,6 @@
 -- The reading as the code goes it: one function for each part of an element that the code reads by itself.
 use Prim.Native.Nat.{ℕ, _+_}
-use mathlib.Core.List.{List, []}
+use mathlib.Core.List.{List}
 use mathlib.Core.Bool.{Bool}
 use Rattle.table.specs.Rows.{Row, Content, Attribute, Table}
 use Rattle.model.specs.Model.{Path, Answer, value, attribute, attributes, contents, rows, within, plan}

@@ -1,7 +1,7 @@
 -- The writing as the code goes it: one function for each part of an element that the code writes by itself.
 use Prim.Native.Nat.{ℕ, suc, _+_}
 use mathlib.Core.Bool.{Bool}
-use mathlib.Core.List.{List, []}
+use mathlib.Core.List.{List}
 use lib.ListN.{length}
 use Rattle.table.specs.Rows.{Row, Content, Attribute, Table}
 use Rattle.model.specs.Model.{Item, value, attribute, attributes, contents, rows, within, plan}

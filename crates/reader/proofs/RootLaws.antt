@@ -22,7 +22,7 @@ use Rattle.table.specs.Rows.Row.{element}
 use Rattle.table.specs.Views.{verdictIs}
 use Rattle.table.specs.declared.answers.Verdict as code·verdict
 use Rattle.table.specs.declared.answers.Verdict.the-variants.{Right, Wrong}
-use Rattle.model.specs.Model.{Nodes, Answer, events, texts, slotsOf, bytesOf}
+use Rattle.model.specs.Model.{Nodes, Answer, events, texts, treeSlots, treeBytes}
 use Rattle.model.specs.Model.Answer.{given, refused}
 use Rattle.model.specs.Read as model
 use Rattle.model.proofs.Fit.{read-fits}
@@ -108,10 +108,10 @@ module _ (t s : List ℕ) (name ty : ℕ) (mode : Mode) (h : Entered t name ty) 
   went-on : (d : Cursor) → w ≡ Go d → Went Ans c [] E T d [] E₁ T₁
   went-on d g = did-go (step.Go d) [] E₁ T₁ Ans c [] E T (rw g at root-says) d refl
 
-  fits : (ns : Nodes) (q : ℕ) → Ans ≡ given ns q → (slotsOf ns ≤ room .slots) × (bytesOf ns ≤ room .bytes)
+  fits : (ns : Nodes) (q : ℕ) → Ans ≡ given ns q → (treeSlots ns ≤ room .slots) × (treeBytes ns ≤ room .bytes)
   fits ns q e = rw e at (read-fits (bitAt s) (modeIs mode) (heldOf t) (planOf t name ty) room [] (8 * length s) 8)
 
-  few : (ns : Nodes) (q : ℕ) → Ans ≡ given ns q → bytesOf ns ≤ mostText * slotsOf ns
+  few : (ns : Nodes) (q : ℕ) → Ans ≡ given ns q → treeBytes ns ≤ mostText * treeSlots ns
   few ns q e = bytes-few (bitAt s) (bit-lt s) (modeIs mode) (heldOf t) (planOf t name ty) room [] (8 * length s) 8 ns q e
 
   -- the bytes used fit a word

@@ -8,10 +8,10 @@ use lib.ListN.{length}
 use Rattle.wire.specs.Res.{Ensures}
 use Rattle.wire.proofs.Res.{gives}
 use Rattle.wire.specs.Lawful.{Binary}
-use Rattle.value.specs.Code.{Fits}
+use Rattle.value.specs.Code.{HasCode}
 use Rattle.value.specs.Simple.{Simple, SimpleIs, a-code, a-text}
 use Rattle.value.proofs.SimpleLaws.{simple-found}
-use Rattle.model.specs.Model.{Plan, Nodes, slotsOf, bytesOf}
+use Rattle.model.specs.Model.{Plan, Nodes, treeSlots, treeBytes}
 use Rattle.model.specs.Model.Answer.{given}
 use Rattle.model.specs.Items.{Mode, Form, present, simply, formOf, formAt, itemAt}
 use Rattle.model.specs.Read.{Room, read}
@@ -20,7 +20,7 @@ use Rattle.model.proofs.Trees.{slots-then, bytes-then}
 
 -- a text is at most that long
 text-short : {s : Simple} {v : ℕ} {ts w : List ℕ} → SimpleIs s v ts w → length ts ≤ 4095
-unfolding Fits
+unfolding HasCode
 text-short (a-code h) = omega arith
 text-short (a-text h o z) = omega (arith, h)
 
@@ -32,8 +32,8 @@ form-short b bit (simply s) wall at = record { says = λ r e. text-short (simple
 
 module _ (b : ℕ → ℕ) (bit : Binary b) (mode : Mode) (held : ℕ → Bool) where
   goes-few : {x : Extent} {P Q : Plan} {r : Room} {wall at q : ℕ} {ns : Nodes} → Goes b mode held x P r wall at ns q Q
-      → bytesOf ns ≤ 4095 * slotsOf ns
-  unfolding slotsOf bytesOf itemAt
+      → treeBytes ns ≤ 4095 * treeSlots ns
+  unfolding treeSlots treeBytes itemAt
   goes-few {wall} {at} (an-item {i} {v} {q} {ts} e h k) =
       let l = form-short b bit (formOf i) wall at .says (v, ts, q) e in omega arith
   goes-few (an-element x g e h) = let l = goes-few g in omega arith
@@ -43,5 +43,5 @@ module _ (b : ℕ → ℕ) (bit : Binary b) (mode : Mode) (held : ℕ → Bool) 
       let x = goes-few f in let y = goes-few g in omega (arith, slots-then ns ms, bytes-then ns ms)
 
   pub bytes-few : (P : Plan) (r : Room) (π : List ℕ) (wall at : ℕ) (ns : Nodes) (q : ℕ)
-      → read b mode held P r π wall at ≡ given ns q → bytesOf ns ≤ 4095 * slotsOf ns
+      → read b mode held P r π wall at ≡ given ns q → treeBytes ns ≤ 4095 * treeSlots ns
   bytes-few P r π wall at ns q e = goes-few (read-given b mode held P r π wall at ns q e)

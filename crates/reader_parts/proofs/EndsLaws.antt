@@ -9,10 +9,10 @@ use lib.Dec.{ltb, eqb}
 use Rattle.numbers.specs.Refusal.{contentShort}
 use Rattle.numbers.specs.Kind as kinds
 use Rattle.wire.specs.declared.Bits.{Bits}
-use Rattle.model.specs.Model.{Event, start, end, Mark, Nodes, Answer, events, texts, slotsOf, bytesOf, _then_}
+use Rattle.model.specs.Model.{Event, start, end, Mark, Nodes, Answer, events, texts, treeSlots, treeBytes, _then_}
 use Rattle.model.specs.Model.Nodes.{none, leaf, node}
 use Rattle.model.specs.Model.Answer.{given, refused}
-use Rattle.model.specs.Read.{Room, less, lessOne, onto, after, stored, met, ended, closed, Into, entered}
+use Rattle.model.specs.Read.{Room, roomLess, lessOne, onto, after, stored, met, ended, closed, Into, entered}
 use Rattle.model.proofs.Trees.{slots-then, bytes-then, events-then, texts-then}
 use Rattle.reader_parts.specs.declared.Cursor.{Cursor}
 use Rattle.reader_parts.specs.declared.Step.{Step}
@@ -53,7 +53,7 @@ module _ (coded : Bool) (body : Bits) (wall : ℕ) (c : Cursor) (E : List ℕ) (
 pub ruleset close-ways = (close-short, close-met)
 
 -- trees that leave the same
-same-left : (a b : Nodes) (q : ℕ) (c : Cursor) (π E T : List ℕ) → slotsOf a ≡ slotsOf b → bytesOf a ≡ bytesOf b → events a ≡ events b → texts a ≡ texts b
+same-left : (a b : Nodes) (q : ℕ) (c : Cursor) (π E T : List ℕ) → treeSlots a ≡ treeSlots b → treeBytes a ≡ treeBytes b → events a ≡ events b → texts a ≡ texts b
     → outcome (given a q) c π E T ≡ outcome (given b q) c π E T
 unfolding outcome
 same-left a b q c π E T e f g h = rw (e, f, g, h)
@@ -65,7 +65,7 @@ module _ (m : Mark) where
   -- an element's tree leaves what Start, what is inside and End leave
   node-left : (ns : Nodes) (q : ℕ) (c : Cursor) (π E T : List ℕ)
       → outcome (given (node m ns none) q) c π E T ≡ outcome (onto S (onto ns (given (leaf q end [] none) q))) c π E T
-  unfolding onto slotsOf bytesOf events texts _then_
+  unfolding onto treeSlots treeBytes events texts _then_
   node-left ns q c π E T =
       let last : Nodes = leaf q end [] none in
       same-left (node m ns none) _ q c π E T
@@ -74,8 +74,8 @@ module _ (m : Mark) where
       (sym (ap (λ (l : List Event). start m ∷ l) (events-then ns last)))
       (sym (texts-then ns last))
 
-  less-start : (r : Room) → less r S ≡ lessOne r
-  unfolding slotsOf bytesOf
+  less-start : (r : Room) → roomLess r S ≡ lessOne r
+  unfolding treeSlots treeBytes
   less-start r =
       let s : r .slots - (1 + 0) ≡ r .slots - 1 = omega arith in
       let t : r .bytes - (0 + 0) ≡ r .bytes = omega arith in
@@ -86,18 +86,18 @@ module _ (m : Mark) where
         ≡ outcome (onto S (after (lessOne r) a (λ u q. ending (m .coded) body wall u (m .name ∷ π) q))) c π E T
     unfolding closed after onto outcome ended
     closed-left (refused n p ρ) = refl
-    closed-left (given ns q) = go (met (m .coded) q wall) refl (ltb 0 (r .slots - 1 - slotsOf ns)) refl
+    closed-left (given ns q) = go (met (m .coded) q wall) refl (ltb 0 (r .slots - 1 - treeSlots ns)) refl
       where
         R : Room
-        R = less (lessOne r) ns
+        R = roomLess (lessOne r) ns
 
-        go : (b : Bool) → met (m .coded) q wall ≡ b → (d : Bool) → ltb 0 (r .slots - 1 - slotsOf ns) ≡ d
+        go : (b : Bool) → met (m .coded) q wall ≡ b → (d : Bool) → ltb 0 (r .slots - 1 - treeSlots ns) ≡ d
             → outcome (ended b d m π body ns q) c π E T ≡ outcome (onto S (onto ns (ending (m .coded) body wall R (m .name ∷ π) q))) c π E T
         go false x d y = rw (ending-short (m .coded) body wall R (m .name ∷ π) q x)
         go true x false y =
-            rw (ending-met (m .coded) body wall R (m .name ∷ π) q x, stored-full R (m .name ∷ π) q end [] q (omega arith) (omega (arith, ltb-false 0 (r .slots - 1 - slotsOf ns) y)))
+            rw (ending-met (m .coded) body wall R (m .name ∷ π) q x, stored-full R (m .name ∷ π) q end [] q (omega arith) (omega (arith, ltb-false 0 (r .slots - 1 - treeSlots ns) y)))
         go true x true y =
-            rw (ending-met (m .coded) body wall R (m .name ∷ π) q x, stored-in R (m .name ∷ π) q end [] q (omega arith) (ltb-true 0 (r .slots - 1 - slotsOf ns) y))
+            rw (ending-met (m .coded) body wall R (m .name ∷ π) q x, stored-in R (m .name ∷ π) q end [] q (omega arith) (ltb-true 0 (r .slots - 1 - treeSlots ns) y))
             (node-left ns q c π E T)
 
     -- AN ELEMENT as the code goes it: Start is stored, what is inside is read, the end is judged and stored

@@ -6,10 +6,10 @@ use native.Mathlib.Omega.{arith}
 use lib.ListN.{length, set}
 use lib.Seq.{sets, length-sets}
 use Rattle.wire.specs.declared.Bits.{Bits}
-use Rattle.model.specs.Model.{Event, Nodes, Answer, events, texts, slotsOf, bytesOf, _then_}
+use Rattle.model.specs.Model.{Event, Nodes, Answer, events, texts, treeSlots, treeBytes, _then_}
 use Rattle.model.specs.Model.Nodes.{none}
 use Rattle.model.specs.Model.Answer.{given, refused}
-use Rattle.model.specs.Read.{Room, less, onto, after}
+use Rattle.model.specs.Read.{Room, roomLess, onto, after}
 use Rattle.model.proofs.Trees.{slots-then, bytes-then, events-then, texts-then, slots-length, bytes-length}
 use Rattle.model.specs.Whole.{eventWords}
 use Rattle.model.proofs.Buffers.{words-append}
@@ -33,18 +33,18 @@ laidT T c ns = sets T (c .used) (texts ns)
 
 -- the cursor e is c after nodes
 pub record Moved (c : Cursor) (ns : Nodes) (e : Cursor) : Type 0 where
-  pub count : e .count ≡ c .count + slotsOf ns
-  pub used : e .used ≡ c .used + bytesOf ns
+  pub count : e .count ≡ c .count + treeSlots ns
+  pub used : e .used ≡ c .used + treeBytes ns
 
 module _ (E T : List ℕ) (c : Cursor) (a : Nodes) (e : Cursor) (m : Moved c a e) where
-  pub room-moved : roomOf (laidE E c a) (laidT T c a) e ≡ less (roomOf E T c) a
+  pub room-moved : roomOf (laidE E c a) (laidT T c a) e ≡ roomLess (roomOf E T c) a
   room-moved =
       let f = length-sets E (4 * c .count) (eventWords (events a)) in
       let g = length-sets T (c .used) (texts a) in
       let x = m .count in
       let y = m .used in
-      let s : slotsIn (length (laidE E c a)) - e .count ≡ slotsIn (length E) - c .count - slotsOf a = ap (λ (n : ℕ). slotsIn n - e .count) f ∙ omega arith in
-      let t : length (laidT T c a) - e .used ≡ length T - c .used - bytesOf a = omega arith in
+      let s : slotsIn (length (laidE E c a)) - e .count ≡ slotsIn (length E) - c .count - treeSlots a = ap (λ (n : ℕ). slotsIn n - e .count) f ∙ omega arith in
+      let t : length (laidT T c a) - e .used ≡ length T - c .used - treeBytes a = omega arith in
       λ i. record { slots = s i; bytes = t i }
 
   -- what is read after nodes are laid
@@ -54,8 +54,8 @@ module _ (E T : List ℕ) (c : Cursor) (a : Nodes) (e : Cursor) (m : Moved c a e
   outcome-onto (given b p) π =
       let x = m .count in
       let y = m .used in
-      let u : c .count + slotsOf (a then b) ≡ e .count + slotsOf b = omega (arith, slots-then a b) in
-      let v : c .used + bytesOf (a then b) ≡ e .used + bytesOf b = omega (arith, bytes-then a b) in
+      let u : c .count + treeSlots (a then b) ≡ e .count + treeSlots b = omega (arith, slots-then a b) in
+      let v : c .used + treeBytes (a then b) ≡ e .used + treeBytes b = omega (arith, bytes-then a b) in
       cc (laid-then b, texts-laid b)
     where
       laid-then : (b : Nodes) → laidE E c (a then b) ≡ laidE (laidE E c a) e b
@@ -85,7 +85,7 @@ after-went : (o : Answer) (c : Cursor) (π E T : List ℕ) (e : Cursor) (ρ E′
 unfolding after
 after-went o c π E T e ρ E′ T′ d σ K =
     rw (d .events-are, d .texts-are, d .path, d .gave, room-moved E T c (d .nodes) e (d .moved))
-    (sym (outcome-onto E T c (d .nodes) e (d .moved) (K (less (roomOf E T c) (d .nodes)) π (e .at .0)) σ))
+    (sym (outcome-onto E T c (d .nodes) e (d .moved) (K (roomLess (roomOf E T c) (d .nodes)) π (e .at .0)) σ))
 
 module _ (s : Step) (ρ E′ T′ : List ℕ) (o : Answer) (c : Cursor) (π E T : List ℕ) (h : stepView s ρ E′ T′ ≡ outcome o c π E T) where
   pub did-go : (e : Cursor) → s ≡ Go e → Went o c π E T e ρ E′ T′
@@ -145,7 +145,7 @@ module _ (s : Step) (ρ E′ T′ : List ℕ) (o : Answer) (c : Cursor) (π E T 
 
 -- nothing read
 pub outcome-none : (c : Cursor) (π E T : List ℕ) → stepView (Go c) π E T ≡ outcome (given none (c .at .0)) c π E T
-unfolding stepView outcome slotsOf bytesOf events texts eventWords
+unfolding stepView outcome treeSlots treeBytes events texts eventWords
 outcome-none c π E T =
     let s : c .count ≡ c .count + 0 = omega arith in
     let t : c .used ≡ c .used + 0 = omega arith in

@@ -14,7 +14,7 @@ use Rattle.wire.specs.declared.Bytes.{Bytes}
 use Rattle.wire.specs.Bits.{num}
 use Rattle.value.specs.Simple.{bytesAt}
 use Rattle.value.proofs.SimpleLaws.{bytes-length, bytes-none, bytes-more}
-use Rattle.model.specs.Model.{Event, event, events, texts, slotsOf, bytesOf}
+use Rattle.model.specs.Model.{Event, event, events, texts, treeSlots, treeBytes}
 use Rattle.model.specs.Model.Nodes.{none, leaf}
 use Rattle.model.specs.Model.Answer.{given, refused}
 use Rattle.model.specs.Read.{Room, kept, stored}
@@ -42,7 +42,7 @@ module _ (r : Room) (π : List ℕ) (at : ℕ) (e : Event) (ts : List ℕ) (q : 
 -- what an event and its text leave
 pub outcome-leaf : (at : ℕ) (e : Event) (ts : List ℕ) (q : ℕ) (c : Cursor) (π E T : List ℕ) → outcome (given (leaf at e ts none) q) c π E T
     ≡ went q (c .count + 1) (c .used + length ts) π (sets E (4 * c .count) (eventWords (e ∷ []))) (sets T (c .used) ts)
-unfolding outcome events texts slotsOf bytesOf eventWords
+unfolding outcome events texts treeSlots treeBytes eventWords
 outcome-leaf at e ts q c π E T =
     let s : c .count + (1 + 0) ≡ c .count + 1 = omega arith in
     let t : c .used + (length ts + 0) ≡ c .used + length ts = omega arith in

@@ -9,7 +9,7 @@ use lib.Seq.{sets}
 use Rattle.numbers.specs.Refusal.{contentShort}
 use Rattle.numbers.specs.Kind as kinds
 use Rattle.numbers.specs.Limit.{mostEvents}
-use Rattle.model.specs.Model.{event, end, value, maybe, Plan, Answer, events, texts, slotsOf, bytesOf}
+use Rattle.model.specs.Model.{event, end, value, maybe, Plan, Answer, events, texts, treeSlots, treeBytes}
 use Rattle.model.specs.Model.Plan.{done}
 use Rattle.model.specs.Model.Answer.{given, refused}
 use Rattle.table.specs.Rows.{Attribute}
@@ -40,7 +40,7 @@ stepView (Refuse n at) π E T = stopped n (at .0) π
 -- a tree's events and texts laid into the buffers, from the cursor on; π is the path where it goes on
 unfoldable pub outcome : Answer → Cursor → List ℕ → List ℕ → List ℕ → Out
 outcome (given ns q) c π E T =
-    went q (c .count + slotsOf ns) (c .used + bytesOf ns) π (sets E (4 * c .count) (eventWords (events ns))) (sets T (c .used) (texts ns))
+    went q (c .count + treeSlots ns) (c .used + treeBytes ns) π (sets E (4 * c .count) (eventWords (events ns))) (sets T (c .used) (texts ns))
 outcome (refused n p ρ) c π E T = stopped n p ρ
 
 -- CONTRACTS OF LEAVES, for every path. A plan read, in every mode and by any held marks, as it opens no element

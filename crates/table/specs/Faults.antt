@@ -6,7 +6,7 @@ use mathlib.Core.Bool.{true, false}
 use lib.ListN.{length}
 use Rattle.table.specs.First.{Verdict}
 use Rattle.table.specs.First.Verdict.{right, wrong}
-use Rattle.table.specs.Valid.{verdict, Sized, rightAt}
+use Rattle.table.specs.Valid.{Sized, rightAt}
 
 pub record Whole (l : List ℕ) : Type 0 where
   pub sized : Sized l

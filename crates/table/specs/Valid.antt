@@ -111,6 +111,26 @@ module _ (w : ℕ → ℕ) where
   unfoldable pub rowWords : (T A P : ℕ) → List Bool
   rowWords T A P = rows (typeRow A P) 0 T ++ (rows (attributeRow T) 0 A ++ rows (particleRow T A P) 0 P)
 
+-- the verdict on one row of a table's words, and on all rows of a kind; places are the words' own
+module _ (l : List ℕ) where
+  abbrev pub typeVerdict : (A P t : ℕ) → Verdict
+  typeVerdict A P t = first (typeAt t) (typeRow (wordAt l) A P t)
+
+  abbrev pub attributeVerdict : (T a : ℕ) → Verdict
+  attributeVerdict T a = first (attributeAt T a) (attributeRow (wordAt l) T a)
+
+  abbrev pub particleVerdict : (T A P p : ℕ) → Verdict
+  particleVerdict T A P p = first (particleAt T A p) (particleRow (wordAt l) T A P p)
+
+  abbrev pub typesVerdict : (A P T : ℕ) → Verdict
+  typesVerdict A P T = first (typeAt 0) (rows (typeRow (wordAt l) A P) 0 T)
+
+  abbrev pub attributesVerdict : (T A : ℕ) → Verdict
+  attributesVerdict T A = first (attributeAt T 0) (rows (attributeRow (wordAt l) T) 0 A)
+
+  abbrev pub particlesVerdict : (T A P : ℕ) → Verdict
+  particlesVerdict T A P = first (particleAt T A 0) (rows (particleRow (wordAt l) T A P) 0 P)
+
 -- The header words that are given, then the length, of which a wrong one is named at the number of words given, then every other word.
 unfoldable pub verdictFrom : (l : List ℕ) (T A P : ℕ) → Verdict
 verdictFrom l T A P =

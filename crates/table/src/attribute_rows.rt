@@ -7,9 +7,8 @@ use numbers::content;
 use numbers::limit;
 ghost use mathlib.Core.Path.{_≡_};
 ghost use Rattle.table.specs.First.{first};
-ghost use Rattle.table.specs.Valid.{attributeWords, attributeRow, rows};
+ghost use Rattle.table.specs.Valid.{attributeWords, attributeVerdict, attributesVerdict};
 ghost use Rattle.table.specs.Views.{verdictIs};
-ghost use Rattle.table.specs.Words.{attributeAt, wordAt};
 
 // The three words, with the content and the attribute count of the type.
 fn words(types: u32, name: u32, must: u32, t: u32, content: u32, count: u32) -> Verdict
@@ -35,7 +34,7 @@ fn words(types: u32, name: u32, must: u32, t: u32, content: u32, count: u32) -> 
 
 // The attribute row a.
 fn row(table: &[u32], types: u32, a: u32) -> Verdict
-    ensures { λ r. ⌜ verdictIs r ≡ first (attributeAt types a) (attributeRow (wordAt (now (table .entry))) types a) ⌝ }
+    ensures { λ r. ⌜ verdictIs r ≡ attributeVerdict (now (table .entry)) types a ⌝ }
 {
     let base = attribute_at(types, a);
     let w = four_from(table, base);
@@ -53,7 +52,7 @@ fn row(table: &[u32], types: u32, a: u32) -> Verdict
 
 // Every attribute row, up to one at fault.
 pub fn all(table: &[u32], types: u32, attributes: u32) -> Verdict
-    ensures { λ r. ⌜ verdictIs r ≡ first (attributeAt types 0) (rows (attributeRow (wordAt (now (table .entry))) types) 0 attributes) ⌝ }
+    ensures { λ r. ⌜ verdictIs r ≡ attributesVerdict (now (table .entry)) types attributes ⌝ }
 {
     let mut a = 0;
     while a < attributes {

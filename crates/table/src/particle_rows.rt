@@ -6,9 +6,8 @@ use numbers::limit;
 use numbers::particle;
 ghost use mathlib.Core.Path.{_≡_};
 ghost use Rattle.table.specs.First.{first};
-ghost use Rattle.table.specs.Valid.{elementWords, groupWords, occursWords, particleWords, particleRow, rows};
+ghost use Rattle.table.specs.Valid.{elementWords, groupWords, occursWords, particleWords, particleVerdict, particlesVerdict};
 ghost use Rattle.table.specs.Views.{verdictIs};
-ghost use Rattle.table.specs.Words.{particleAt, wordAt};
 
 // An element: name, type, 0.
 fn element(types: u32, name: u32, t: u32, last: u32) -> Verdict
@@ -100,7 +99,7 @@ fn by_kind(types: u32, particles: u32, p: u32, kind: u32, x: u32, y: u32, z: u32
 
 // The particle row p.
 fn row(table: &[u32], types: u32, attributes: u32, particles: u32, p: u32) -> Verdict
-    ensures { λ r. ⌜ verdictIs r ≡ first (particleAt types attributes p) (particleRow (wordAt (now (table .entry))) types attributes particles p) ⌝ }
+    ensures { λ r. ⌜ verdictIs r ≡ particleVerdict (now (table .entry)) types attributes particles p ⌝ }
 {
     let base = particle_at(types, attributes, p);
     let w = four_from(table, base);
@@ -115,7 +114,7 @@ fn row(table: &[u32], types: u32, attributes: u32, particles: u32, p: u32) -> Ve
 
 // Every particle row, up to one at fault.
 pub fn all(table: &[u32], types: u32, attributes: u32, particles: u32) -> Verdict
-    ensures { λ r. ⌜ verdictIs r ≡ first (particleAt types attributes 0) (rows (particleRow (wordAt (now (table .entry))) types attributes particles) 0 particles) ⌝ }
+    ensures { λ r. ⌜ verdictIs r ≡ particlesVerdict (now (table .entry)) types attributes particles ⌝ }
 {
     let mut p = 0;
     while p < particles {

@@ -1,4 +1,4 @@
--- READER COMPLETE (`is-read`): what is so by the grammar and stands there is read, where wall and room suffice; and one who holds less reads
+-- READER COMPLETE (`is-read`): what is so by the grammar and stands there is read, where wall and room suffice; and one who holds roomLess reads
 -- what the walk shows of it (`is-shown`).
 use Prim.Native.Nat.{ℕ, _+_, _-_, _≤_}
 use mathlib.Core.Path.{_≡_, refl, _∙_}
@@ -10,7 +10,7 @@ use lib.ListN.{length, length-append}
 use Rattle.wire.specs.Res.{got}
 use Rattle.wire.specs.At.{At}
 use Rattle.wire.proofs.BitLaws.{at-left, at-right}
-use Rattle.model.specs.Model.{event, Item, eventOf, Plan, Nodes, Path, slotsOf, bytesOf, bitsOf}
+use Rattle.model.specs.Model.{event, Item, eventOf, Plan, Nodes, Path, treeSlots, treeBytes, treeBits}
 use Rattle.model.specs.Model.Plan.{item, element}
 use Rattle.model.specs.Model.Nodes.{none, leaf, node}
 use Rattle.model.specs.Model.Answer.{given}
@@ -18,10 +18,10 @@ use Rattle.model.specs.Items.{Mode, Length, free, long, coded, Measures, itemAt
 use Rattle.model.proofs.ItemLaws.{item-reads, headOf, stopOf, stop-in, head-reads}
 use Rattle.model.specs.Grammar as grammar
 use Rattle.model.specs.Grammar.{opens, Is}
-use Rattle.model.specs.Read.{Room, less, lessOne, met, read}
+use Rattle.model.specs.Read.{Room, roomLess, lessOne, met, read}
 use Rattle.model.proofs.Readings.{one, Goes, an-item, an-element, a-blank, nothing, more, Refuses, here, unheld, inside, later, Reads, reads-read}
 use Rattle.theorems.specs.Less.{newly}
-use Rattle.theorems.proofs.Walk.{Walk, shown, lacking, both, enclosed, shownAs, walk, answer, Fits, shownAs-fits, walk-fits, walk-none}
+use Rattle.theorems.proofs.Walk.{Walk, shown, lacking, both, enclosed, shownAs, walk, answer, ShowsNoMore, shownAs-fits, walk-fits, walk-none}
 use Rattle.model.proofs.Sums.{is-sum}
 
 meets : (h : Length) (k body wall q : ℕ) → Measures h k → body + k ≡ q → met (coded h) q (stopOf h body wall) ≡ true
@@ -47,18 +47,18 @@ module _ (b : ℕ → ℕ) (mode : Mode) (held : ℕ → Bool) (r : Room) (π : 
   blank-goes name type t body a n q f P e y d z l = rw (← d, ← y) (a-blank a e z l)
 
   -- `ns` is what the walk was over
-  both-reads : (P Q : Plan) (ns : Nodes) (v u : Walk) (q p : ℕ) → Fits v ns → Starts P Q v q
-      → ((ms : Nodes) → slotsOf ms ≤ slotsOf ns → bytesOf ms ≤ bytesOf ns
-      → Reads b mode held Q (less r ms) π wall q (answer u p)) → Reads b mode held P r π wall at (answer (both v u) p)
+  both-reads : (P Q : Plan) (ns : Nodes) (v u : Walk) (q p : ℕ) → ShowsNoMore v ns → Starts P Q v q
+      → ((ms : Nodes) → treeSlots ms ≤ treeSlots ns → treeBytes ms ≤ treeBytes ns
+      → Reads b mode held Q (roomLess r ms) π wall q (answer u p)) → Reads b mode held P r π wall at (answer (both v u) p)
   unfolding answer both
   both-reads P Q ns (lacking n ρ) u q p h d f = d
   both-reads P Q ns (shown ms) (shown ks) q p h d f = more d (f ms (h .0) (h .1))
   both-reads P Q ns (shown ms) (lacking n ρ) q p h d f = later d (f ms (h .0) (h .1))
 
-  module _ (name type t : ℕ) (f : ℕ → Plan) (P : Plan) (body : ℕ) (i : Nodes) (q : ℕ) (room : 2 + slotsOf i ≤ r .slots) where
-    element-starts : (h : Length) (new : Bool) (v : Walk) (n k : ℕ) → Fits v i
+  module _ (name type t : ℕ) (f : ℕ → Plan) (P : Plan) (body : ℕ) (i : Nodes) (q : ℕ) (room : 2 + treeSlots i ≤ r .slots) where
+    element-starts : (h : Length) (new : Bool) (v : Walk) (n k : ℕ) → ShowsNoMore v i
         → headAt mode b type wall at ≡ got (headOf h t body) → Measures h k → body + k ≡ q → body - at ≡ n
-        → q - at ≡ n + bitsOf i
+        → q - at ≡ n + treeBits i
         → held t ≡ not new
         → (held t ≡ true → Reads b mode held (f t) (lessOne r) (name ∷ π) (stopOf h body wall) body (answer v q))
         → Starts (element name type f P) P (shownAs new (coded h) (opens name t h at n) π i v) q
@@ -87,9 +87,9 @@ module _ (b : ℕ → ℕ) (mode : Mode) where
     new t = newly held held′ t
 
     shows : {P : Plan} {at : ℕ} {ns : Nodes} {w : List ℕ} → Is mode held′ P at ns w → (r : Room) (π : Path) (wall q : ℕ)
-        → At b at w q → q ≤ wall → slotsOf ns ≤ r .slots → bytesOf ns ≤ r .bytes
+        → At b at w q → q ≤ wall → treeSlots ns ≤ r .slots → treeBytes ns ≤ r .bytes
         → Reads b mode held P r π wall at (answer (walk new π ns) q)
-    unfolding walk answer slotsOf bytesOf
+    unfolding walk answer treeSlots treeBytes
     shows {at} grammar.nothing r π wall q f k m n = let z : q ≡ at = omega (arith, f .next) in rw z nothing
     shows {at} (grammar.an-item {i} {k = c} {v} {ts} {w} {x} {r = ns} h j) r π wall q f k m n =
         let l = length-append w x in
@@ -98,7 +98,7 @@ module _ (b : ℕ → ℕ) (mode : Mode) where
         both-reads b mode held r π wall at (item i c) (c v) first (shown first) (walk new π ns) (at + length w) q (omega arith)
         (item-goes b mode held r π wall at i c v (length w) (at + length w) ts
         (item-reads b i h (at-left w x f) (omega arith)) (omega arith) (omega arith) (omega arith))
-        (λ ms s t. shows j (less r ms) π wall q (at-right w x f) k (omega arith) (omega arith))
+        (λ ms s t. shows j (roomLess r ms) π wall q (at-right w x f) k (omega arith) (omega arith))
     shows {at} (grammar.an-element {name} {type} {t} {f = c} {P} {h} {s} {w} {x} {i} {r = ns} y z g me j) r π wall q f k m n =
         let l = length-append (s ++ w) x in
         let o = length-append s w in
@@ -115,7 +115,7 @@ module _ (b : ℕ → ℕ) (mode : Mode) where
         (head-reads b wall y (at-left s w u) (omega arith) (e .0)) me (omega arith) (omega arith)
         (omega (arith, is-sum mode held′ g)) (not-new t (held t) refl z)
         (λ p. shows g (lessOne r) (name ∷ π) (stopOf h (at + length s) wall) end (at-right s w u) (omega arith) (omega arith) (omega arith)))
-        (λ ms a e. shows j (less r ms) π wall q (at-right (s ++ w) x f) k (omega arith) (omega arith))
+        (λ ms a e. shows j (roomLess r ms) π wall q (at-right (s ++ w) x f) k (omega arith) (omega arith))
     shows {at} (grammar.a-blank {name} {type} {t} {f = c} {P} {s} {x} {r = ns} w h z u j) r π wall q f k m n =
         let l = length-append (s ++ w) x in
         let o = length-append s w in
@@ -126,11 +126,11 @@ module _ (b : ℕ → ℕ) (mode : Mode) where
         (blank-goes b mode held r π wall at name type t (at + length s) (length w) _ _ c P
         (head-reads b wall h (at-left s w a) (omega arith) (omega arith)) (omega arith) (omega arith)
         (not-held t (held t) refl z) (omega arith))
-        (λ ms a e. shows j (less r ms) π wall q (at-right (s ++ w) x f) k (omega arith) (omega arith))
+        (λ ms a e. shows j (roomLess r ms) π wall q (at-right (s ++ w) x f) k (omega arith) (omega arith))
 
     pub is-shown : {P : Plan} {at : ℕ} {ns : Nodes} {w : List ℕ} → Is mode held′ P at ns w
         → (r : Room) (π : Path) (wall q : ℕ)
-        → At b at w q → q ≤ wall → slotsOf ns ≤ r .slots → bytesOf ns ≤ r .bytes
+        → At b at w q → q ≤ wall → treeSlots ns ≤ r .slots → treeBytes ns ≤ r .bytes
         → read b mode held P r π wall at ≡ answer (walk new π ns) q
     is-shown {P} {at} i r π wall q f k m n = reads-read b mode held P r π wall at _ (shows i r π wall q f k m n)
 
@@ -143,7 +143,7 @@ module _ (b : ℕ → ℕ) (mode : Mode) where
 
     pub is-read : {P : Plan} {at : ℕ} {ns : Nodes} {w : List ℕ} → Is mode held P at ns w
         → (r : Room) (π : Path) (wall q : ℕ)
-        → At b at w q → q ≤ wall → slotsOf ns ≤ r .slots → bytesOf ns ≤ r .bytes
+        → At b at w q → q ≤ wall → treeSlots ns ≤ r .slots → treeBytes ns ≤ r .bytes
         → read b mode held P r π wall at ≡ given ns q
     unfolding answer
     is-read {ns} i r π wall q f k m n =

@@ -6,8 +6,8 @@ use mathlib.Core.List.{List, [], map}
 use native.Mathlib.Omega.{arith}
 use lib.ListN.{length, length-map}
 use Rattle.table.specs.Rows.{heldOf}
-use Rattle.value.specs.Simple.{Octets}
-use Rattle.model.specs.Model.{Nodes, events, texts, slotsOf, bytesOf}
+use Rattle.value.specs.Simple.{AllBytes}
+use Rattle.model.specs.Model.{Nodes, events, texts, treeSlots, treeBytes}
 use Rattle.model.specs.Items.{Mode}
 use Rattle.model.specs.Trees.{total}
 use Rattle.model.proofs.Trees.{slots-length, bytes-length, bits-total}
@@ -42,9 +42,9 @@ module _ (l : List ℕ) (name type : ℕ) where
   pub valid-read : (mode : Mode) (L X : List ℕ) (h : Valid l name type mode L X) → bytesFor (h .bits) ≤ 8192 → (words bytes : ℕ) → length L ≤ words → length X ≤ bytes
       → reading l name type (payloadOf mode (h .bits)) words bytes ≡ accepted mode (h .tree) (8 + length (h .bits))
   valid-read mode L X h k words bytes m n =
-      let a : slotsOf (h .tree) ≡ length L / 4 =
+      let a : treeSlots (h .tree) ≡ length L / 4 =
       slots-length (h .tree) ∙ sym (length-map (events (h .tree)) bare) ∙ sym (ap length (h .list)) ∙ events-length L 0 (length L / 4) in
-      let b : bytesOf (h .tree) ≡ length X = bytes-length (h .tree) ∙ sym (ap length (h .text)) in
+      let b : treeBytes (h .tree) ≡ length X = bytes-length (h .tree) ∙ sym (ap length (h .text)) in
       let c = h .shape .few in
       reading-entered l name type (payloadOf mode (h .bits)) words bytes (h .enters)
       ∙ payload-reads (heldOf l) (planOf l name type) _ (roomOf words bytes) mode (h .tree) _
@@ -114,7 +114,7 @@ module _ (l : List ℕ) (name type : ℕ) where
       }
 
   -- SECOND HALF: bytes read without blanks are written back identically, where room allows
-  pub read-write : (s : List ℕ) (words bytes room : ℕ) (mode : Mode) (ns : Nodes) (used : ℕ) → Octets s → reading l name type s words bytes ≡ accepted mode ns used → NoBlank (events ns) → length s ≤ room
+  pub read-write : (s : List ℕ) (words bytes room : ℕ) (mode : Mode) (ns : Nodes) (used : ℕ) → AllBytes s → reading l name type s words bytes ≡ accepted mode ns used → NoBlank (events ns) → length s ≤ room
       → writing l name type (modeNumber mode) (eventWords (events ns)) (texts ns) room ≡ made s used
   read-write s words bytes room mode ns used o e b k =
       let f = reading-found l name type s words bytes mode ns used e in

@@ -6,7 +6,7 @@ use mathlib.Core.List.{List, [], _∷_, _++_, reverse}
 use mathlib.Core.Bool.{Bool, true, false, cond}
 use mathlib.Core.Option.{Option, none, some}
 use native.Mathlib.Omega.{arith}
-use Rattle.model.specs.Model.{event, Mark, Nodes, Path, bitsOf}
+use Rattle.model.specs.Model.{event, Mark, Nodes, Path, treeBits}
 use Rattle.model.specs.Model.Nodes.{leaf, node}
 use Rattle.model.specs.Items.{Mode}
 use Rattle.theorems.specs.Less.{outermost, replaced, firstBare}
@@ -79,15 +79,15 @@ module _ (l l′ : List ℕ) (pair : Pair l l′) (name type : ℕ) (s : List �
 
 -- a Blank has the bits of what it stands for, so the sum of all bits stays
 module _ (new : ℕ → Bool) where
-  node-bits : (t : Bool) (m : Mark) (i r : Nodes) → bitsOf (replaced new i) ≡ bitsOf i → bitsOf (replaced new r) ≡ bitsOf r
-      → bitsOf (cond t (leaf (m .at) (event 7 (m .name) (m .type) (m .bits + bitsOf i)) [] (replaced new r)) (node m (replaced new i) (replaced new r)))
-      ≡ bitsOf (node m i r)
-  unfolding bitsOf
+  node-bits : (t : Bool) (m : Mark) (i r : Nodes) → treeBits (replaced new i) ≡ treeBits i → treeBits (replaced new r) ≡ treeBits r
+      → treeBits (cond t (leaf (m .at) (event 7 (m .name) (m .type) (m .bits + treeBits i)) [] (replaced new r)) (node m (replaced new i) (replaced new r)))
+      ≡ treeBits (node m i r)
+  unfolding treeBits
   node-bits true m i r e f = omega arith
   node-bits false m i r e f = omega arith
 
-  pub replaced-bits : (ns : Nodes) → bitsOf (replaced new ns) ≡ bitsOf ns
-  unfolding replaced bitsOf
+  pub replaced-bits : (ns : Nodes) → treeBits (replaced new ns) ≡ treeBits ns
+  unfolding replaced treeBits
   replaced-bits Nodes.none = refl
   replaced-bits (leaf at e ts r) = omega (arith, replaced-bits r)
   replaced-bits (node m i r) = node-bits (new (m .type)) m i r (replaced-bits i) (replaced-bits r)

@@ -8,7 +8,7 @@ use borrow.Author.Tests.{eqb-true}
 use Rattle.wire.specs.Res.{Res, got}
 use Rattle.wire.specs.At.{At}
 use Rattle.wire.specs.Lawful.{Binary}
-use Rattle.model.specs.Model.{event, Plan, Nodes, Path, Answer, slotsOf, bytesOf, _then_}
+use Rattle.model.specs.Model.{event, Plan, Nodes, Path, Answer, treeSlots, treeBytes, _then_}
 use Rattle.model.specs.Model.Plan.{done}
 use Rattle.model.specs.Model.Nodes.{none, leaf, node}
 use Rattle.model.specs.Model.Answer.{given, refused}
@@ -158,6 +158,6 @@ module _ (b : ℕ → ℕ) (bit : Binary b) (mode : Mode) (held held′ : ℕ �
       → (s : Room) (π : Path) (wall q : ℕ) → At b at w q → q ≤ wall
       → Follows new π ms q (read b mode held′ P s π wall at)
   is-followed {P} {at} {ms} j s π wall q f k =
-      let r : Room = record { slots = slotsOf ms; bytes = bytesOf ms } in
+      let r : Room = record { slots = treeSlots ms; bytes = treeBytes ms } in
       let g = read-given b mode held P r [] wall at ms q (is-read b mode held j r [] wall q f k (omega arith) (omega arith)) in
       read-by b mode held′ (Follows new π ms q) P s π wall at (λ ns p i. ends-follow g i .0) (λ n p ρ d. excused g d (omega (arith, f .next)))

@@ -4,7 +4,7 @@ use mathlib.Core.Path.{_≡_, refl, sym, ap, ap₂, _∙_}
 use mathlib.Core.List.{List, [], _∷_, _++_, map, append-nil, append-assoc, map-append}
 use native.Mathlib.Omega.{arith}
 use lib.ListN.{length, length-append}
-use Rattle.model.specs.Model.{end, Nodes, events, texts, slotsOf, bytesOf}
+use Rattle.model.specs.Model.{end, Nodes, events, texts, treeSlots, treeBytes}
 use Rattle.model.specs.Model.Nodes.{none, leaf, node}
 use Rattle.model.specs.Write.{Bare, bare}
 use Rattle.theorems.specs.Lists.{lists, spells}
@@ -31,14 +31,14 @@ pub spells-all : (ns : Nodes) → spells ns [] ≡ texts ns
 spells-all ns = spells-texts ns [] ∙ append-nil (texts ns)
 
 -- how many
-pub lists-length : (ns : Nodes) (M : List Bare) → length (lists ns M) ≡ slotsOf ns + length M
-unfolding lists slotsOf
+pub lists-length : (ns : Nodes) (M : List Bare) → length (lists ns M) ≡ treeSlots ns + length M
+unfolding lists treeSlots
 lists-length none M = omega arith
 lists-length (leaf at e ts r) M = omega (arith, lists-length r M)
 lists-length (node m i r) M = omega (arith, lists-length r M, lists-length i (bare end ∷ lists r M))
 
-pub spells-length : (ns : Nodes) (U : List ℕ) → length (spells ns U) ≡ bytesOf ns + length U
-unfolding spells bytesOf
+pub spells-length : (ns : Nodes) (U : List ℕ) → length (spells ns U) ≡ treeBytes ns + length U
+unfolding spells treeBytes
 spells-length none U = omega arith
 spells-length (leaf at e ts r) U = omega (arith, length-append ts (spells r U), spells-length r U)
 spells-length (node m i r) U = omega (arith, spells-length i (spells r U), spells-length r U)

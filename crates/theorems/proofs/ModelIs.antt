@@ -16,7 +16,7 @@ use Rattle.table.specs.Words.{typesIn, attributesIn, particlesIn}
 use Rattle.table.specs.Keeps.{Each, SimpleOk, AttributeOk, ContentOk, RowOk}
 use Rattle.table.proofs.Laws.{row-ok, content-ok, attributes-ok, sized, counts-ok}
 use Rattle.wire.proofs.Width.{width-under, width-pow}
-use Rattle.value.specs.Code.{Fits, bitsOf}
+use Rattle.value.specs.Code.{HasCode, bitsOf}
 use Rattle.value.specs.Code as code
 use Rattle.value.specs.Simple.{a-code, timesCode}
 use Rattle.value.specs.Values.{InKind}
@@ -103,7 +103,7 @@ right-bounded l r = record {
 
 -- a head has few bits
 head-few : (mode : Mode) (q n : ℕ) → n < 2 ^ 32 → length (headOut mode (lengthOf q n)) ≤ 41
-unfolding headOut mostBits Fits
+unfolding headOut mostBits HasCode
 head-few Mode.never q n h = omega arith
 head-few Mode.optional zero n h = omega (arith, bits-most flag 0 (omega arith), width-pow 1)
 head-few Mode.optional (suc k) n h =
@@ -233,7 +233,7 @@ module _ (mode : Mode) (held : ℕ → Bool) where
   -- an optional attribute's flag, one bit
   flag-stands : (name : ℕ) {k : ℕ → Plan} {v : ℕ} {X : List ℕ} {L : List Bare} → v < 2 → Stands (k v) L X
       → Stands (item (optional name) k) (word 2 name v ∷ L) X
-  unfolding eventOf formOf Fits mostBits
+  unfolding eventOf formOf HasCode mostBits
   flag-stands name {v = v} h s =
       let m = bits-most flag v h in
       item-stands (optional name) (is-simple (a-code {c = flag} {v = v} h)) (omega (arith, width-pow 1)) s
@@ -283,7 +283,7 @@ module _ (mode : Mode) (held : ℕ → Bool) where
 
     pub model-is : {d : ℕ} {Q : Part} {L : List Bare} {X : List ℕ}
         → Model T mode held d Q L X → Fine Q → length L ≤ 2048 → Stands (planFor d Q) L X
-    unfolding plan due contents within model.attributes model.rows eventOf formOf Fits mostBits
+    unfolding plan due contents within model.attributes model.rows eventOf formOf HasCode mostBits
     model-is (Model.element {name} {type} {flag} {L} f z m) h n =
         let k = length-append L (word 6 0 0 ∷ []) in
         element-stands name type flag _ f z (model-is m h (omega arith)) (omega arith)

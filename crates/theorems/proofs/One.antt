@@ -12,7 +12,7 @@ use Rattle.wire.proofs.BitLaws.{at-same}
 use Rattle.wire.specs.Lawful.{Binary}
 use Rattle.table.specs.Rows.{Row, Content, Attribute, Table}
 use Rattle.table.specs.Rows.Content.{empty, simple, particles}
-use Rattle.model.specs.Model.{Plan, Nodes, Path, slotsOf, bytesOf, value, maybe, attribute, attributes, contents, rows, within, due, plan}
+use Rattle.model.specs.Model.{Plan, Nodes, Path, treeSlots, treeBytes, value, maybe, attribute, attributes, contents, rows, within, due, plan}
 use Rattle.model.specs.Model.Plan.{done, element}
 use Rattle.model.specs.Model.Answer.{given}
 use Rattle.model.specs.Items.{Mode}
@@ -32,7 +32,7 @@ has-one b at (z ∷ w) (y ∷ x) h k e = ap₂ _∷_ (sym (h .0) ∙ k .0) (has-
 module _ (mode : Mode) (held : ℕ → Bool) (P : Plan) where
   pub unambiguous : (b : ℕ → ℕ) {at p q : ℕ} {ns ms : Nodes} {w x : List ℕ} → Is mode held P at ns w → At b at w p → Is mode held P at ms x → At b at x q → Same ns ms p q w x
   unambiguous b {at} {p} {q} {ns} {ms} {w} {x} i f j g =
-      let r : Room = record { slots = max (slotsOf ns) (slotsOf ms); bytes = max (bytesOf ns) (bytesOf ms) } in
+      let r : Room = record { slots = max (treeSlots ns) (treeSlots ms); bytes = max (treeBytes ns) (treeBytes ms) } in
       let one = is-read b mode held i r [] (max p q) p f (omega arith) (omega arith) (omega arith) in
       let two = is-read b mode held j r [] (max p q) q g (omega arith) (omega arith) (omega arith) in
       let n : p ≡ q = cc in
@@ -41,7 +41,7 @@ module _ (mode : Mode) (held : ℕ → Bool) (P : Plan) where
       record { trees = cc; next = n; bits = has-one b at w x (f .there) (g .there) (omega arith) }
 
   pub read-extends : (b c : ℕ → ℕ) → Binary b → (r s : Room) (π ρ : Path) (wall far at : ℕ) (ns : Nodes) (q : ℕ) → at ≤ wall → read b mode held P r π wall at ≡ given ns q
-      → ((i : ℕ) → at ≤ i → i < q → c i ≡ b i) → q ≤ far → slotsOf ns ≤ s .slots → bytesOf ns ≤ s .bytes → read c mode held P s ρ far at ≡ given ns q
+      → ((i : ℕ) → at ≤ i → i < q → c i ≡ b i) → q ≤ far → treeSlots ns ≤ s .slots → treeBytes ns ≤ s .bytes → read c mode held P s ρ far at ≡ given ns q
   read-extends b c bit r s π ρ wall far at ns q a e h k l m =
       let f = read-found b mode held bit P r π wall at ns q a e in
       is-read c mode held (f .is) s ρ far q (at-same h (f .stands)) k l m

@@ -14,9 +14,9 @@ use Rattle.wire.specs.Res.{Res, got, fault, Ensures}
 use Rattle.wire.proofs.Res.{gives, stops, under, under-then}
 use Rattle.wire.specs.Bits.{bitAt, source}
 use Rattle.wire.proofs.BitLaws.{bit-lt}
-use Rattle.value.specs.Simple.{bytesAt, Octets}
+use Rattle.value.specs.Simple.{bytesAt, AllBytes}
 use Rattle.value.proofs.SimpleLaws.{bytes-length}
-use Rattle.model.specs.Model.{Plan, Nodes, Answer, slotsOf, bytesOf, bitsOf}
+use Rattle.model.specs.Model.{Plan, Nodes, Answer, treeSlots, treeBytes, treeBits}
 use Rattle.model.specs.Model.Answer.{given, refused}
 use Rattle.model.specs.Items.{Mode}
 use Rattle.model.specs.Grammar.{Is}
@@ -117,11 +117,11 @@ module _ (held : ℕ → Bool) (P : Plan) where
       rw (moded-then s mode (h .mode-byte), is-read (bitAt s) mode held (f .is) room [] (8 * length s) q (f .stands) (f .within) (f .slots) (f .bytes), padded-then s q (f .within) (h .pads))
 
   -- the bits of all events plus 8 are the bits used
-  pub payload-sum : (s : List ℕ) (room : Room) (mode : Mode) (ns : Nodes) (q : ℕ) → PayloadIs held P s room mode ns q → 8 + bitsOf ns ≡ q
+  pub payload-sum : (s : List ℕ) (room : Room) (mode : Mode) (ns : Nodes) (q : ℕ) → PayloadIs held P s room mode ns q → 8 + treeBits ns ≡ q
   payload-sum s room mode ns q h = let f = h .found in omega (arith, is-sum mode held (f .is), f .stands .next)
 
   -- the bytes of a payload are those of its bits
-  pub payload-bytes : (s : List ℕ) (room : Room) (mode : Mode) (ns : Nodes) (q : ℕ) → Octets s → (h : (PayloadIs held P) s room mode ns q) → s ≡ modeByte mode ∷ pack (h .found .bits)
+  pub payload-bytes : (s : List ℕ) (room : Room) (mode : Mode) (ns : Nodes) (q : ℕ) → AllBytes s → (h : (PayloadIs held P) s room mode ns q) → s ≡ modeByte mode ∷ pack (h .found .bits)
   unfolding pack
   payload-bytes [] room mode ns q c h = absurd (omega (arith, h .mode-byte .filled))
   payload-bytes (y ∷ s) room mode ns q c h =
@@ -141,7 +141,7 @@ module _ (held : ℕ → Bool) (P : Plan) where
       ∙ bytes-back s (c .1))))
 
   -- and bits that are so make such a payload
-  pub packed-is : (mode : Mode) (w : List ℕ) (ns : Nodes) (r : Room) → Is mode held P 8 ns w → 1 + (length w + 7) / 8 ≤ mostPayload → slotsOf ns ≤ r .slots → bytesOf ns ≤ r .bytes
+  pub packed-is : (mode : Mode) (w : List ℕ) (ns : Nodes) (r : Room) → Is mode held P 8 ns w → 1 + (length w + 7) / 8 ≤ mostPayload → treeSlots ns ≤ r .slots → treeBytes ns ≤ r .bytes
       → PayloadIs held P (modeByte mode ∷ pack w) r mode ns (8 + length w)
   unfolding pack
   packed-is mode w ns r i few h k =

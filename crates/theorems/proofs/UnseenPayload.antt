@@ -7,7 +7,7 @@ use lib.ListN.{length, getD}
 use Rattle.wire.specs.Bits.{bitAt, num}
 use Rattle.wire.proofs.BitLaws.{bit-lt}
 use Rattle.table.specs.Rows.{heldOf}
-use Rattle.value.specs.Simple.{Octets}
+use Rattle.value.specs.Simple.{AllBytes}
 use Rattle.model.specs.Model.{Nodes}
 use Rattle.model.specs.Items.{Mode}
 use Rattle.theorems.proofs.Sound.{read-found}
@@ -20,12 +20,12 @@ use Rattle.theorems.specs.Unseen.{InBlank}
 use Rattle.theorems.proofs.Unseen.{within-bits, blank-unseen}
 
 -- the first byte is its bits
-first-byte : (s : List ℕ) → Octets s → 1 ≤ length s → getD s 0 0 ≡ num (bitAt s) 0 8
+first-byte : (s : List ℕ) → AllBytes s → 1 ≤ length s → getD s 0 0 ≡ num (bitAt s) 0 8
 first-byte [] o h = absurd (omega arith)
 first-byte (x ∷ s) o h = sym (byte-num x s (o .0))
 
 module _ (l : List ℕ) (name type : ℕ) (s s′ : List ℕ) (words bytes : ℕ) (mode : Mode) (ns : Nodes) (used : ℕ) where
-  pub reading-unseen : Octets s → Octets s′ → length s′ ≡ length s → reading l name type s words bytes ≡ accepted mode ns used
+  pub reading-unseen : AllBytes s → AllBytes s′ → length s′ ≡ length s → reading l name type s words bytes ≡ accepted mode ns used
       → ((i : ℕ) → i < 8 * length s → (InBlank (bitAt s) mode i ns → ⊥) → bitAt s′ i ≡ bitAt s i) → reading l name type s′ words bytes ≡ accepted mode ns used
   reading-unseen o o′ long e same =
       let h = reading-sound l name type s words bytes mode ns used e in

@@ -12,7 +12,7 @@ use Rattle.numbers.specs.Limit.{mostOpen}
 use Rattle.table.specs.Rows.{Row, tableOf, heldOf}
 use Rattle.model.specs.Model.{Event, events}
 use Rattle.model.specs.Items.{Mode}
-use Rattle.model.specs.Write.{Bare, bare, Out, write}
+use Rattle.model.specs.Write.{bare, Out, write}
 use Rattle.model.specs.Plain.{NoBlank}
 use Rattle.model.proofs.Plain.{list-plain}
 use Rattle.theorems.proofs.Lists.{lists-all, spells-all}
@@ -21,7 +21,7 @@ use Rattle.theorems.specs.Follows.{NoBlanks, Follows}
 use Rattle.theorems.proofs.FollowsModel.{row-model}
 use Rattle.theorems.proofs.ModelIs.{right-bounded, model-is}
 use Rattle.model.specs.Whole.{modeNumber, roomed, spent, written, writing}
-use Rattle.model.specs.Entries.{Entered, planOf, Shaped, listOf}
+use Rattle.model.specs.Entries.{planOf, listOf}
 use Rattle.model.proofs.Entries.{events-length, mode-asked, writing-entered}
 use Rattle.theorems.specs.Demand2.{Valid}
 

@@ -7,7 +7,7 @@ use mathlib.Core.Option.{Option, none, some}
 use native.Mathlib.Omega.{arith}
 use Rattle.numbers.specs.Refusal.{notHeld}
 use Rattle.numbers.specs.Kind as kinds
-use Rattle.model.specs.Model.{event, Mark, Nodes, Path, Answer, slotsOf, bytesOf, bitsOf, _then_}
+use Rattle.model.specs.Model.{event, Mark, Nodes, Path, Answer, treeSlots, treeBytes, treeBits, _then_}
 use Rattle.model.specs.Model.Nodes.{leaf, node}
 use Rattle.model.specs.Model.Answer.{given, refused}
 use Rattle.model.proofs.Trees.{slots-then, bytes-then}
@@ -27,7 +27,7 @@ enclosed m (shown ns) = shown (node m ns Nodes.none)
 enclosed m (lacking p π) = lacking p π
 
 abbrev pub blankOf : Mark → Nodes → Nodes
-blankOf m i = leaf (m .at) (event kinds.blank (m .name) (m .type) (m .bits + bitsOf i)) [] Nodes.none
+blankOf m i = leaf (m .at) (event kinds.blank (m .name) (m .type) (m .bits + treeBits i)) [] Nodes.none
 
 -- an element with what is inside it and the walk over that: kept unless it is newly held, one Blank where it has a length
 unfoldable pub shownAs : Bool → Bool → Mark → Path → Nodes → Walk → Walk
@@ -45,11 +45,11 @@ answer (shown ns) q = given ns q
 answer (lacking p π) q = refused notHeld p π
 
 -- the walk shows no more than it was given
-abbrev pub Fits : Walk → Nodes → Type 0
-Fits (shown ms) ns = (slotsOf ms ≤ slotsOf ns) × (bytesOf ms ≤ bytesOf ns)
-Fits (lacking p π) ns = Unit {0}
+abbrev pub ShowsNoMore : Walk → Nodes → Type 0
+ShowsNoMore (shown ms) ns = (treeSlots ms ≤ treeSlots ns) × (treeBytes ms ≤ treeBytes ns)
+ShowsNoMore (lacking p π) ns = Unit {0}
 
-both-fits : (u v : Walk) (a b : Nodes) → Fits u a → Fits v b → Fits (both u v) (a then b)
+both-fits : (u v : Walk) (a b : Nodes) → ShowsNoMore u a → ShowsNoMore v b → ShowsNoMore (both u v) (a then b)
 unfolding both
 both-fits (shown ns) (shown ms) a b f g =
     let s = slots-then ns ms in
@@ -60,14 +60,14 @@ both-fits (shown ns) (shown ms) a b f g =
 both-fits (shown ns) (lacking p π) a b f g = tt
 both-fits (lacking p π) v a b f g = tt
 
-pub shownAs-fits : (t c : Bool) (m : Mark) (π : Path) (i : Nodes) (w : Walk) → Fits w i → Fits (shownAs t c m π i w) (node m i Nodes.none)
-unfolding shownAs enclosed slotsOf bytesOf
+pub shownAs-fits : (t c : Bool) (m : Mark) (π : Path) (i : Nodes) (w : Walk) → ShowsNoMore w i → ShowsNoMore (shownAs t c m π i w) (node m i Nodes.none)
+unfolding shownAs enclosed treeSlots treeBytes
 shownAs-fits false c m π i (shown ns) f = omega arith
 shownAs-fits false c m π i (lacking p ρ) f = tt
 shownAs-fits true true m π i w f = omega arith
 shownAs-fits true false m π i w f = tt
 
-pub walk-fits : (new : ℕ → Bool) (π : Path) (ns : Nodes) → Fits (walk new π ns) ns
+pub walk-fits : (new : ℕ → Bool) (π : Path) (ns : Nodes) → ShowsNoMore (walk new π ns) ns
 unfolding walk _then_
 walk-fits new π Nodes.none = omega arith
 walk-fits new π (leaf at e ts r) = both-fits (shown (leaf at e ts Nodes.none)) (walk new π r) (leaf at e ts Nodes.none) r (omega arith) (walk-fits new π r)
@@ -117,7 +117,7 @@ walk-sums new π (node m i r) = ap (both (shownAs (new (m .type)) (m .coded) m �
 
     go : (t : Bool) → walk new (m .name ∷ π) i ≡ sums (firstBare (outermost new (m .name ∷ π) i)) (replaced new i) → both (shownAs t (m .coded) m π i (walk new (m .name ∷ π) i)) (sums (firstBare (outermost new π r)) (replaced new r))
         ≡ sums (firstBare (cond t ((m, π) ∷ []) (outermost new (m .name ∷ π) i) ++ outermost new π r))
-        (cond t (leaf (m .at) (event kinds.blank (m .name) (m .type) (m .bits + bitsOf i)) [] (replaced new r)) (node m (replaced new i) (replaced new r)))
+        (cond t (leaf (m .at) (event kinds.blank (m .name) (m .type) (m .bits + treeBits i)) [] (replaced new r)) (node m (replaced new i) (replaced new r)))
     go true h =
         ap (λ (w : Walk). both w (sums (firstBare (outermost new π r)) (replaced new r))) (blank (m .coded) refl)
         ∙ sym (first-append ((m, π) ∷ []) (outermost new π r) (blankOf m i) (replaced new r))

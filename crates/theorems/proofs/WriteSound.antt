@@ -6,7 +6,7 @@ use mathlib.Core.Bool.{Bool}
 use mathlib.Core.List.{List, [], _∷_, _++_}
 use native.Mathlib.Omega.{arith}
 use lib.ListN.{length, length-append}
-use Rattle.value.specs.Code.{Fits}
+use Rattle.value.specs.Code.{HasCode}
 use Rattle.model.specs.Model.{end, eventOf, Plan, flagOf}
 use Rattle.model.specs.Model.Plan.{done, deep, item, element}
 use Rattle.model.specs.Model.Nodes.{none, leaf, node}
@@ -22,7 +22,7 @@ use Rattle.theorems.specs.WriteSound.{Written, Writes}
 
 -- a Start whose second word suits the mode
 pub head-written : (mode : Mode) (t q n : ℕ) → flagIn mode q ≡ q → n < 2 ^ 32 → HeadIs mode t t (lengthOf q n) (headOut mode (lengthOf q n))
-unfolding headOut flagIn Fits
+unfolding headOut flagIn HasCode
 head-written Mode.never t zero n e h = no-head
 head-written Mode.never t (suc k) n e h = absurd (omega arith)
 head-written Mode.optional t zero n e h = flag-off

@@ -1,7 +1,7 @@
 -- A list that the grammar has: the word `valid` does not mention the writer.
 use Prim.Native.Nat.{ℕ, _+_, _/_}
 use mathlib.Core.Path.{_≡_}
-use mathlib.Core.List.{List, [], _∷_, map}
+use mathlib.Core.List.{List, _∷_, map}
 use lib.ListN.{length}
 use Rattle.table.specs.Rows.{heldOf}
 use Rattle.model.specs.Model.{Nodes, events, texts}

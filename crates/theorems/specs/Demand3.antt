@@ -4,7 +4,6 @@ use mathlib.Core.Path.{_≡_}
 use mathlib.Core.List.{List, [], _∷_, _++_, reverse}
 use mathlib.Core.Bool.{Bool, true, false}
 use mathlib.Core.Option.{Option, none, some}
-use lib.ListN.{length}
 use Rattle.numbers.specs.Refusal.{notHeld}
 use Rattle.table.specs.First.Verdict.{right}
 use Rattle.table.specs.Valid.{verdict}
@@ -12,7 +11,7 @@ use Rattle.table.specs.Rows.{tableOf, heldOf}
 use Rattle.table.specs.Held.{Alike}
 use Rattle.model.specs.Model.{Mark, Nodes, Path}
 use Rattle.model.specs.Items.{Mode}
-use Rattle.theorems.specs.Less.{newly, outermost, replaced}
+use Rattle.theorems.specs.Less.{newly}
 use Rattle.model.specs.Whole.{Reply, accepted, declined}
 
 -- the two tables

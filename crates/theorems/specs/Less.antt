@@ -6,7 +6,7 @@ use mathlib.Core.Bool.{Bool, false, cond}
 use mathlib.Core.Option.{Option, none, some}
 use Rattle.numbers.specs.Refusal.{notHeld}
 use Rattle.numbers.specs.Kind as kinds
-use Rattle.model.specs.Model.{event, Mark, Nodes, Path, Answer, bitsOf}
+use Rattle.model.specs.Model.{event, Mark, Nodes, Path, Answer, treeBits}
 use Rattle.model.specs.Model.Nodes.{leaf, node}
 use Rattle.model.specs.Model.Answer.{given, refused}
 
@@ -26,7 +26,7 @@ module _ (new : ℕ → Bool) where
   replaced Nodes.none = Nodes.none
   replaced (leaf at e ts r) = leaf at e ts (replaced r)
   replaced (node m i r) =
-      cond (new (m .type)) (leaf (m .at) (event kinds.blank (m .name) (m .type) (m .bits + bitsOf i)) [] (replaced r)) (node m (replaced i) (replaced r))
+      cond (new (m .type)) (leaf (m .at) (event kinds.blank (m .name) (m .type) (m .bits + treeBits i)) [] (replaced r)) (node m (replaced i) (replaced r))
 
 -- the first of some elements that has no length
 unfoldable pub firstBare : List (Mark × Path) → Option (Mark × Path)

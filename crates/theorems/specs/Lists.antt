@@ -1,6 +1,6 @@
 -- A list that lists a tree's events, and words that spell it.
 use Prim.Native.Nat.{ℕ}
-use mathlib.Core.List.{List, [], _∷_, _++_}
+use mathlib.Core.List.{List, _∷_, _++_}
 use Rattle.numbers.specs.Kind as kinds
 use Rattle.model.specs.Model.{event, end, Nodes, flagOf}
 use Rattle.model.specs.Model.Nodes.{none, leaf, node}

@@ -1,8 +1,8 @@
 -- Two readings that are one.
 use Prim.Native.Nat.{ℕ}
 use mathlib.Core.Path.{_≡_}
-use mathlib.Core.List.{List, []}
-use Rattle.model.specs.Model.{Item, Plan, Nodes, rows}
+use mathlib.Core.List.{List}
+use Rattle.model.specs.Model.{Item, Plan, Nodes}
 use Rattle.model.specs.Model.Plan.{done, deep, item, element}
 
 pub record Same (ns ms : Nodes) (p q : ℕ) (w x : List ℕ) : Type 0 where

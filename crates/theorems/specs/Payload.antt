@@ -2,7 +2,7 @@
 use Prim.Native.Nat.{ℕ, zero, _+_, _*_, _<_, _≤_}
 use mathlib.Core.Path.{_≡_}
 use mathlib.Core.Bool.{Bool}
-use mathlib.Core.List.{List, []}
+use mathlib.Core.List.{List}
 use lib.ListN.{length, getD}
 use Rattle.numbers.specs.Limit.{mostPayload}
 use Rattle.wire.specs.Bits.{bitAt}
@@ -11,7 +11,7 @@ use Rattle.model.specs.Items.{Mode}
 use Rattle.model.specs.Grammar.{Is}
 use Rattle.model.specs.Read.{Room}
 use Rattle.theorems.specs.Sound.{Found}
-use Rattle.model.specs.Whole.{modeByte, padding}
+use Rattle.model.specs.Whole.{modeByte}
 
 -- the mode byte
 pub record Moded (s : List ℕ) (mode : Mode) : Type 0 where

@@ -1,7 +1,7 @@
 -- The places inside a Blank.
 use Prim.Native.Nat.{ℕ, _+_, _<_, _≤_}
 use mathlib.Core.Path.{_≡_}
-use mathlib.Core.List.{List, []}
+use mathlib.Core.List.{List}
 use Rattle.wire.specs.Res.{got}
 use Rattle.model.specs.Model.{Event, Mark, Nodes}
 use Rattle.model.specs.Model.Nodes.{leaf, node}

@@ -13,7 +13,7 @@ use Rattle.utf8.specs.Steps.{_leads_, rows}
 use Rattle.utf8.proofs.Look.{refuted, has-in}
 use Rattle.utf8.proofs.Rows.{Among, among, start-among}
 use Rattle.utf8.proofs.Left.{left, going, left-next}
-use Rattle.utf8.proofs.Lines.{Fits, whole, then, all, _and_, IsLine, lines-are, Begun, begun-line}
+use Rattle.utf8.proofs.Lines.{InRanges, whole, then, all, _and_, IsLine, lines-are, Begun, begun-line}
 use Rattle.utf8.specs.declared.State.{State}
 use Rattle.utf8.specs.declared.State.the-variants.{Start, OneLeft, TwoLeft, ThreeLeft, AfterE0, AfterED, AfterF0, AfterF4}
 
@@ -22,7 +22,7 @@ record Split (wanted : List Range) (l : List ℕ) : Type 0 where
   front : List ℕ
   back : List ℕ
   joined : front ++ back ≡ l
-  fits : Fits wanted front
+  fits : InRanges wanted front
   text : Octets back
 
 -- one octet more in front: it begins a character, or goes on with one
@@ -44,7 +44,7 @@ onward {x} b s =
 at-start : {l : List ℕ} → Octets l → Split [] l
 at-start {l} o = record { front = []; back = l; joined = refl; fits = whole; text = o }
 
-nothing-before : {c l : List ℕ} → Fits [] c → Octets l → Octets (c ++ l)
+nothing-before : {c l : List ℕ} → InRanges [] c → Octets l → Octets (c ++ l)
 nothing-before whole o = o
 
 text-of : {l : List ℕ} → Split [] l → Octets l
@@ -63,13 +63,13 @@ split (range ∷ rest) [] e = refuted false e refl
 split wanted (x ∷ l) e = step-back wanted x l (begun (open-lines wanted) x) refl e (λ rest. split rest l)
 
 -- what is wanted, in front of a text, changes nothing
-fits-goes : {wanted : List Range} {c : List ℕ} (l : List ℕ) → Fits wanted c → goesOn wanted (c ++ l) ≡ goesOn [] l
+fits-goes : {wanted : List Range} {c : List ℕ} (l : List ℕ) → InRanges wanted c → goesOn wanted (c ++ l) ≡ goesOn [] l
 unfolding goesOn begun open-lines
 fits-goes l whole = refl
 fits-goes l (then {lo} {hi} {x} w f) = rw (goesOn, has-in lo hi x w) (fits-goes l f)
 
 -- nor does a character, whose first octet leads to the state that wants the rest
-begins : (s : State) {lo hi x : ℕ} {rest : List Range} {c : List ℕ} (l : List ℕ) → Among (lo to hi leads s) (rows Start) → left s ≡ some rest → In lo hi x → Fits rest c → goesOn [] ((x ∷ c) ++ l) ≡ goesOn [] l
+begins : (s : State) {lo hi x : ℕ} {rest : List Range} {c : List ℕ} (l : List ℕ) → Among (lo to hi leads s) (rows Start) → left s ≡ some rest → In lo hi x → InRanges rest c → goesOn [] ((x ∷ c) ++ l) ≡ goesOn [] l
 unfolding goesOn going left open-lines
 begins s {x = x} {rest = rest} l m e w f =
     let b : begun lines x ≡ some rest = left-next Start x ∙ ap left (sym (start-among m w)) ∙ e in

@@ -10,9 +10,9 @@ use Rattle.utf8.specs.Text.{Range, _to_, has, lines, begun}
 use Rattle.utf8.proofs.Look.{in-has}
 
 -- the octets are in the ranges, one in each
-pub data Fits : List Range → List ℕ → Type 0 where
-  whole : Fits [] []
-  then : {lo hi x : ℕ} {rest : List Range} {l : List ℕ} → In lo hi x → Fits rest l → Fits (lo to hi ∷ rest) (x ∷ l)
+pub data InRanges : List Range → List ℕ → Type 0 where
+  whole : InRanges [] []
+  then : {lo hi x : ℕ} {rest : List Range} {l : List ℕ} → In lo hi x → InRanges rest l → InRanges (lo to hi ∷ rest) (x ∷ l)
 
 infixr 50 _and_
 pub data All (P : List Range → Type 0) : List (List Range) → Type 0 where
@@ -21,7 +21,7 @@ pub data All (P : List Range → Type 0) : List (List Range) → Type 0 where
 
 -- each of the lines is one of the ABNF
 unfoldable pub IsLine : List Range → Type 0
-IsLine line = (c : List ℕ) → Fits line c → Char c
+IsLine line = (c : List ℕ) → InRanges line c → Char c
 
 module _ {l₁ h₁ : ℕ} where
   of-one : ((a : ℕ) → In l₁ h₁ a → Char (a ∷ [])) → IsLine (l₁ to h₁ ∷ [])

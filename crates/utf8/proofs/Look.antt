@@ -7,7 +7,7 @@ use borrow.Author.Tests.{le-leb, lt-leb}
 use native.Mathlib.Decide.{decLe}
 use native.Mathlib.Omega.{arith}
 use Rattle.utf8.specs.Rfc.{In}
-use Rattle.utf8.specs.Text.{Range, _to_, has}
+use Rattle.utf8.specs.Text.{_to_, has}
 use Rattle.utf8.specs.Steps.{Row, _leads_, look}
 use Rattle.utf8.specs.declared.State.{State}
 use Rattle.utf8.specs.declared.State.the-variants.{Wrong}

@@ -20,10 +20,10 @@ use Rattle.wire.specs.Lawful.{Binary, Stands, Lawful}
 use Rattle.wire.proofs.Lawful.{fixed-lawful, five-lawful, fixed-below, bind-same}
 use Rattle.signed.specs.Words.{up, signOf, magnitudeOf}
 use Rattle.signed.proofs.Laws.{word-of-parts, parts-within, sign-of-plus, magnitude-of-plus, sign-of-minus, magnitude-of-minus, word-minus, word-plus}
-use Rattle.value.specs.Code.{Code, choice, five, signed, some, shifted, less, Fits, choiceBits, bitsOf, choiceAt, numberAt, signedOf, someOf, codeAt, fits}
+use Rattle.value.specs.Code.{Code, choice, five, signed, some, shifted, wordLess, HasCode, choiceBits, bitsOf, choiceAt, numberAt, signedOf, someOf, codeAt, fits}
 
 abbrev pub Coded : (ℕ → ℕ) → Code → ℕ → ℕ → ℕ → ℕ → Type 0
-Coded b c wall at v p = Stands b (Fits c v) (bitsOf c v) wall at p
+Coded b c wall at v p = Stands b (HasCode c v) (bitsOf c v) wall at p
 
 -- what is read of a code is the code of its value
 module _ (b : ℕ → ℕ) (bit : Binary b) where
@@ -38,7 +38,7 @@ module _ (b : ℕ → ℕ) (bit : Binary b) where
       bind (five-lawful .found b bit wall at) λ r f. under tooLarge λ h. gives (record { fits = omega (arith, f .fits); stands = f .stands; within = f .within })
 
   signed-found : (wall at s m p q : ℕ) → Stands b (s < 2) (choiceBits 2 s) wall at p → Stands b (m < 2 ^ 32) (code5 m) wall p q → Ensures (signedOf s m q) (λ r. Coded b signed wall at (r .0) (r .1))
-  unfolding signedOf bitsOf Fits
+  unfolding signedOf bitsOf HasCode
   signed-found wall at zero m p q f g = under tooLarge λ h. gives (record {
     fits = rw (word-plus m) (omega arith);
     stands = rw (sign-of-plus m (omega arith), magnitude-of-plus m (omega arith)) (at-both (f .stands) (g .stands));
@@ -53,7 +53,7 @@ module _ (b : ℕ → ℕ) (bit : Binary b) where
 
   some-found : (c : Code) (rd : ℕ → Res (ℕ × ℕ)) (wall at s p : ℕ) → ((p : ℕ) → Ensures (rd p) (λ r. Coded b c wall p (r .0) (r .1))) → Stands b (s < 2) (choiceBits 2 s) wall at p
       → Ensures (someOf rd s p) (λ r. Coded b (some c) wall at (r .0) (r .1))
-  unfolding someOf bitsOf Fits
+  unfolding someOf bitsOf HasCode
   some-found c rd wall at zero p ih f = gives (record { fits = tt; stands = f .stands; within = f .within })
   some-found c rd wall at (suc zero) p ih f = bind (ih p) λ r g. under noSuchCode λ h. positive (r .0) (r .1) h g
     where
@@ -63,7 +63,7 @@ module _ (b : ℕ → ℕ) (bit : Binary b) where
   some-found c rd wall at (suc (suc k)) p ih f = absurd (omega (arith, f .fits))
 
   code-found : (c : Code) (wall at : ℕ) → Ensures (codeAt c b wall at) (λ r. Coded b c wall at (r .0) (r .1))
-  unfolding codeAt bitsOf Fits
+  unfolding codeAt bitsOf HasCode
   code-found (choice n) wall at = choice-found n wall at
   code-found (five most) wall at = number-found most wall at
   code-found signed wall at =
@@ -71,7 +71,7 @@ module _ (b : ℕ → ℕ) (bit : Binary b) where
       bind (five-lawful .found b bit wall (r .1)) λ s g. signed-found wall at (r .0) (s .0) (r .1) (s .1) f g
   code-found (some c) wall at = bind (choice-found 2 wall at) λ r f. some-found c (codeAt c b wall) wall at (r .0) (r .1) (code-found c wall) f
   code-found (shifted lo c) wall at = bind (code-found c wall at) λ r f. under tooLarge λ h.
-      let e : less lo (up lo (r .0)) ≡ r .0 = omega arith in
+      let e : wordLess lo (up lo (r .0)) ≡ r .0 = omega arith in
       gives (record { fits = (omega arith, rw e (f .fits)); stands = rw e (f .stands); within = f .within })
 
 pub sign-small : (v : ℕ) → v < 2 ^ 32 → (signOf v < 2) × (magnitudeOf v < 2 ^ 32)
@@ -96,8 +96,8 @@ module _ (b : ℕ → ℕ) where
       (λ x. rw (x .0) (under-then tooLarge (x .2) (under-then minusZero (x .1) (ap (λ (n : ℕ). got (n, q)) (rw (x .0) at w)))))
       (parts-within v h)
 
-  code-reads : (c : Code) (wall at v p : ℕ) → Fits c v → At b at (bitsOf c v) p → p ≤ wall → codeAt c b wall at ≡ got (v, p)
-  unfolding codeAt bitsOf Fits someOf
+  code-reads : (c : Code) (wall at v p : ℕ) → HasCode c v → At b at (bitsOf c v) p → p ≤ wall → codeAt c b wall at ≡ got (v, p)
+  unfolding codeAt bitsOf HasCode someOf
   code-reads (choice n) wall at v p h f k = choice-reads n wall at v p h f k
   code-reads (five most) wall at v p h f k = number-reads most wall at v p h f k
   code-reads signed wall at v p h f k =
@@ -115,8 +115,8 @@ module _ (b : ℕ → ℕ) where
       then _ (choice-reads 2 wall at 1 _ (omega arith) (at-left (choiceBits 2 1) (bitsOf c (suc v)) f) (omega arith))
       (then _ (code-reads c wall _ (suc v) p h (at-right (choiceBits 2 1) (bitsOf c (suc v)) f) k) (under-then noSuchCode (omega arith) refl))
   code-reads (shifted lo c) wall at v p h f k =
-      let e : up lo (less lo v) ≡ v = omega (arith, h .0) in
-      then _ (code-reads c wall at (less lo v) p (h .1) f k) (under-then tooLarge (omega arith) (rw e))
+      let e : up lo (wordLess lo v) ≡ v = omega (arith, h .0) in
+      then _ (code-reads c wall at (wordLess lo v) p (h .1) f k) (under-then tooLarge (omega arith) (rw e))
 
 -- no bit at the wall or past it is looked at
 module _ (b c : ℕ → ℕ) (wall : ℕ) (s : (i : ℕ) → i < wall → b i ≡ c i) where
@@ -144,7 +144,7 @@ module _ (b c : ℕ → ℕ) (wall : ℕ) (s : (i : ℕ) → i < wall → b i �
   code-below (some d) at = bind-same _ _ _ _ (choice-below 2 at) λ r e. some-below _ _ (code-below d) (r .0) (r .1)
   code-below (shifted lo d) at = bind-same _ _ _ _ (code-below d at) λ r e. refl
 
-pub code-lawful : (c : Code) → Lawful (codeAt c) (Fits c) (bitsOf c)
+pub code-lawful : (c : Code) → Lawful (codeAt c) (HasCode c) (bitsOf c)
 code-lawful c = record {
   found = λ b bit wall at. code-found b bit c wall at;
   reads = λ b wall at v p h f k. code-reads b c wall at v p h f k;
@@ -152,25 +152,25 @@ code-lawful c = record {
 }
 
 -- the writer's test says what fits
-pub fits-true : (c : Code) (v : ℕ) → fits c v ≡ true → Fits c v
-unfolding fits Fits
+pub fits-true : (c : Code) (v : ℕ) → fits c v ≡ true → HasCode c v
+unfolding fits HasCode
 fits-true (choice n) v e = ltb-true v n e
 fits-true (five most) v e = leb-true v _ e
 fits-true signed v e = ltb-true v _ e
 fits-true (some c) zero e = tt
 fits-true (some c) (suc k) e = fits-true c (suc k) e
 fits-true (shifted lo c) v e = elim (decLt v (2 ^ 32)) [
-  | yes h ↦ (h, fits-true c (less lo v) (rw (lt-ltb v (2 ^ 32) h) at e))
+  | yes h ↦ (h, fits-true c (wordLess lo v) (rw (lt-ltb v (2 ^ 32) h) at e))
   | no h ↦
       let f : false ≡ true = rw (le-ltb v (2 ^ 32) (omega arith)) at e in
       absurd (let z : _≡_ {A = ℕ} 0 1 = cc in omega arith)
 ]
 
-pub true-fits : (c : Code) (v : ℕ) → Fits c v → fits c v ≡ true
-unfolding fits Fits
+pub true-fits : (c : Code) (v : ℕ) → HasCode c v → fits c v ≡ true
+unfolding fits HasCode
 true-fits (choice n) v h = lt-ltb v n h
 true-fits (five most) v h = le-leb v _ h
 true-fits signed v h = lt-ltb v _ h
 true-fits (some c) zero h = refl
 true-fits (some c) (suc k) h = true-fits c (suc k) h
-true-fits (shifted lo c) v h = rw (lt-ltb v (2 ^ 32) (h .0)) (true-fits c (less lo v) (h .1))
+true-fits (shifted lo c) v h = rw (lt-ltb v (2 ^ 32) (h .0)) (true-fits c (wordLess lo v) (h .1))

@@ -30,41 +30,41 @@ use Rattle.value.specs.declared.Value.the-variants as vv
 use Rattle.value.specs.Kinds.{plainly, kindCode}
 
 -- ranged
-module _ (b : ℕ → ℕ) (end at x y : ℕ) (g : gapT.Gap) (e : gapIs g ≡ gapOf x y) (r : Read) where
-  pub ranged-under : g ≡ Under → readIs r ≡ choiceAt b 0 end at → readIs r ≡ codeAt (rangeCode x y) b end at
+module _ (b : ℕ → ℕ) (wall at x y : ℕ) (g : gapT.Gap) (e : gapIs g ≡ gapOf x y) (r : Read) where
+  pub ranged-under : g ≡ Under → readIs r ≡ choiceAt b 0 wall at → readIs r ≡ codeAt (rangeCode x y) b wall at
   unfolding codeIs innerIs codeAt
-  ranged-under w h = h ∙ ap (λ (k : Code). codeAt k b end at) (range-under x y g e w)
+  ranged-under w h = h ∙ ap (λ (k : Code). codeAt k b wall at) (range-under x y g e w)
 
   module _ (k : ℕ) (w : g ≡ By k) where
-    pub ranged-near : k ≤ mostFixed → readIs r ≡ codeAt (shifted x (innerIs (iv.Choice (k + 1)))) b end at → readIs r ≡ codeAt (rangeCode x y) b end at
+    pub ranged-near : k ≤ mostFixed → readIs r ≡ codeAt (shifted x (innerIs (iv.Choice (k + 1)))) b wall at → readIs r ≡ codeAt (rangeCode x y) b wall at
     unfolding codeIs
-    ranged-near l h = h ∙ ap (λ (k : Code). codeAt k b end at) (range-near x y g e k w l)
+    ranged-near l h = h ∙ ap (λ (k : Code). codeAt k b wall at) (range-near x y g e k w l)
 
-    pub ranged-far : mostFixed < k → readIs r ≡ codeAt (shifted x (innerIs (iv.Five k))) b end at → readIs r ≡ codeAt (rangeCode x y) b end at
+    pub ranged-far : mostFixed < k → readIs r ≡ codeAt (shifted x (innerIs (iv.Five k))) b wall at → readIs r ≡ codeAt (rangeCode x y) b wall at
     unfolding codeIs
-    ranged-far l h = h ∙ ap (λ (k : Code). codeAt k b end at) (range-far x y g e k w l)
+    ranged-far l h = h ∙ ap (λ (k : Code). codeAt k b wall at) (range-far x y g e k w l)
 
 pub ruleset ranged-ways = (ranged-under, ranged-near, ranged-far)
 
 -- by_kind
-module _ (b : ℕ → ℕ) (end at kind x y : ℕ) (r : Read) where
-  pub kind-boolean : kind ≡ simple.boolean → readIs r ≡ choiceAt b 2 end at → readIs r ≡ codeAt (kindCode kind x y) b end at
+module _ (b : ℕ → ℕ) (wall at kind x y : ℕ) (r : Read) where
+  pub kind-boolean : kind ≡ simple.boolean → readIs r ≡ choiceAt b 2 wall at → readIs r ≡ codeAt (kindCode kind x y) b wall at
   unfolding kindCode plainly simpleOf codeAt
   kind-boolean z e = e ∙ sym (rw z)
 
-  pub kind-ranged : kind ≡ simple.ranged → readIs r ≡ codeAt (rangeCode x y) b end at → readIs r ≡ codeAt (kindCode kind x y) b end at
+  pub kind-ranged : kind ≡ simple.ranged → readIs r ≡ codeAt (rangeCode x y) b wall at → readIs r ≡ codeAt (kindCode kind x y) b wall at
   unfolding kindCode plainly simpleOf
   kind-ranged z e = e ∙ sym (rw z)
 
-  pub kind-unsigned : kind ≡ simple.unsigned → readIs r ≡ numberAt b mostWord end at → readIs r ≡ codeAt (kindCode kind x y) b end at
+  pub kind-unsigned : kind ≡ simple.unsigned → readIs r ≡ numberAt b mostWord wall at → readIs r ≡ codeAt (kindCode kind x y) b wall at
   unfolding kindCode plainly simpleOf codeAt
   kind-unsigned z e = e ∙ sym (rw z)
 
-  pub kind-signed : kind ≡ simple.signed → readIs r ≡ codeAt signed b end at → readIs r ≡ codeAt (kindCode kind x y) b end at
+  pub kind-signed : kind ≡ simple.signed → readIs r ≡ codeAt signed b wall at → readIs r ≡ codeAt (kindCode kind x y) b wall at
   unfolding kindCode plainly simpleOf
   kind-signed z e = e ∙ sym (rw z)
 
-  pub kind-enumerated : kind ≡ simple.enumeration → readIs r ≡ choiceAt b x end at → readIs r ≡ codeAt (kindCode kind x y) b end at
+  pub kind-enumerated : kind ≡ simple.enumeration → readIs r ≡ choiceAt b x wall at → readIs r ≡ codeAt (kindCode kind x y) b wall at
   unfolding kindCode plainly simpleOf codeAt
   kind-enumerated z e = e ∙ sym (rw z)
 
@@ -79,13 +79,13 @@ none-of (suc (suc (suc (suc (suc zero))))) x y n₀ n₁ n₂ n₃ n₄ n₆ = r
 none-of (suc (suc (suc (suc (suc (suc zero)))))) x y n₀ n₁ n₂ n₃ n₄ n₆ = absurd (n₆ refl)
 none-of (suc (suc (suc (suc (suc (suc (suc k))))))) x y n₀ n₁ n₂ n₃ n₄ n₆ = refl
 
-module _ (s : List ℕ) (end at kind x y : ℕ) (r : Read) where
-  pub kind-float : kind ≡ simple.float → readIs r ≡ fixed32 (bitAt s) end at 32 → readIs r ≡ codeAt (kindCode kind x y) (bitAt s) end at
+module _ (s : List ℕ) (wall at kind x y : ℕ) (r : Read) where
+  pub kind-float : kind ≡ simple.float → readIs r ≡ fixed32 (bitAt s) wall at 32 → readIs r ≡ codeAt (kindCode kind x y) (bitAt s) wall at
   unfolding kindCode plainly simpleOf codeIs
-  kind-float z e = way-code-word s end at cv.Word r refl e ∙ sym (rw z)
+  kind-float z e = way-code-word s wall at cv.Word r refl e ∙ sym (rw z)
 
   pub kind-none : (kind ≡ simple.boolean → ⊥) → (kind ≡ simple.ranged → ⊥) → (kind ≡ simple.unsigned → ⊥) → (kind ≡ simple.signed → ⊥) → (kind ≡ simple.enumeration → ⊥) → (kind ≡ simple.float → ⊥)
-      → readIs r ≡ choiceAt (bitAt s) 0 end at → readIs r ≡ codeAt (kindCode kind x y) (bitAt s) end at
+      → readIs r ≡ choiceAt (bitAt s) 0 wall at → readIs r ≡ codeAt (kindCode kind x y) (bitAt s) wall at
   unfolding codeAt
   kind-none n₀ n₁ n₂ n₃ n₄ n₆ e = e ∙ sym (rw (none-of kind x y n₀ n₁ n₂ n₃ n₄ n₆))
 
@@ -103,18 +103,18 @@ plain-kind (suc (suc (suc (suc (suc zero))))) x y n = absurd (n refl)
 plain-kind (suc (suc (suc (suc (suc (suc zero)))))) x y n = refl
 plain-kind (suc (suc (suc (suc (suc (suc (suc k))))))) x y n = refl
 
-module _ (s : List ℕ) (end at kind x y : ℕ) where
-  pub of-text : (v : valueT.Value) → kind ≡ simple.text → valueIs (bitAt s) v ≡ simpleAt (formIs fv.Text) (bitAt s) end at → valueIs (bitAt s) v ≡ simpleAt (simpleOf kind x y) (bitAt s) end at
+module _ (s : List ℕ) (wall at kind x y : ℕ) where
+  pub of-text : (v : valueT.Value) → kind ≡ simple.text → valueIs (bitAt s) v ≡ simpleAt (formIs fv.Text) (bitAt s) wall at → valueIs (bitAt s) v ≡ simpleAt (simpleOf kind x y) (bitAt s) wall at
   unfolding simpleOf formIs
   of-text v z e = e ∙ sym (rw z)
 
-  module _ (n₅ : kind ≡ simple.text → ⊥) (r : Read) (e : readIs r ≡ codeAt (kindCode kind x y) (bitAt s) end at) where
-    pub of-refused : (n : ℕ) → r ≡ read.Refuse n → valueIs (bitAt s) (vv.Refuse n) ≡ simpleAt (simpleOf kind x y) (bitAt s) end at
+  module _ (n₅ : kind ≡ simple.text → ⊥) (r : Read) (e : readIs r ≡ codeAt (kindCode kind x y) (bitAt s) wall at) where
+    pub of-refused : (n : ℕ) → r ≡ read.Refuse n → valueIs (bitAt s) (vv.Refuse n) ≡ simpleAt (simpleOf kind x y) (bitAt s) wall at
     unfolding valueIs simpleAt
     of-refused n g = rw (plain-kind kind x y n₅) (sym (then-fault _ (read-refuse e g)))
 
     module _ (v : ℕ) (p : Bits) (g : r ≡ read.Value v p) where
-      pub of-read : (m : Bytes) → m .0 ≡ 0 → valueIs (bitAt s) (vv.Read v m p) ≡ simpleAt (simpleOf kind x y) (bitAt s) end at
+      pub of-read : (m : Bytes) → m .0 ≡ 0 → valueIs (bitAt s) (vv.Read v m p) ≡ simpleAt (simpleOf kind x y) (bitAt s) wall at
       unfolding valueIs simpleAt
       of-read m z = rw (plain-kind kind x y n₅, z, bytes-none (bitAt s) (p .0 - 8 * 0)) (sym (then _ (read-value e g) refl))
 

@@ -21,7 +21,7 @@ use Rattle.wire.proofs.ReadWays.{read-value, read-refuse, wide}
 use Rattle.wire.specs.Lawful.{Stands}
 use Rattle.signed.specs.Words.{up, wordOf}
 use Rattle.utf8.specs.Text.{textFault}
-use Rattle.value.specs.Code.{Code, five, signed, some, shifted, Fits, bitsOf, choiceAt, numberAt, signedOf, someOf, codeAt}
+use Rattle.value.specs.Code.{Code, five, signed, some, shifted, HasCode, bitsOf, choiceAt, numberAt, signedOf, someOf, codeAt}
 use Rattle.value.proofs.CodeLaws.{code-lawful}
 use Rattle.value.specs.Simple.{bytesAt, textOf, simpleAt}
 use Rattle.value.proofs.SimpleLaws.{bytes-none, passes-then, passes-fault}
@@ -36,49 +36,49 @@ use Rattle.value.specs.declared.Value as valueT
 use Rattle.value.specs.declared.Value.the-variants as vv
 
 -- choice: the width of a word's number of choices is at most 32
-module _ (b : ℕ → ℕ) (n end at w : ℕ) (small : n < 2 ^ 32) (x : w ≡ width n) (r : Read) (e : readIs r ≡ fixed32 b end at w) where
-  choice-is : readIs r ≡ fixedAt b end at (width n)
-  choice-is = rw x at e ∙ wide b end at (width n) (width-under n 32 (omega arith))
+module _ (b : ℕ → ℕ) (n wall at w : ℕ) (small : n < 2 ^ 32) (x : w ≡ width n) (r : Read) (e : readIs r ≡ fixed32 b wall at w) where
+  choice-is : readIs r ≡ fixedAt b wall at (width n)
+  choice-is = rw x at e ∙ wide b wall at (width n) (width-under n 32 (omega arith))
 
-  pub way-choice-refuse : (m : ℕ) → r ≡ read.Refuse m → readIs (read.Refuse m) ≡ choiceAt b n end at
+  pub way-choice-refuse : (m : ℕ) → r ≡ read.Refuse m → readIs (read.Refuse m) ≡ choiceAt b n wall at
   unfolding choiceAt readIs
   way-choice-refuse m f = sym (then-fault _ (read-refuse choice-is f))
 
   module _ (v : ℕ) (p : Bits) (f : r ≡ read.Value v p) where
-    pub way-choice-in : v < n → readIs (read.Value v p) ≡ choiceAt b n end at
+    pub way-choice-in : v < n → readIs (read.Value v p) ≡ choiceAt b n wall at
     unfolding choiceAt readIs
     way-choice-in h = sym (then _ (read-value choice-is f) (under-then noSuchCode (omega arith) refl))
 
-    pub way-choice-out : n ≤ v → readIs (read.Refuse noSuchCode) ≡ choiceAt b n end at
+    pub way-choice-out : n ≤ v → readIs (read.Refuse noSuchCode) ≡ choiceAt b n wall at
     unfolding choiceAt readIs
     way-choice-out h = sym (then _ (read-value choice-is f) (under-fault noSuchCode _ (omega arith)))
 
 pub ruleset choice-ways = (way-choice-refuse, way-choice-in, way-choice-out)
 
 -- number
-module _ (b : ℕ → ℕ) (most end at : ℕ) (r : Read) (e : readIs r ≡ read5 b end at) where
-  pub way-number-refuse : (m : ℕ) → r ≡ read.Refuse m → readIs (read.Refuse m) ≡ numberAt b most end at
+module _ (b : ℕ → ℕ) (most wall at : ℕ) (r : Read) (e : readIs r ≡ read5 b wall at) where
+  pub way-number-refuse : (m : ℕ) → r ≡ read.Refuse m → readIs (read.Refuse m) ≡ numberAt b most wall at
   unfolding numberAt readIs
   way-number-refuse m f = sym (then-fault _ (read-refuse e f))
 
   module _ (v : ℕ) (p : Bits) (f : r ≡ read.Value v p) where
-    pub way-number-in : v ≤ most → readIs (read.Value v p) ≡ numberAt b most end at
+    pub way-number-in : v ≤ most → readIs (read.Value v p) ≡ numberAt b most wall at
     unfolding numberAt readIs
     way-number-in h = sym (then _ (read-value e f) (under-then tooLarge h refl))
 
-    pub way-number-out : most < v → readIs (read.Refuse tooLarge) ≡ numberAt b most end at
+    pub way-number-out : most < v → readIs (read.Refuse tooLarge) ≡ numberAt b most wall at
     unfolding numberAt readIs
     way-number-out h = sym (then _ (read-value e f) (under-fault tooLarge _ h))
 
 pub ruleset number-ways = (way-number-refuse, way-number-in, way-number-out)
 
 -- inner
-module _ (b : ℕ → ℕ) (end at : ℕ) (i : innerT.Inner) (r : Read) (k : ℕ) where
-  pub way-inner-choice : i ≡ iv.Choice k → readIs r ≡ choiceAt b k end at → readIs r ≡ codeAt (innerIs i) b end at
+module _ (b : ℕ → ℕ) (wall at : ℕ) (i : innerT.Inner) (r : Read) (k : ℕ) where
+  pub way-inner-choice : i ≡ iv.Choice k → readIs r ≡ choiceAt b k wall at → readIs r ≡ codeAt (innerIs i) b wall at
   unfolding codeAt innerIs
   way-inner-choice w e = e ∙ sym (rw w)
 
-  pub way-inner-five : i ≡ iv.Five k → readIs r ≡ numberAt b k end at → readIs r ≡ codeAt (innerIs i) b end at
+  pub way-inner-five : i ≡ iv.Five k → readIs r ≡ numberAt b k wall at → readIs r ≡ codeAt (innerIs i) b wall at
   unfolding codeAt innerIs
   way-inner-five w e = e ∙ sym (rw w)
 
@@ -113,117 +113,117 @@ module _ (sign m : ℕ) (q : Bits) where
 pub ruleset join-ways = (way-join-plus, way-join-over, way-join-under, way-join-zero, way-join-minus)
 
 -- signed
-module _ (b : ℕ → ℕ) (end at : ℕ) (r : Read) (e : readIs r ≡ choiceAt b 2 end at) where
-  pub way-signed-refuse : (n : ℕ) → r ≡ read.Refuse n → readIs (read.Refuse n) ≡ codeAt signed b end at
+module _ (b : ℕ → ℕ) (wall at : ℕ) (r : Read) (e : readIs r ≡ choiceAt b 2 wall at) where
+  pub way-signed-refuse : (n : ℕ) → r ≡ read.Refuse n → readIs (read.Refuse n) ≡ codeAt signed b wall at
   unfolding codeAt readIs
   way-signed-refuse n f = sym (then-fault _ (read-refuse e f))
 
-  module _ (s : ℕ) (p : Bits) (f : r ≡ read.Value s p) (x : Read) (g : readIs x ≡ read5 b end (p .0)) where
-    pub way-signed-cut : (n : ℕ) → x ≡ read.Refuse n → readIs (read.Refuse n) ≡ codeAt signed b end at
+  module _ (s : ℕ) (p : Bits) (f : r ≡ read.Value s p) (x : Read) (g : readIs x ≡ read5 b wall (p .0)) where
+    pub way-signed-cut : (n : ℕ) → x ≡ read.Refuse n → readIs (read.Refuse n) ≡ codeAt signed b wall at
     unfolding codeAt readIs
     way-signed-cut n h = sym (then _ (read-value e f) (then-fault _ (read-refuse g h)))
 
-    pub way-signed-read : (m : ℕ) (q : Bits) (y : Read) → x ≡ read.Value m q → readIs y ≡ signedOf s m (q .0) → readIs y ≡ codeAt signed b end at
+    pub way-signed-read : (m : ℕ) (q : Bits) (y : Read) → x ≡ read.Value m q → readIs y ≡ signedOf s m (q .0) → readIs y ≡ codeAt signed b wall at
     unfolding codeAt
     way-signed-read m q y h k = k ∙ sym (then _ (read-value e f) (then _ (read-value g h) refl))
 
 pub ruleset signed-ways = (way-signed-refuse, way-signed-cut, way-signed-read)
 
 -- some
-module _ (b : ℕ → ℕ) (end at : ℕ) (c : Code) (r : Read) (e : readIs r ≡ choiceAt b 2 end at) where
-  pub way-some-refuse : (n : ℕ) → r ≡ read.Refuse n → readIs (read.Refuse n) ≡ codeAt (some c) b end at
+module _ (b : ℕ → ℕ) (wall at : ℕ) (c : Code) (r : Read) (e : readIs r ≡ choiceAt b 2 wall at) where
+  pub way-some-refuse : (n : ℕ) → r ≡ read.Refuse n → readIs (read.Refuse n) ≡ codeAt (some c) b wall at
   unfolding codeAt readIs
   way-some-refuse n f = sym (then-fault _ (read-refuse e f))
 
   module _ (s : ℕ) (p : Bits) (f : r ≡ read.Value s p) where
-    pub way-some-none : s ≡ 0 → readIs (read.Value 0 p) ≡ codeAt (some c) b end at
+    pub way-some-none : s ≡ 0 → readIs (read.Value 0 p) ≡ codeAt (some c) b wall at
     unfolding codeAt readIs someOf
     way-some-none z = sym (then _ (read-value e f) (rw z))
 
-    module _ (z : s ≡ 0 → ⊥) (x : Read) (g : readIs x ≡ codeAt c b end (p .0)) where
+    module _ (z : s ≡ 0 → ⊥) (x : Read) (g : readIs x ≡ codeAt c b wall (p .0)) where
       some-is : s ≡ suc (s - 1)
       some-is = omega arith
 
-      pub way-some-cut : (n : ℕ) → x ≡ read.Refuse n → readIs (read.Refuse n) ≡ codeAt (some c) b end at
+      pub way-some-cut : (n : ℕ) → x ≡ read.Refuse n → readIs (read.Refuse n) ≡ codeAt (some c) b wall at
       unfolding codeAt readIs someOf
       way-some-cut n h = sym (then _ (read-value e f) (rw some-is (then-fault _ (read-refuse g h))))
 
       module _ (v : ℕ) (q : Bits) (h : x ≡ read.Value v q) where
-        pub way-some-zero : v ≡ 0 → readIs (read.Refuse noSuchCode) ≡ codeAt (some c) b end at
+        pub way-some-zero : v ≡ 0 → readIs (read.Refuse noSuchCode) ≡ codeAt (some c) b wall at
         unfolding codeAt readIs someOf
         way-some-zero k = sym (then _ (read-value e f) (rw some-is (then _ (read-value g h) (under-fault noSuchCode _ (omega arith)))))
 
-        pub way-some-read : (v ≡ 0 → ⊥) → readIs (read.Value v q) ≡ codeAt (some c) b end at
+        pub way-some-read : (v ≡ 0 → ⊥) → readIs (read.Value v q) ≡ codeAt (some c) b wall at
         unfolding codeAt readIs someOf
         way-some-read k = sym (then _ (read-value e f) (rw some-is (then _ (read-value g h) (under-then noSuchCode (omega arith) refl))))
 
 pub ruleset some-ways = (way-some-refuse, way-some-none, way-some-cut, way-some-zero, way-some-read)
 
 -- shifted
-module _ (b : ℕ → ℕ) (end at lo : ℕ) (c : Code) (r : Read) (e : readIs r ≡ codeAt c b end at) where
-  pub way-shifted-refuse : (n : ℕ) → r ≡ read.Refuse n → readIs (read.Refuse n) ≡ codeAt (shifted lo c) b end at
+module _ (b : ℕ → ℕ) (wall at lo : ℕ) (c : Code) (r : Read) (e : readIs r ≡ codeAt c b wall at) where
+  pub way-shifted-refuse : (n : ℕ) → r ≡ read.Refuse n → readIs (read.Refuse n) ≡ codeAt (shifted lo c) b wall at
   unfolding codeAt readIs
   way-shifted-refuse n f = sym (then-fault _ (read-refuse e f))
 
-  pub way-shifted-read : (k : ℕ) (p : Bits) (w : ℕ) → r ≡ read.Value k p → k < 2 ^ 32 → w ≡ up lo k → readIs (read.Value w p) ≡ codeAt (shifted lo c) b end at
+  pub way-shifted-read : (k : ℕ) (p : Bits) (w : ℕ) → r ≡ read.Value k p → k < 2 ^ 32 → w ≡ up lo k → readIs (read.Value w p) ≡ codeAt (shifted lo c) b wall at
   unfolding codeAt readIs
   way-shifted-read k p w f h g = sym (then _ (read-value e f) (under-then tooLarge (omega arith) (rw g)))
 
 pub ruleset shifted-ways = (way-shifted-refuse, way-shifted-read)
 
 -- code
-module _ (b : ℕ → ℕ) (end at : ℕ) (c : codeT.Code) (r : Read) where
-  pub way-code-plain : (i : innerT.Inner) → c ≡ cv.Plain i → readIs r ≡ codeAt (innerIs i) b end at → readIs r ≡ codeAt (codeIs c) b end at
+module _ (b : ℕ → ℕ) (wall at : ℕ) (c : codeT.Code) (r : Read) where
+  pub way-code-plain : (i : innerT.Inner) → c ≡ cv.Plain i → readIs r ≡ codeAt (innerIs i) b wall at → readIs r ≡ codeAt (codeIs c) b wall at
   unfolding codeIs
   way-code-plain i w e = e ∙ sym (rw w)
 
-  pub way-code-signed : c ≡ cv.Signed → readIs r ≡ codeAt signed b end at → readIs r ≡ codeAt (codeIs c) b end at
+  pub way-code-signed : c ≡ cv.Signed → readIs r ≡ codeAt signed b wall at → readIs r ≡ codeAt (codeIs c) b wall at
   unfolding codeIs
   way-code-signed w e = e ∙ sym (rw w)
 
-  pub way-code-some : (i : innerT.Inner) → c ≡ cv.Some i → readIs r ≡ codeAt (some (innerIs i)) b end at → readIs r ≡ codeAt (codeIs c) b end at
+  pub way-code-some : (i : innerT.Inner) → c ≡ cv.Some i → readIs r ≡ codeAt (some (innerIs i)) b wall at → readIs r ≡ codeAt (codeIs c) b wall at
   unfolding codeIs
   way-code-some i w e = e ∙ sym (rw w)
 
-  pub way-code-shifted : (lo : ℕ) (i : innerT.Inner) → c ≡ cv.Shifted lo i → readIs r ≡ codeAt (shifted lo (innerIs i)) b end at → readIs r ≡ codeAt (codeIs c) b end at
+  pub way-code-shifted : (lo : ℕ) (i : innerT.Inner) → c ≡ cv.Shifted lo i → readIs r ≡ codeAt (shifted lo (innerIs i)) b wall at → readIs r ≡ codeAt (codeIs c) b wall at
   unfolding codeIs
   way-code-shifted lo i w e = e ∙ sym (rw w)
 
 -- 32 bits name one of 2^32: none of them names nothing
-word-all : (s : List ℕ) (end at : ℕ) → fixedAt (bitAt s) end at 32 ≡ choiceAt (bitAt s) (2 ^ 32) end at
+word-all : (s : List ℕ) (wall at : ℕ) → fixedAt (bitAt s) wall at 32 ≡ choiceAt (bitAt s) (2 ^ 32) wall at
 unfolding choiceAt
-word-all s end at = rw (width-pow 32) (elim (decLe (at + 32) end) [
+word-all s wall at = rw (width-pow 32) (elim (decLe (at + 32) wall) [
   | yes h ↦
-      let f = fixed-in (bitAt s) end at 32 h in
+      let f = fixed-in (bitAt s) wall at 32 h in
       f ∙ sym (then _ f (under-then noSuchCode (omega (arith, num-under (bitAt s) (bit-lt s) at {w = 32} {k = 32} (omega arith))) refl))
   | no h ↦
-      let f = fixed-past (bitAt s) end at 32 (omega arith) in
+      let f = fixed-past (bitAt s) wall at 32 (omega arith) in
       f ∙ sym (then-fault _ f)
 ])
 
-pub way-code-word : (s : List ℕ) (end at : ℕ) (c : codeT.Code) (r : Read) → c ≡ cv.Word → readIs r ≡ fixed32 (bitAt s) end at 32 → readIs r ≡ codeAt (codeIs c) (bitAt s) end at
+pub way-code-word : (s : List ℕ) (wall at : ℕ) (c : codeT.Code) (r : Read) → c ≡ cv.Word → readIs r ≡ fixed32 (bitAt s) wall at 32 → readIs r ≡ codeAt (codeIs c) (bitAt s) wall at
 unfolding codeIs codeAt
-way-code-word s end at c r w e = e ∙ wide (bitAt s) end at 32 (omega arith) ∙ word-all s end at ∙ sym (rw w)
+way-code-word s wall at c r w e = e ∙ wide (bitAt s) wall at 32 (omega arith) ∙ word-all s wall at ∙ sym (rw w)
 
 pub ruleset code-ways = (way-code-plain, way-code-word, way-code-signed, way-code-some, way-code-shifted)
 
 -- text_after
-module _ (b : ℕ → ℕ) (end n p : ℕ) where
-  pub way-text-before : end < p → valueIs b (vv.Refuse pastEnd) ≡ textOf b end n p
+module _ (b : ℕ → ℕ) (wall n p : ℕ) where
+  pub way-text-before : wall < p → valueIs b (vv.Refuse pastEnd) ≡ textOf b wall n p
   unfolding textOf valueIs
   way-text-before h = sym (under-fault pastEnd _ (omega arith))
 
-  module _ (h : p ≤ end) where
-    pub way-text-past : end - p < 8 * n → valueIs b (vv.Refuse pastEnd) ≡ textOf b end n p
+  module _ (h : p ≤ wall) where
+    pub way-text-past : wall - p < 8 * n → valueIs b (vv.Refuse pastEnd) ≡ textOf b wall n p
     unfolding textOf valueIs
     way-text-past k = sym (under-fault pastEnd _ (omega arith))
 
-    module _ (k : 8 * n ≤ end - p) (w : ℕ) (e : w ≡ textFault (bytesAt b p n)) where
-      pub way-text-wrong : 0 < w → valueIs b (vv.Refuse w) ≡ textOf b end n p
+    module _ (k : 8 * n ≤ wall - p) (w : ℕ) (e : w ≡ textFault (bytesAt b p n)) where
+      pub way-text-wrong : 0 < w → valueIs b (vv.Refuse w) ≡ textOf b wall n p
       unfolding textOf valueIs
       way-text-wrong l = rw e (sym (under-then pastEnd (omega arith) (passes-fault _ (λ z. omega (arith, e)))))
 
-      pub way-text-read : (m : Bytes) (q : Bits) → w ≤ 0 → m .0 ≡ n → q .0 ≡ p + 8 * n → valueIs b (vv.Read n m q) ≡ textOf b end n p
+      pub way-text-read : (m : Bytes) (q : Bits) → w ≤ 0 → m .0 ≡ n → q .0 ≡ p + 8 * n → valueIs b (vv.Read n m q) ≡ textOf b wall n p
       unfolding textOf valueIs
       way-text-read m q l f g =
           let back : p + 8 * n - 8 * n ≡ p = omega arith in
@@ -232,34 +232,34 @@ module _ (b : ℕ → ℕ) (end n p : ℕ) where
 pub ruleset text-ways = (way-text-before, way-text-past, way-text-wrong, way-text-read)
 
 -- simple
-module _ (s : List ℕ) (end at : ℕ) (f : formT.Form) where
-  module _ (c : codeT.Code) (w : f ≡ fv.Number c) (r : Read) (e : readIs r ≡ codeAt (codeIs c) (bitAt s) end at) where
-    pub way-simple-refuse : (n : ℕ) → r ≡ read.Refuse n → valueIs (bitAt s) (vv.Refuse n) ≡ simpleAt (formIs f) (bitAt s) end at
+module _ (s : List ℕ) (wall at : ℕ) (f : formT.Form) where
+  module _ (c : codeT.Code) (w : f ≡ fv.Number c) (r : Read) (e : readIs r ≡ codeAt (codeIs c) (bitAt s) wall at) where
+    pub way-simple-refuse : (n : ℕ) → r ≡ read.Refuse n → valueIs (bitAt s) (vv.Refuse n) ≡ simpleAt (formIs f) (bitAt s) wall at
     unfolding valueIs simpleAt formIs
     way-simple-refuse n g = rw w (sym (then-fault _ (read-refuse e g)))
 
     module _ (v : ℕ) (p : Bits) (g : r ≡ read.Value v p) where
-      pub way-simple-read : (m : Bytes) → m .0 ≡ 0 → valueIs (bitAt s) (vv.Read v m p) ≡ simpleAt (formIs f) (bitAt s) end at
+      pub way-simple-read : (m : Bytes) → m .0 ≡ 0 → valueIs (bitAt s) (vv.Read v m p) ≡ simpleAt (formIs f) (bitAt s) wall at
       unfolding valueIs simpleAt formIs
       way-simple-read m z = rw (w, z, bytes-none (bitAt s) (p .0 - 8 * 0)) (sym (then _ (read-value e g) refl))
 
-  module _ (w : f ≡ fv.Text) (r : Read) (e : readIs r ≡ numberAt (bitAt s) mostText end at) where
-    pub way-simple-count : (n : ℕ) → r ≡ read.Refuse n → valueIs (bitAt s) (vv.Refuse n) ≡ simpleAt (formIs f) (bitAt s) end at
+  module _ (w : f ≡ fv.Text) (r : Read) (e : readIs r ≡ numberAt (bitAt s) mostText wall at) where
+    pub way-simple-count : (n : ℕ) → r ≡ read.Refuse n → valueIs (bitAt s) (vv.Refuse n) ≡ simpleAt (formIs f) (bitAt s) wall at
     unfolding valueIs simpleAt formIs codeAt
     way-simple-count n g = rw w (sym (then-fault _ (read-refuse e g)))
 
-    pub way-simple-text : (n : ℕ) (p : Bits) (x : valueT.Value) → r ≡ read.Value n p → valueIs (bitAt s) x ≡ textOf (bitAt s) end n (p .0) → valueIs (bitAt s) x ≡ simpleAt (formIs f) (bitAt s) end at
+    pub way-simple-text : (n : ℕ) (p : Bits) (x : valueT.Value) → r ≡ read.Value n p → valueIs (bitAt s) x ≡ textOf (bitAt s) wall n (p .0) → valueIs (bitAt s) x ≡ simpleAt (formIs f) (bitAt s) wall at
     unfolding simpleAt formIs codeAt
     way-simple-text n p x g h = h ∙ sym (rw w (then _ (read-value e g) refl))
 
 -- a text's count is at most mostText
-module _ (s : List ℕ) (end at : ℕ) (r : Read) (e : readIs r ≡ numberAt (bitAt s) mostText end at) (n : ℕ) (p : Bits) (g : r ≡ read.Value n p) where
-  count-found : Stands (bitAt s) (Fits (five mostText) n) (bitsOf (five mostText) n) end at (p .0)
+module _ (s : List ℕ) (wall at : ℕ) (r : Read) (e : readIs r ≡ numberAt (bitAt s) mostText wall at) (n : ℕ) (p : Bits) (g : r ≡ read.Value n p) where
+  count-found : Stands (bitAt s) (HasCode (five mostText) n) (bitsOf (five mostText) n) wall at (p .0)
   unfolding codeAt
-  count-found = code-lawful (five mostText) .found (bitAt s) (bit-lt s) end at .says (n, p .0) (read-value e g)
+  count-found = code-lawful (five mostText) .found (bitAt s) (bit-lt s) wall at .says (n, p .0) (read-value e g)
 
   pub count-small : n ≤ mostText
-  unfolding Fits
+  unfolding HasCode
   count-small = omega (arith, count-found .fits)
 
 pub ruleset simple-ways = (way-simple-refuse, way-simple-read, way-simple-count, way-simple-text, count-small)

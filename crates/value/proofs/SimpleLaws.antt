@@ -16,7 +16,7 @@ use Rattle.wire.specs.Lawful.{Binary}
 use Rattle.wire.proofs.Lawful.{bind-same}
 use Rattle.value.specs.Code.{bitsOf}
 use Rattle.value.proofs.CodeLaws.{code-lawful}
-use Rattle.value.specs.Simple.{Simple, plain, text, count, bytes, bytesAt, Octets, unless, textOf, simpleAt, SimpleIs, a-code, a-text}
+use Rattle.value.specs.Simple.{Simple, plain, text, count, bytes, bytesAt, AllBytes, unless, textOf, simpleAt, SimpleIs, a-code, a-text}
 use Rattle.value.specs.Found.{FoundSimple}
 
 -- bytes and their bits
@@ -45,7 +45,7 @@ bytes-more b at n = rw add-one (go b at n)
         let e : at + 8 + 8 * n ≡ at + 8 * suc n = omega arith in
         ap (λ (l : List ℕ). num b at 8 ∷ l) (rw e at (go b (at + 8) n))
 
-pub bytes-octets : (b : ℕ → ℕ) → Binary b → (at n : ℕ) → Octets (bytesAt b at n)
+pub bytes-octets : (b : ℕ → ℕ) → Binary b → (at n : ℕ) → AllBytes (bytesAt b at n)
 unfolding bytesAt
 bytes-octets b bit at zero = tt
 bytes-octets b bit at (suc n) = (num-lt b bit at 8, bytes-octets b bit (at + 8) n)
@@ -66,7 +66,7 @@ bytes-same b c at (suc n) s =
     rw (e, f)
 
 -- bytes that stand there are read
-pub bytes-read : (b : ℕ → ℕ) (l : List ℕ) (at : ℕ) → Octets l → Has b at (bytes l) → bytesAt b at (length l) ≡ l
+pub bytes-read : (b : ℕ → ℕ) (l : List ℕ) (at : ℕ) → AllBytes l → Has b at (bytes l) → bytesAt b at (length l) ≡ l
 unfolding bytes bytesAt
 bytes-read b [] at o h = refl
 bytes-read b (x ∷ l) at o h =

@@ -18,8 +18,8 @@ use Rattle.signed.proofs.Laws.{ordered, gap-over, gap-under}
 use Rattle.utf8.specs.Rfc as rfc
 use Rattle.utf8.specs.Text.{textFault}
 use Rattle.utf8.proofs.Exact.{fault-none, none-fault}
-use Rattle.value.specs.Code.{Code, choice, five, signed, some, shifted, less, Fits, bitsOf}
-use Rattle.value.specs.Simple.{Simple, plain, text, nothing, spanCode, rangeCode, unboundedCode, boundedCode, timesCode, simpleOf, count, bytes, Octets, SimpleIs, a-code, a-text}
+use Rattle.value.specs.Code.{Code, choice, five, signed, some, shifted, wordLess, HasCode, bitsOf}
+use Rattle.value.specs.Simple.{Simple, plain, text, nothing, spanCode, rangeCode, unboundedCode, boundedCode, timesCode, simpleOf, count, bytes, AllBytes, SimpleIs, a-code, a-text}
 use Rattle.value.proofs.CodeLaws.{sign-small}
 use Rattle.value.proofs.SimpleLaws.{length-bytes}
 use Rattle.value.proofs.WriteWays.{code5-short, width-two}
@@ -33,8 +33,8 @@ mostBits signed = 41
 mostBits (some c) = 1 + mostBits c
 mostBits (shifted lo c) = mostBits c
 
-pub bits-most : (c : Code) (v : ℕ) → Fits c v → length (bitsOf c v) ≤ mostBits c
-unfolding mostBits Fits bitsOf
+pub bits-most : (c : Code) (v : ℕ) → HasCode c v → length (bitsOf c v) ≤ mostBits c
+unfolding mostBits HasCode bitsOf
 bits-most (choice n) v h = omega (arith, length-digits (width n) v)
 bits-most (five m) v h = code5-short v (omega arith)
 bits-most signed v h =
@@ -45,7 +45,7 @@ bits-most (some c) zero h = omega (arith, length-digits (width 2) 0, width-two)
 bits-most (some c) (suc k) h =
     let s = length-digits (width 2) 1 in
     omega (arith, length-append (digits (width 2) 1) (bitsOf c (suc k)), width-two, bits-most c (suc k) h)
-bits-most (shifted lo c) v h = bits-most c (less lo v) (h .1)
+bits-most (shifted lo c) v h = bits-most c (wordLess lo v) (h .1)
 
 -- RANGES: the words from b to c in the order of the signed numbers
 module _ (b c v : ℕ) where
@@ -53,27 +53,27 @@ module _ (b c v : ℕ) where
   abbrev spanned : Bool → Code
   spanned t = shifted b (cond t (choice (rank c - rank b + 1)) (five (rank c - rank b)))
 
-  by-gap : (t : Bool) → rank b ≤ rank c → Fits (spanned t) v → (v < 2 ^ 32) × (rank b ≤ rank v) × (rank v ≤ rank c)
-  unfolding Fits
+  by-gap : (t : Bool) → rank b ≤ rank c → HasCode (spanned t) v → (v < 2 ^ 32) × (rank b ≤ rank v) × (rank v ≤ rank c)
+  unfolding HasCode
   by-gap true h f = let l = f .0 in let g = f .1 in omega arith
   by-gap false h f = let l = f .0 in let g = f .1 in omega arith
 
-  gap-by : (t : Bool) → v < 2 ^ 32 → rank b ≤ rank v → rank v ≤ rank c → Fits (spanned t) v
-  unfolding Fits
+  gap-by : (t : Bool) → v < 2 ^ 32 → rank b ≤ rank v → rank v ≤ rank c → HasCode (spanned t) v
+  unfolding HasCode
   gap-by true l m n = omega arith
   gap-by false l m n = omega arith
 
-  pub range-values : Fits (rangeCode b c) v → (v < 2 ^ 32) × (rank b ≤ rank v) × (rank v ≤ rank c)
-  unfolding rangeCode spanCode Fits
+  pub range-values : HasCode (rangeCode b c) v → (v < 2 ^ 32) × (rank b ≤ rank v) × (rank v ≤ rank c)
+  unfolding rangeCode spanCode HasCode
   range-values f =
       ordered (rank c) (rank b)
-      (λ h. absurd (let g = subst (λ (g : Gap). Fits (spanCode b g) v) (gap-under b c h) f in omega arith))
-      (λ h. by-gap (leb (rank c - rank b) 65535) h (subst (λ (g : Gap). Fits (spanCode b g) v) (gap-over b c h) f))
+      (λ h. absurd (let g = subst (λ (g : Gap). HasCode (spanCode b g) v) (gap-under b c h) f in omega arith))
+      (λ h. by-gap (leb (rank c - rank b) 65535) h (subst (λ (g : Gap). HasCode (spanCode b g) v) (gap-over b c h) f))
 
-  pub values-range : v < 2 ^ 32 → rank b ≤ rank v → rank v ≤ rank c → Fits (rangeCode b c) v
+  pub values-range : v < 2 ^ 32 → rank b ≤ rank v → rank v ≤ rank c → HasCode (rangeCode b c) v
   unfolding rangeCode spanCode
   values-range l m n =
-      subst (λ (g : Gap). Fits (spanCode b g) v) (sym (gap-over b c (omega arith)))
+      subst (λ (g : Gap). HasCode (spanCode b g) v) (sym (gap-over b c (omega arith)))
       (gap-by (leb (rank c - rank b) 65535) l m n)
 
 range-short : (b c : ℕ) → mostBits (rangeCode b c) ≤ 40
@@ -89,41 +89,41 @@ range-short b c = go (gapOf b c)
     go (by k) = fixed k (leb k 65535) refl
 
 -- OCCURRENCES: the counts from least to most and at most 65,535 (a most of 65,536 is unbounded)
-bounded-values : (least most v : ℕ) → least ≤ most → most ≤ 65536 → Fits (boundedCode least most) v
+bounded-values : (least most v : ℕ) → least ≤ most → most ≤ 65536 → HasCode (boundedCode least most) v
     → (least ≤ v) × (v ≤ most)
-unfolding boundedCode Fits
+unfolding boundedCode HasCode
 bounded-values zero most v h k f = go (leb most 1) f
   where
-    some-most : (v : ℕ) → Fits (some (choice (most + 1))) v → v ≤ most
+    some-most : (v : ℕ) → HasCode (some (choice (most + 1))) v → v ≤ most
     some-most zero f = omega arith
     some-most (suc v) f = omega arith
 
-    go : (t : Bool) → Fits (cond t (choice (most + 1)) (some (choice (most + 1)))) v → (0 ≤ v) × (v ≤ most)
+    go : (t : Bool) → HasCode (cond t (choice (most + 1)) (some (choice (most + 1)))) v → (0 ≤ v) × (v ≤ most)
     go true f = omega arith
     go false f = let g = some-most v f in omega arith
 bounded-values (suc l) most v h k f = let a = f .0 in let b = f .1 in omega arith
 
-unbounded-values : (least v : ℕ) → least ≤ 65535 → Fits (unboundedCode least) v → (least ≤ v) × (v ≤ 65535)
-unfolding unboundedCode Fits
+unbounded-values : (least v : ℕ) → least ≤ 65535 → HasCode (unboundedCode least) v → (least ≤ v) × (v ≤ 65535)
+unfolding unboundedCode HasCode
 unbounded-values zero zero h f = omega arith
 unbounded-values zero (suc v) h f = omega arith
 unbounded-values (suc l) v h f = let a = f .0 in let b = f .1 in omega arith
 
-values-bounded : (least most v : ℕ) → most ≤ 65535 → least ≤ v → v ≤ most → Fits (boundedCode least most) v
-unfolding boundedCode Fits
+values-bounded : (least most v : ℕ) → most ≤ 65535 → least ≤ v → v ≤ most → HasCode (boundedCode least most) v
+unfolding boundedCode HasCode
 values-bounded zero most v k h l = go (leb most 1)
   where
-    some-fits : (v : ℕ) → v ≤ most → Fits (some (choice (most + 1))) v
+    some-fits : (v : ℕ) → v ≤ most → HasCode (some (choice (most + 1))) v
     some-fits zero l = tt
     some-fits (suc v) l = omega arith
 
-    go : (t : Bool) → Fits (cond t (choice (most + 1)) (some (choice (most + 1)))) v
+    go : (t : Bool) → HasCode (cond t (choice (most + 1)) (some (choice (most + 1)))) v
     go true = omega arith
     go false = some-fits v l
 values-bounded (suc k) most v m h l = omega arith
 
-values-unbounded : (least v : ℕ) → least ≤ v → v ≤ 65535 → Fits (unboundedCode least) v
-unfolding unboundedCode Fits
+values-unbounded : (least v : ℕ) → least ≤ v → v ≤ 65535 → HasCode (unboundedCode least) v
+unfolding unboundedCode HasCode
 values-unbounded zero zero h l = tt
 values-unbounded zero (suc v) h l = omega arith
 values-unbounded (suc k) v h l = omega arith
@@ -147,16 +147,16 @@ module _ (least most : ℕ) where
   abbrev chosen : Bool → Bool → Bool → Code
   chosen a b c = cond a nothing (cond b nothing (cond c (unboundedCode least) (boundedCode least most)))
 
-  no-count : (v : ℕ) → Fits nothing v → ⊥
-  unfolding Fits
+  no-count : (v : ℕ) → HasCode nothing v → ⊥
+  unfolding HasCode
   no-count v f = omega arith
 
-  pub times-values : (v : ℕ) → Fits (timesCode least most) v → (least ≤ v) × (v ≤ most) × (v ≤ 65535)
+  pub times-values : (v : ℕ) → HasCode (timesCode least most) v → (least ≤ v) × (v ≤ most) × (v ≤ 65535)
   unfolding timesCode
   times-values v f = go (ltb (min most 65535) least) (ltb 65536 most) (eqb most 65536) refl refl refl f
     where
       go : (a b c : Bool) → ltb (min most 65535) least ≡ a → ltb 65536 most ≡ b → eqb most 65536 ≡ c
-          → Fits (chosen a b c) v → (least ≤ v) × (v ≤ most) × (v ≤ 65535)
+          → HasCode (chosen a b c) v → (least ≤ v) × (v ≤ most) × (v ≤ 65535)
       go true b c x y z f = absurd (no-count v f)
       go false true c x y z f = absurd (no-count v f)
       go false false true x y z f =
@@ -168,12 +168,12 @@ module _ (least most : ℕ) where
           omega (arith, eqb-false most 65536 z, bounded-values least most v (omega arith) k f)
 
   module _ (h : most ≤ 65536) where
-    pub values-times : (v : ℕ) → least ≤ v → v ≤ most → v ≤ 65535 → Fits (timesCode least most) v
+    pub values-times : (v : ℕ) → least ≤ v → v ≤ most → v ≤ 65535 → HasCode (timesCode least most) v
     unfolding timesCode
     values-times v k l m = go (ltb (min most 65535) least) (ltb 65536 most) (eqb most 65536) refl refl refl
       where
         go : (a b c : Bool) → ltb (min most 65535) least ≡ a → ltb 65536 most ≡ b → eqb most 65536 ≡ c
-            → Fits (chosen a b c) v
+            → HasCode (chosen a b c) v
         go true b c x y z = absurd (omega (arith, ltb-true (min most 65535) least x))
         go false true c x y z = absurd (omega (arith, ltb-true 65536 most y))
         go false false true x y z = values-unbounded least v k m
@@ -189,15 +189,15 @@ module _ (least most : ℕ) where
         go false false true = unbounded-short least
         go false false false = bounded-short least most h
 
-    pub times-short : (v : ℕ) → Fits (timesCode least most) v → length (bitsOf (timesCode least most) v) ≤ 41
+    pub times-short : (v : ℕ) → HasCode (timesCode least most) v → length (bitsOf (timesCode least most) v) ≤ 41
     times-short v f = omega (arith, bits-most (timesCode least most) v f, times-most)
 
 -- TEXTS: one of RFC 3629 is of octets
-octets-append : (c l : List ℕ) → Octets c → Octets l → Octets (c ++ l)
+octets-append : (c l : List ℕ) → AllBytes c → AllBytes l → AllBytes (c ++ l)
 octets-append [] l h k = k
 octets-append (x ∷ c) l h k = (h .0, octets-append c l (h .1) k)
 
-char-octets : {c : List ℕ} → rfc.Char c → Octets c
+char-octets : {c : List ℕ} → rfc.Char c → AllBytes c
 char-octets (rfc.utf8-1 a) = (omega arith, tt)
 char-octets (rfc.utf8-2 a b) = (omega arith, (omega arith, tt))
 char-octets (rfc.utf8-3-E0 a b c) = (omega arith, (omega arith, (omega arith, tt)))
@@ -208,11 +208,11 @@ char-octets (rfc.utf8-4-F0 a b c d) = (omega arith, (omega arith, (omega arith, 
 char-octets (rfc.utf8-4-F1-F3 a b c d) = (omega arith, (omega arith, (omega arith, (omega arith, tt))))
 char-octets (rfc.utf8-4-F4 a b c d) = (omega arith, (omega arith, (omega arith, (omega arith, tt))))
 
-rfc-octets : {l : List ℕ} → rfc.Octets l → Octets l
+rfc-octets : {l : List ℕ} → rfc.Octets l → AllBytes l
 rfc-octets rfc.empty = tt
 rfc-octets (rfc.more {c} {l} h k) = octets-append c l (char-octets h) (rfc-octets k)
 
-pub text-octets : (l : List ℕ) → textFault l ≡ 0 → Octets l
+pub text-octets : (l : List ℕ) → textFault l ≡ 0 → AllBytes l
 text-octets l e = rfc-octets (none-fault l e)
 
 -- THE SIMPLE KINDS: a value of the kind has bits, which are few
@@ -221,7 +221,7 @@ pub record HasBits (kind b c v : ℕ) (X : List ℕ) : Type 0 where
   pub is : SimpleIs (simpleOf kind b c) v X bits
   pub short : (kind ≡ 4 → b ≤ 65536) → length bits ≤ 32800
 
-word-bits : {kind b c v : ℕ} (d : Code) → simpleOf kind b c ≡ plain d → Fits d v
+word-bits : {kind b c v : ℕ} (d : Code) → simpleOf kind b c ≡ plain d → HasCode d v
     → ((kind ≡ 4 → b ≤ 65536) → mostBits d ≤ 41) → HasBits kind b c v []
 word-bits {v} d e f n = record {
   bits = bitsOf d v;
@@ -230,7 +230,7 @@ word-bits {v} d e f n = record {
 }
 
 pub kind-bits : {kind b c v : ℕ} {X : List ℕ} → InKind kind b c v X → HasBits kind b c v X
-unfolding simpleOf Fits mostBits
+unfolding simpleOf HasCode mostBits
 kind-bits (InKind.boolean h) = word-bits (choice 2) refl h λ k. omega (arith, width-two)
 kind-bits (InKind.ranged {b} {c} {v} h m n) =
     word-bits (rangeCode b c) refl (values-range b c v h m n) λ k. omega (arith, range-short b c)
@@ -247,21 +247,21 @@ kind-bits (InKind.text {X} h o) = record {
 kind-bits (InKind.float h) = word-bits (choice (2 ^ 32)) refl h λ k. omega (arith, width-pow 32)
 
 -- and what its code has is a value of the kind
-pub plain-is : {s : Simple} {v : ℕ} {X w : List ℕ} → SimpleIs s v X w → (c : Code) → s ≡ plain c → Fits c v × (X ≡ [])
+pub plain-is : {s : Simple} {v : ℕ} {X w : List ℕ} → SimpleIs s v X w → (c : Code) → s ≡ plain c → HasCode c v × (X ≡ [])
 plain-is (a-code {c = d} {v} h) c e = let z : d ≡ c = cc in (rw z at h, refl)
 plain-is (a-text h k z) c e = absurd (let n : _≡_ {A = ℕ} 0 1 = cc in omega arith)
 
-a-word : {kind b c v : ℕ} {X w : List ℕ} (d : Code) → SimpleIs (plain d) v X w → (Fits d v → InKind kind b c v [])
+a-word : {kind b c v : ℕ} {X w : List ℕ} (d : Code) → SimpleIs (plain d) v X w → (HasCode d v → InKind kind b c v [])
     → InKind kind b c v X
 a-word d h f = let p = plain-is h d refl in rw (p .1) (f (p .0))
 
 text-is : {s : Simple} {b c v : ℕ} {X w : List ℕ} → SimpleIs s v X w → s ≡ text → InKind 5 b c v X
-unfolding Fits
+unfolding HasCode
 text-is (a-code h) e = absurd (let n : _≡_ {A = ℕ} 0 1 = cc in omega arith)
 text-is (a-text {l} h k z) e = InKind.text {X = l} (omega arith) (none-fault l z)
 
 pub kind-is : (kind b c v : ℕ) {X w : List ℕ} → SimpleIs (simpleOf kind b c) v X w → InKind kind b c v X
-unfolding simpleOf Fits
+unfolding simpleOf HasCode
 kind-is zero b c v h = a-word (choice 2) h λ f. InKind.boolean f
 kind-is (suc zero) b c v h =
     a-word (rangeCode b c) h λ f. let r = range-values b c v f in InKind.ranged (r .0) (r .1) (r .2)

@@ -1,9 +1,13 @@
 -- The enums that the code takes and answers, as the meanings have them.
-use Prim.Native.Nat.{ℕ, _-_, _*_, _^_, _≤_}
+use Prim.Native.Nat.{ℕ, _+_, _-_, _*_, _^_, _≤_}
+use mathlib.Core.Path.{_≡_}
 use mathlib.Core.List.{List}
+use lib.ListN.{length}
 use Rattle.wire.specs.Res.{Res, got, fault}
+use Rattle.wire.specs.Bits.{bitAt}
+use Rattle.wire.specs.Put.{Wrote}
 use Rattle.value.specs.Code.{Code, choice, five, signed, some, shifted}
-use Rattle.value.specs.Simple.{Simple, plain, text, bytesAt}
+use Rattle.value.specs.Simple.{Simple, plain, text, bytes, bytesAt, simpleAt}
 use Rattle.value.specs.declared.Inner as innerT
 use Rattle.value.specs.declared.Inner.the-variants as iv
 use Rattle.value.specs.declared.Code as codeT
@@ -34,6 +38,14 @@ formIs fv.Text = text
 unfoldable pub valueIs : (ℕ → ℕ) → valueT.Value → Res (ℕ × List ℕ × ℕ)
 valueIs b (vv.Read word n next) = got (word, bytesAt b (next .0 - 8 * n .0) (n .0), next .0)
 valueIs b (vv.Refuse e) = fault e
+
+-- the value is what stands at a place of the payload s, before the wall
+abbrev pub ReadsSimple : (s : List ℕ) → valueT.Value → Simple → (wall at : ℕ) → Type 0
+ReadsSimple s v f wall at = valueIs (bitAt s) v ≡ simpleAt f (bitAt s) wall at
+
+-- of s came t, with a text's bytes from a place on
+abbrev pub WroteBytes : (s t : List ℕ) (at : ℕ) (l : List ℕ) → Type 0
+WroteBytes s t at l = Wrote s t at (bytes l) (at + 8 * length l)
 
 unfoldable pub sizeIs : sizeT.Size → Res ℕ
 sizeIs (sv.Takes n) = got (n .0)

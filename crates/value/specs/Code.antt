@@ -2,11 +2,11 @@
 -- goes by these names and their laws, so that a new code is a case here and nowhere else.
 use Prim.Native.Nat.{ℕ, zero, suc, _+_, _-_, _%_, _<_, _≤_, _^_, min}
 use mathlib.Core.Bool.{Bool, true, false, cond}
-use mathlib.Core.List.{List, [], _∷_, _++_}
+use mathlib.Core.List.{List, _++_}
 use lib.Dec.{leb, ltb}
 use lib.ListN.{length}
 use Rattle.numbers.specs.Refusal.{tooLarge, noSuchCode, minusZero, outsideRow}
-use Rattle.wire.specs.Res.{Res, got, fault, _>>=_, _>>_, guard, atMost}
+use Rattle.wire.specs.Res.{Res, got, _>>=_, _>>_, guard, atMost}
 use Rattle.wire.specs.Bits.{fixedAt, digits}
 use Rattle.wire.specs.Width.{width}
 use Rattle.wire.specs.Number.{read5, code5}
@@ -21,21 +21,21 @@ pub data Code : Type 0 where
   signed : Code
   -- a bit for none, or a bit and the number, which is not 0
   some : Code → Code
-  -- the word less lo, modulo 2^32
+  -- the word wordLess lo, modulo 2^32
   shifted : (lo : ℕ) → Code → Code
 
--- the word v less the word lo
-abbrev pub less : ℕ → ℕ → ℕ
-less lo v = down (lo % 2 ^ 32) v
+-- the word v wordLess the word lo
+abbrev pub wordLess : ℕ → ℕ → ℕ
+wordLess lo v = down (lo % 2 ^ 32) v
 
 -- the numbers, and their bits
-unfoldable pub Fits : Code → ℕ → Type 0
-Fits (choice n) v = v < n
-Fits (five most) v = v ≤ min most (2 ^ 32 - 1)
-Fits signed v = v < 2 ^ 32
-Fits (some c) zero = Unit
-Fits (some c) (suc k) = Fits c (suc k)
-Fits (shifted lo c) v = (v < 2 ^ 32) × Fits c (less lo v)
+unfoldable pub HasCode : Code → ℕ → Type 0
+HasCode (choice n) v = v < n
+HasCode (five most) v = v ≤ min most (2 ^ 32 - 1)
+HasCode signed v = v < 2 ^ 32
+HasCode (some c) zero = Unit
+HasCode (some c) (suc k) = HasCode c (suc k)
+HasCode (shifted lo c) v = (v < 2 ^ 32) × HasCode c (wordLess lo v)
 
 abbrev pub choiceBits : ℕ → ℕ → List ℕ
 choiceBits n v = digits (width n) v
@@ -46,7 +46,7 @@ bitsOf (five most) v = code5 v
 bitsOf signed v = choiceBits 2 (signOf v) ++ code5 (magnitudeOf v)
 bitsOf (some c) zero = choiceBits 2 0
 bitsOf (some c) (suc k) = choiceBits 2 1 ++ bitsOf c (suc k)
-bitsOf (shifted lo c) v = bitsOf c (less lo v)
+bitsOf (shifted lo c) v = bitsOf c (wordLess lo v)
 
 -- the reading: a fixed width may name nothing, a vluimsbf5 be over its limit
 unfoldable pub choiceAt : (ℕ → ℕ) → ℕ → ℕ → ℕ → Res (ℕ × ℕ)
@@ -100,7 +100,7 @@ fits (five most) v = leb v (min most (2 ^ 32 - 1))
 fits signed v = ltb v (2 ^ 32)
 fits (some c) zero = true
 fits (some c) (suc k) = fits c (suc k)
-fits (shifted lo c) v = cond (ltb v (2 ^ 32)) (fits c (less lo v)) false
+fits (shifted lo c) v = cond (ltb v (2 ^ 32)) (fits c (wordLess lo v)) false
 
 unfoldable pub codeOut : Code → ℕ → Res (List ℕ)
 codeOut c v = guard (fits c v) outsideRow >> got (bitsOf c v)

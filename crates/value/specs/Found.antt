@@ -1,6 +1,6 @@
 -- What it is for a simple value to be found at a place.
 use Prim.Native.Nat.{ℕ, _≤_}
-use mathlib.Core.List.{List, []}
+use mathlib.Core.List.{List}
 use Rattle.wire.specs.At.{At}
 use Rattle.value.specs.Simple.{Simple, SimpleIs}
 

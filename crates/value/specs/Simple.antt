@@ -12,7 +12,7 @@ use Rattle.wire.specs.Res.{Res, got, fault, _>>=_, _>>_, atMost}
 use Rattle.wire.specs.Bits.{num, digits}
 use Rattle.signed.specs.Words.{Gap, under, by, gapOf}
 use Rattle.utf8.specs.Text.{textFault}
-use Rattle.value.specs.Code.{Code, choice, five, signed, some, shifted, Fits, bitsOf, codeAt}
+use Rattle.value.specs.Code.{Code, choice, five, signed, some, shifted, HasCode, bitsOf, codeAt}
 
 -- one of no choices: no word names anything
 abbrev pub nothing : Code
@@ -71,9 +71,9 @@ unfoldable pub bytesAt : (ℕ → ℕ) → ℕ → ℕ → List ℕ
 bytesAt b at zero = []
 bytesAt b at (suc n) = num b at 8 ∷ bytesAt b (at + 8) n
 
-abbrev pub Octets : List ℕ → Type 0
-Octets [] = Unit
-Octets (x ∷ l) = (x < 256) × Octets l
+abbrev pub AllBytes : List ℕ → Type 0
+AllBytes [] = Unit
+AllBytes (x ∷ l) = (x < 256) × AllBytes l
 
 -- refused with what is wrong with it, unless that is nothing
 unfoldable pub unless : ℕ → Res Unit
@@ -98,5 +98,5 @@ simpleAt text b wall at = do
 
 -- what may stand: a value word, its text bytes, its bits
 pub data SimpleIs : Simple → ℕ → List ℕ → List ℕ → Type 0 where
-  a-code : {c : Code} {v : ℕ} → Fits c v → SimpleIs (plain c) v [] (bitsOf c v)
-  a-text : {l : List ℕ} → Fits count (length l) → Octets l → textFault l ≡ 0 → SimpleIs text (length l) l (bitsOf count (length l) ++ bytes l)
+  a-code : {c : Code} {v : ℕ} → HasCode c v → SimpleIs (plain c) v [] (bitsOf c v)
+  a-text : {l : List ℕ} → HasCode count (length l) → AllBytes l → textFault l ≡ 0 → SimpleIs text (length l) l (bitsOf count (length l) ++ bytes l)

@@ -76,10 +76,10 @@ pub fn times(least: u32, most: u32) -> Code
 }
 
 // A simple kind with its parameters.
-pub fn simple(kind: u32, b: u32, c: u32) -> Form
-    ensures { λ r. ⌜ formIs r ≡ simpleOf kind b c ⌝ }
+pub fn simple(simple: u32, b: u32, c: u32) -> Form
+    ensures { λ r. ⌜ formIs r ≡ simpleOf simple b c ⌝ }
 {
-    match kind {
+    match simple {
         numbers::simple::BOOLEAN => Form::Number(Code::Plain(Inner::Choice(2))),
         numbers::simple::RANGED => Form::Number(range(b, c)),
         numbers::simple::UNSIGNED => Form::Number(Code::Plain(Inner::Five(limit::MOST_WORD))),

@@ -2,11 +2,11 @@
 use super::Form;
 use super::Inner;
 use super::Value;
+use super::reading;
 use super::reading::choice;
 use super::reading::number;
 use super::reading::shifted_number;
 use super::reading::signed_number;
-use super::reading::simple;
 use numbers::limit;
 use signed::Gap;
 use signed::gap;
@@ -20,51 +20,51 @@ ghost use lib.ListN.{length};
 ghost use Rattle.wire.specs.Bits.{bitAt};
 ghost use Rattle.wire.specs.Answer.{readIs};
 ghost use Rattle.value.specs.Code.{codeAt};
-ghost use Rattle.value.specs.Simple.{rangeCode, simpleOf, simpleAt};
-ghost use Rattle.value.specs.Answer.{valueIs};
+ghost use Rattle.value.specs.Simple.{rangeCode, simpleOf};
+ghost use Rattle.value.specs.Answer.{ReadsSimple};
 ghost use Rattle.value.specs.Kinds.{kindCode};
 
 // A value from b to c, both signed.
-fn ranged(s: &[u8], end: Bits, at: Bits, b: u32, c: u32) -> Read
-    requires { ⌜ end .0 ≤ 8 * length (now s) ⌝ }
-    ensures { λ r. ⌜ readIs r ≡ codeAt (rangeCode b c) (bitAt (now (s .entry))) (end .0) (at .0) ⌝ }
+fn ranged(s: &[u8], wall: Bits, at: Bits, b: u32, c: u32) -> Read
+    requires { ⌜ wall .0 ≤ 8 * length (now s) ⌝ }
+    ensures { λ r. ⌜ readIs r ≡ codeAt (rangeCode b c) (bitAt (now (s .entry))) (wall .0) (at .0) ⌝ }
 {
     match gap(b, c) {
-        Gap::Under => choice(s, end, at, 0),
+        Gap::Under => choice(s, wall, at, 0),
         Gap::By(k) => {
             if k <= limit::MOST_FIXED {
-                return shifted_number(s, end, at, b, Inner::Choice(k + 1));
+                return shifted_number(s, wall, at, b, Inner::Choice(k + 1));
             }
-            shifted_number(s, end, at, b, Inner::Five(k))
+            shifted_number(s, wall, at, b, Inner::Five(k))
         }
     }
 }
 
 // The number of a kind that is no text.
-fn by_kind(s: &[u8], end: Bits, at: Bits, kind: u32, b: u32, c: u32) -> Read
-    requires { ⌜ end .0 ≤ 8 * length (now s) ⌝ }
-    ensures { λ r. ⌜ readIs r ≡ codeAt (kindCode kind b c) (bitAt (now (s .entry))) (end .0) (at .0) ⌝ }
+fn by_kind(s: &[u8], wall: Bits, at: Bits, simple: u32, b: u32, c: u32) -> Read
+    requires { ⌜ wall .0 ≤ 8 * length (now s) ⌝ }
+    ensures { λ r. ⌜ readIs r ≡ codeAt (kindCode simple b c) (bitAt (now (s .entry))) (wall .0) (at .0) ⌝ }
 {
-    match kind {
-        numbers::simple::BOOLEAN => choice(s, end, at, 2),
-        numbers::simple::RANGED => ranged(s, end, at, b, c),
-        numbers::simple::UNSIGNED => number(s, end, at, limit::MOST_WORD),
-        numbers::simple::SIGNED => signed_number(s, end, at),
-        numbers::simple::ENUMERATION => choice(s, end, at, b),
-        numbers::simple::FLOAT => fixed(s, end, at, 32),
-        _ => choice(s, end, at, 0),
+    match simple {
+        numbers::simple::BOOLEAN => choice(s, wall, at, 2),
+        numbers::simple::RANGED => ranged(s, wall, at, b, c),
+        numbers::simple::UNSIGNED => number(s, wall, at, limit::MOST_WORD),
+        numbers::simple::SIGNED => signed_number(s, wall, at),
+        numbers::simple::ENUMERATION => choice(s, wall, at, b),
+        numbers::simple::FLOAT => fixed(s, wall, at, 32),
+        _ => choice(s, wall, at, 0),
     }
 }
 
 // A simple value of a kind with its parameters.
-pub fn of_kind(s: &[u8], end: Bits, at: Bits, kind: u32, b: u32, c: u32) -> Value
-    requires { ⌜ end .0 ≤ 8 * length (now s) ⌝ }
-    ensures { λ r. ⌜ valueIs (bitAt (now (s .entry))) r ≡ simpleAt (simpleOf kind b c) (bitAt (now (s .entry))) (end .0) (at .0) ⌝ }
+pub fn of_kind(s: &[u8], wall: Bits, at: Bits, simple: u32, b: u32, c: u32) -> Value
+    requires { ⌜ wall .0 ≤ 8 * length (now s) ⌝ }
+    ensures { λ r. ⌜ ReadsSimple (now (s .entry)) r (simpleOf simple b c) (wall .0) (at .0) ⌝ }
 {
-    if kind == numbers::simple::TEXT {
-        return simple(s, end, at, Form::Text);
+    if simple == numbers::simple::TEXT {
+        return reading::simple(s, wall, at, Form::Text);
     }
-    match by_kind(s, end, at, kind, b, c) {
+    match by_kind(s, wall, at, simple, b, c) {
         Read::Refuse(e) => Value::Refuse(e),
         Read::Value(v, p) => {
             let none = Bytes(0);

@@ -1,13 +1,12 @@
 // Bytes into a lent buffer, a byte at a time: from a byte on, or from a bit of one, the highest of which is bit 0.
 ghost use Prim.Native.Nat.{_+_, _*_, _≤_, _<_};
 ghost use lib.ListN.{length};
-ghost use Rattle.wire.specs.Put.{Wrote};
-ghost use Rattle.value.specs.Simple.{bytes};
+ghost use Rattle.value.specs.Answer.{WroteBytes};
 
 // From byte q on.
 pub fn lay(buf: &mut [u8], q: usize, text: &[u8])
     requires { ⌜ q + length (now text) ≤ length (now buf) ⌝ }
-    ensures { λ _. ⌜ Wrote (now (buf .entry)) (now (buf .exit)) (8 * q) (bytes (now (text .entry))) (8 * q + 8 * length (now (text .entry))) ⌝ }
+    ensures { λ _. ⌜ WroteBytes (now (buf .entry)) (now (buf .exit)) (8 * q) (now (text .entry)) ⌝ }
 {
     let mut i: usize = 0;
     while i < text.len() {
@@ -20,7 +19,7 @@ pub fn lay(buf: &mut [u8], q: usize, text: &[u8])
 // From bit k of byte q on: each byte stored has the low bits of one octet, c, and the high bits of the next.
 pub fn lay_slanted(buf: &mut [u8], q: usize, k: u32, text: &[u8])
     requires { ⌜ (0 < k) × (k < 8) × (q + length (now text) < length (now buf)) ⌝ }
-    ensures { λ _. ⌜ Wrote (now (buf .entry)) (now (buf .exit)) (8 * q + k) (bytes (now (text .entry))) (8 * q + k + 8 * length (now (text .entry))) ⌝ }
+    ensures { λ _. ⌜ WroteBytes (now (buf .entry)) (now (buf .exit)) (8 * q + k) (now (text .entry)) ⌝ }
 {
     let h = 8 - k;
     let mut c = buf[q] >> h;

@@ -23,15 +23,15 @@ ghost use Rattle.wire.specs.Bits.{bitAt, num};
 ghost use Rattle.wire.specs.Answer.{readIs};
 ghost use Rattle.utf8.specs.Text.{textFault};
 ghost use Rattle.value.specs.Code.{choiceAt, numberAt, signedOf, someOf, codeAt, signed, some, shifted};
-ghost use Rattle.value.specs.Simple.{bytesAt, textOf, simpleAt};
-ghost use Rattle.value.specs.Answer.{innerIs, codeIs, formIs, valueIs};
+ghost use Rattle.value.specs.Simple.{bytesAt, textOf};
+ghost use Rattle.value.specs.Answer.{innerIs, codeIs, formIs, valueIs, ReadsSimple};
 
 // One of n choices.
-pub fn choice(s: &[u8], end: Bits, at: Bits, n: u32) -> Read
-    requires { ⌜ end .0 ≤ 8 * length (now s) ⌝ }
-    ensures { λ r. ⌜ readIs r ≡ choiceAt (bitAt (now (s .entry))) n (end .0) (at .0) ⌝ }
+pub fn choice(s: &[u8], wall: Bits, at: Bits, n: u32) -> Read
+    requires { ⌜ wall .0 ≤ 8 * length (now s) ⌝ }
+    ensures { λ r. ⌜ readIs r ≡ choiceAt (bitAt (now (s .entry))) n (wall .0) (at .0) ⌝ }
 {
-    match fixed(s, end, at, width(n)) {
+    match fixed(s, wall, at, width(n)) {
         Read::Refuse(e) => Read::Refuse(e),
         Read::Value(v, p) => {
             if v < n {
@@ -43,11 +43,11 @@ pub fn choice(s: &[u8], end: Bits, at: Bits, n: u32) -> Read
 }
 
 // A number up to a limit.
-pub fn number(s: &[u8], end: Bits, at: Bits, most: u32) -> Read
-    requires { ⌜ end .0 ≤ 8 * length (now s) ⌝ }
-    ensures { λ r. ⌜ readIs r ≡ numberAt (bitAt (now (s .entry))) most (end .0) (at .0) ⌝ }
+pub fn number(s: &[u8], wall: Bits, at: Bits, most: u32) -> Read
+    requires { ⌜ wall .0 ≤ 8 * length (now s) ⌝ }
+    ensures { λ r. ⌜ readIs r ≡ numberAt (bitAt (now (s .entry))) most (wall .0) (at .0) ⌝ }
 {
-    match vlu5(s, end, at) {
+    match vlu5(s, wall, at) {
         Read::Refuse(e) => Read::Refuse(e),
         Read::Value(v, p) => {
             if v <= most {
@@ -59,13 +59,13 @@ pub fn number(s: &[u8], end: Bits, at: Bits, most: u32) -> Read
 }
 
 // A code that another holds.
-fn inner(s: &[u8], end: Bits, at: Bits, i: Inner) -> Read
-    requires { ⌜ end .0 ≤ 8 * length (now s) ⌝ }
-    ensures { λ r. ⌜ readIs r ≡ codeAt (innerIs i) (bitAt (now (s .entry))) (end .0) (at .0) ⌝ }
+fn inner(s: &[u8], wall: Bits, at: Bits, i: Inner) -> Read
+    requires { ⌜ wall .0 ≤ 8 * length (now s) ⌝ }
+    ensures { λ r. ⌜ readIs r ≡ codeAt (innerIs i) (bitAt (now (s .entry))) (wall .0) (at .0) ⌝ }
 {
     match i {
-        Inner::Choice(n) => choice(s, end, at, n),
-        Inner::Five(most) => number(s, end, at, most),
+        Inner::Choice(n) => choice(s, wall, at, n),
+        Inner::Five(most) => number(s, wall, at, most),
     }
 }
 
@@ -89,13 +89,13 @@ fn join(sign: u32, magnitude: u32, next: Bits) -> Read
 }
 
 // A sign bit and a magnitude.
-pub fn signed_number(s: &[u8], end: Bits, at: Bits) -> Read
-    requires { ⌜ end .0 ≤ 8 * length (now s) ⌝ }
-    ensures { λ r. ⌜ readIs r ≡ codeAt signed (bitAt (now (s .entry))) (end .0) (at .0) ⌝ }
+pub fn signed_number(s: &[u8], wall: Bits, at: Bits) -> Read
+    requires { ⌜ wall .0 ≤ 8 * length (now s) ⌝ }
+    ensures { λ r. ⌜ readIs r ≡ codeAt signed (bitAt (now (s .entry))) (wall .0) (at .0) ⌝ }
 {
-    match choice(s, end, at, 2) {
+    match choice(s, wall, at, 2) {
         Read::Refuse(e) => Read::Refuse(e),
-        Read::Value(sign, p) => match vlu5(s, end, p) {
+        Read::Value(sign, p) => match vlu5(s, wall, p) {
             Read::Refuse(e) => Read::Refuse(e),
             Read::Value(m, q) => join(sign, m, q),
         },
@@ -103,17 +103,17 @@ pub fn signed_number(s: &[u8], end: Bits, at: Bits) -> Read
 }
 
 // None, or some and how many, where 0 names nothing.
-fn some_number(s: &[u8], end: Bits, at: Bits, i: Inner) -> Read
-    requires { ⌜ end .0 ≤ 8 * length (now s) ⌝ }
-    ensures { λ r. ⌜ readIs r ≡ codeAt (some (innerIs i)) (bitAt (now (s .entry))) (end .0) (at .0) ⌝ }
+fn some_number(s: &[u8], wall: Bits, at: Bits, i: Inner) -> Read
+    requires { ⌜ wall .0 ≤ 8 * length (now s) ⌝ }
+    ensures { λ r. ⌜ readIs r ≡ codeAt (some (innerIs i)) (bitAt (now (s .entry))) (wall .0) (at .0) ⌝ }
 {
-    match choice(s, end, at, 2) {
+    match choice(s, wall, at, 2) {
         Read::Refuse(e) => Read::Refuse(e),
         Read::Value(flag, p) => {
             if flag == 0 {
                 return Read::Value(0, p);
             }
-            match inner(s, end, p, i) {
+            match inner(s, wall, p, i) {
                 Read::Refuse(e) => Read::Refuse(e),
                 Read::Value(v, q) => {
                     if v == 0 {
@@ -127,27 +127,27 @@ fn some_number(s: &[u8], end: Bits, at: Bits, i: Inner) -> Read
 }
 
 // A word from lo on.
-pub fn shifted_number(s: &[u8], end: Bits, at: Bits, lo: u32, i: Inner) -> Read
-    requires { ⌜ end .0 ≤ 8 * length (now s) ⌝ }
-    ensures { λ r. ⌜ readIs r ≡ codeAt (shifted lo (innerIs i)) (bitAt (now (s .entry))) (end .0) (at .0) ⌝ }
+pub fn shifted_number(s: &[u8], wall: Bits, at: Bits, lo: u32, i: Inner) -> Read
+    requires { ⌜ wall .0 ≤ 8 * length (now s) ⌝ }
+    ensures { λ r. ⌜ readIs r ≡ codeAt (shifted lo (innerIs i)) (bitAt (now (s .entry))) (wall .0) (at .0) ⌝ }
 {
-    match inner(s, end, at, i) {
+    match inner(s, wall, at, i) {
         Read::Refuse(e) => Read::Refuse(e),
         Read::Value(k, p) => Read::Value(raised(lo, k), p),
     }
 }
 
 // One number by its code.
-pub fn code(s: &[u8], end: Bits, at: Bits, c: Code) -> Read
-    requires { ⌜ end .0 ≤ 8 * length (now s) ⌝ }
-    ensures { λ r. ⌜ readIs r ≡ codeAt (codeIs c) (bitAt (now (s .entry))) (end .0) (at .0) ⌝ }
+pub fn code(s: &[u8], wall: Bits, at: Bits, c: Code) -> Read
+    requires { ⌜ wall .0 ≤ 8 * length (now s) ⌝ }
+    ensures { λ r. ⌜ readIs r ≡ codeAt (codeIs c) (bitAt (now (s .entry))) (wall .0) (at .0) ⌝ }
 {
     match c {
-        Code::Plain(i) => inner(s, end, at, i),
-        Code::Word => fixed(s, end, at, 32),
-        Code::Signed => signed_number(s, end, at),
-        Code::Some(i) => some_number(s, end, at, i),
-        Code::Shifted(lo, i) => shifted_number(s, end, at, lo, i),
+        Code::Plain(i) => inner(s, wall, at, i),
+        Code::Word => fixed(s, wall, at, 32),
+        Code::Signed => signed_number(s, wall, at),
+        Code::Some(i) => some_number(s, wall, at, i),
+        Code::Shifted(lo, i) => shifted_number(s, wall, at, lo, i),
     }
 }
 
@@ -174,11 +174,11 @@ pub fn text_fault(s: &[u8], at: Bits, n: Bytes) -> u32
 }
 
 // A text's bytes after its count: the wall is judged before what is wrong with them.
-fn text_after(s: &[u8], end: Bits, n: u32, p: Bits) -> Value
-    requires { ⌜ (end .0 ≤ 8 * length (now s)) × (n ≤ mostText) ⌝ }
-    ensures { λ r. ⌜ valueIs (bitAt (now (s .entry))) r ≡ textOf (bitAt (now (s .entry))) (end .0) n (p .0) ⌝ }
+fn text_after(s: &[u8], wall: Bits, n: u32, p: Bits) -> Value
+    requires { ⌜ (wall .0 ≤ 8 * length (now s)) × (n ≤ mostText) ⌝ }
+    ensures { λ r. ⌜ valueIs (bitAt (now (s .entry))) r ≡ textOf (bitAt (now (s .entry))) (wall .0) n (p .0) ⌝ }
 {
-    let e = end.0;
+    let e = wall.0;
     let from = p.0;
     if e < from {
         return Value::Refuse(refusal::PAST_END);
@@ -201,12 +201,12 @@ fn text_after(s: &[u8], end: Bits, n: u32, p: Bits) -> Value
 }
 
 // A simple value by its form.
-pub fn simple(s: &[u8], end: Bits, at: Bits, f: Form) -> Value
-    requires { ⌜ end .0 ≤ 8 * length (now s) ⌝ }
-    ensures { λ r. ⌜ valueIs (bitAt (now (s .entry))) r ≡ simpleAt (formIs f) (bitAt (now (s .entry))) (end .0) (at .0) ⌝ }
+pub fn simple(s: &[u8], wall: Bits, at: Bits, f: Form) -> Value
+    requires { ⌜ wall .0 ≤ 8 * length (now s) ⌝ }
+    ensures { λ r. ⌜ ReadsSimple (now (s .entry)) r (formIs f) (wall .0) (at .0) ⌝ }
 {
     match f {
-        Form::Number(c) => match code(s, end, at, c) {
+        Form::Number(c) => match code(s, wall, at, c) {
             Read::Refuse(e) => Value::Refuse(e),
             Read::Value(v, p) => {
                 let none = Bytes(0);
@@ -217,9 +217,9 @@ pub fn simple(s: &[u8], end: Bits, at: Bits, f: Form) -> Value
                 }
             }
         },
-        Form::Text => match number(s, end, at, limit::MOST_TEXT) {
+        Form::Text => match number(s, wall, at, limit::MOST_TEXT) {
             Read::Refuse(e) => Value::Refuse(e),
-            Read::Value(n, p) => text_after(s, end, n, p),
+            Read::Value(n, p) => text_after(s, wall, n, p),
         },
     }
 }

@@ -42,17 +42,17 @@ num-same b c at (suc w) h =
     omega arith
 
 -- fixed widths: within the wall, or past it
-module _ (b : ℕ → ℕ) (end at : ℕ) where
-  pub fixed-past : (w : ℕ) → end < at + w → fixedAt b end at w ≡ fault pastEnd
+module _ (b : ℕ → ℕ) (wall at : ℕ) where
+  pub fixed-past : (w : ℕ) → wall < at + w → fixedAt b wall at w ≡ fault pastEnd
   unfolding fixedAt
   fixed-past w h = rw (lt-leb _ _ h)
 
-  pub fixed-in : (w : ℕ) → at + w ≤ end → fixedAt b end at w ≡ got (num b at w, at + w)
+  pub fixed-in : (w : ℕ) → at + w ≤ wall → fixedAt b wall at w ≡ got (num b at w, at + w)
   unfolding fixedAt
   fixed-in w h = rw (le-leb _ _ h)
 
-  pub fixed-gives : (w : ℕ) → Ensures (fixedAt b end at w) (λ r. (r .0 ≡ num b at w) × (r .1 ≡ at + w) × (at + w ≤ end))
-  fixed-gives w = elim (decLe (at + w) end) [
+  pub fixed-gives : (w : ℕ) → Ensures (fixedAt b wall at w) (λ r. (r .0 ≡ num b at w) × (r .1 ≡ at + w) × (at + w ≤ wall))
+  fixed-gives w = elim (decLe (at + w) wall) [
     | yes h ↦ rw (fixed-in w h) (gives (refl, refl, h))
     | no h ↦ rw (fixed-past w (omega arith)) stops
   ]

@@ -8,7 +8,6 @@ use native.Mathlib.Decide.{decLt, ℕ-discrete}
 use lib.ListN.{length, getD, set, length-append}
 use lib.Seq.{getD-set-same, getD-set-other, ext-getD}
 use lib.Pow.{shl-exact}
-use Rattle.numbers.specs.Refusal.{outsideRow}
 use Rattle.wire.specs.declared.Read.{Read}
 use Rattle.wire.specs.declared.Read.the-variants as read
 use Rattle.wire.specs.Bits.{bitAt, Has}

@@ -41,17 +41,17 @@ module _ (b : ℕ → ℕ) (bits : (i : ℕ) → b i < 2) where
             (o, omega arith)
       ]
 
-  pub ones-skip : (end n f at k : ℕ) → at + n ≤ end → num b at n ≡ 2 ^ n - 1 → onesAt (n + f) b end at k ≡ onesAt f b end (at + n) (k + n)
-  ones-skip end zero f at k l e = rw (zero-add f, add-zero at, add-zero k)
-  ones-skip end (suc n) f at k l e =
+  pub ones-skip : (wall n f at k : ℕ) → at + n ≤ wall → num b at n ≡ 2 ^ n - 1 → onesAt (n + f) b wall at k ≡ onesAt f b wall (at + n) (k + n)
+  ones-skip wall zero f at k l e = rw (zero-add f, add-zero at, add-zero k)
+  ones-skip wall (suc n) f at k l e =
       let r = run-first at n e in
       let g : k + 1 + n ≡ k + suc n = omega arith in
       let i : at + 1 + n ≡ at + suc n = omega arith in
-      ones-one b end at {f = suc n + f} (n + f) k (omega arith) (omega arith) (λ z. omega arith)
-      ∙ rw (g, i) at (ones-skip end n f (at + 1) (k + 1) (omega arith) (r .1))
+      ones-one b wall at {f = suc n + f} (n + f) k (omega arith) (omega arith) (λ z. omega arith)
+      ∙ rw (g, i) at (ones-skip wall n f (at + 1) (k + 1) (omega arith) (r .1))
 
 -- what begins with n ones, in the window x at its place
-module _ (s : List ℕ) (end at n x : ℕ) (e : x ≡ num (bitAt s) at 57) (lead : Leading (x / 2 ^ 49) n) where
+module _ (s : List ℕ) (wall at n x : ℕ) (e : x ≡ num (bitAt s) at 57) (lead : Leading (x / 2 ^ 49) n) where
   eight-bits : x / 2 ^ 49 ≡ num (bitAt s) at 8
   eight-bits = first-is s at 8 x (omega arith) e
 
@@ -70,18 +70,18 @@ module _ (s : List ℕ) (end at n x : ℕ) (e : x ≡ num (bitAt s) at 57) (lead
       sym f ∙ rw (lead-ones, g) (high (2 ^ j - 1) (n - j) (ones-lt (n - j)))
 
   -- the wall among the ones, or right after them
-  pub five-short : at ≤ end → end - at ≤ n → end - at < 8 → number5 (bitAt s) end at ≡ fault pastEnd
+  pub five-short : at ≤ wall → wall - at ≤ n → wall - at < 8 → number5 (bitAt s) wall at ≡ fault pastEnd
   five-short h k l =
-      let j = end - at in
+      let j = wall - at in
       let d : j + (8 - j) ≡ 8 = omega arith in
-      let r = rw d at (ones-skip (bitAt s) (bit-lt s) end j (8 - j) at 0 (omega arith) (lead-fewer j k)) in
-      five-fault (bitAt s) end at (r ∙ ones-past (bitAt s) end (at + j) (8 - j) (0 + j) (omega arith) (omega arith))
+      let r = rw d at (ones-skip (bitAt s) (bit-lt s) wall j (8 - j) at 0 (omega arith) (lead-fewer j k)) in
+      five-fault (bitAt s) wall at (r ∙ ones-past (bitAt s) wall (at + j) (8 - j) (0 + j) (omega arith) (omega arith))
 
   -- an eighth one
-  pub five-full : 8 ≤ n → at + 8 ≤ end → number5 (bitAt s) end at ≡ fault tooLarge
+  pub five-full : 8 ≤ n → at + 8 ≤ wall → number5 (bitAt s) wall at ≡ fault tooLarge
   five-full h k =
-      let r = ones-skip (bitAt s) (bit-lt s) end 8 0 at 0 k (lead-fewer 8 h) in
-      five-fault (bitAt s) end at (r ∙ ones-full (bitAt s) end (at + 8) (0 + 8) refl)
+      let r = ones-skip (bitAt s) (bit-lt s) wall 8 0 at 0 k (lead-fewer 8 h) in
+      five-fault (bitAt s) wall at (r ∙ ones-full (bitAt s) wall (at + 8) (0 + 8) refl)
 
   module _ (few : n < 8) where
     lead-zero : bitAt s (at + n) ≡ 0
@@ -92,17 +92,17 @@ module _ (s : List ℕ) (end at n x : ℕ) (e : x ≡ num (bitAt s) at 57) (lead
         let m : num (bitAt s) at (suc n) ≡ num (bitAt s) at n * 2 + bitAt s (at + n) = rw add-one at (num-more (bitAt s) at n) in
         omega (arith, bit-lt s (at + n))
 
-    lead-got : at + n < end → onesAt 8 (bitAt s) end at 0 ≡ got (n, at + n + 1)
+    lead-got : at + n < wall → onesAt 8 (bitAt s) wall at 0 ≡ got (n, at + n + 1)
     lead-got l =
         let d : n + (8 - n) ≡ 8 = omega arith in
-        let r = rw (d, zero-add n) at (ones-skip (bitAt s) (bit-lt s) end n (8 - n) at 0 (omega arith) lead-ones) in
-        r ∙ ones-zero (bitAt s) end (at + n) (8 - n) n (omega arith) l lead-zero
+        let r = rw (d, zero-add n) at (ones-skip (bitAt s) (bit-lt s) wall n (8 - n) at 0 (omega arith) lead-ones) in
+        r ∙ ones-zero (bitAt s) wall (at + n) (8 - n) n (omega arith) l lead-zero
 
     -- the wall among the groups
-    pub five-cut-off : at + n < end → end < at + 5 * (n + 1) → number5 (bitAt s) end at ≡ fault pastEnd
+    pub five-cut-off : at + n < wall → wall < at + 5 * (n + 1) → number5 (bitAt s) wall at ≡ fault pastEnd
     five-cut-off l h =
-        five-got (bitAt s) end at (lead-got l)
-        ∙ groups-fault (bitAt s) end (at + n + 1) n (fixed-past (bitAt s) end (at + n + 1) (4 * (n + 1)) (omega arith))
+        five-got (bitAt s) wall at (lead-got l)
+        ∙ groups-fault (bitAt s) wall (at + n + 1) n (fixed-past (bitAt s) wall (at + n + 1) (4 * (n + 1)) (omega arith))
 
     groups-whole : num (bitAt s) (at + n + 1) (4 * (n + 1)) ≡ cutGroups x n
     unfolding cutGroups
@@ -112,11 +112,11 @@ module _ (s : List ℕ) (end at n x : ℕ) (e : x ≡ num (bitAt s) at 57) (lead
         rw (first-is s at (5 * (n + 1)) x (omega arith) e) (sym (rw (d, p) at (num-low (bitAt s) (bit-lt s) at (n + 1) (4 * (n + 1)))))
 
     -- whole below the wall
-    pub five-whole : at + 5 * (n + 1) ≤ end → number5 (bitAt s) end at ≡ got (cutGroups x n, at + 5 * (n + 1), isShort n (cutGroups x n))
+    pub five-whole : at + 5 * (n + 1) ≤ wall → number5 (bitAt s) wall at ≡ got (cutGroups x n, at + 5 * (n + 1), isShort n (cutGroups x n))
     five-whole h =
         let p : at + n + 1 + 4 * (n + 1) ≡ at + 5 * (n + 1) = omega arith in
-        let g = fixed-in (bitAt s) end (at + n + 1) (4 * (n + 1)) (omega arith) in
-        five-got (bitAt s) end at (lead-got (omega arith)) ∙ groups-got (bitAt s) end (at + n + 1) n g ∙ rw (groups-whole, p)
+        let g = fixed-in (bitAt s) wall (at + n + 1) (4 * (n + 1)) (omega arith) in
+        five-got (bitAt s) wall at (lead-got (omega arith)) ∙ groups-got (bitAt s) wall (at + n + 1) n g ∙ rw (groups-whole, p)
 
 pub some-ones : (x n : ℕ) → 2 ^ 56 ≤ x → Leading (x / 2 ^ 49) n → 0 < n
 some-ones x zero h l = let z = l .then (omega arith) in let o = l .ones in absurd (omega arith)
@@ -144,42 +144,42 @@ module _ (x n : ℕ) (some : 0 < n) (few : n < 8) where
     way-cut-short z = rw (← e, short-more n v (λ o. omega arith) z)
 
 -- and through `any5`
-pub way-five-before : (b : ℕ → ℕ) (end at : ℕ) → end < at → numberIs (number.Refuse pastEnd) ≡ number5 b end at
+pub way-five-before : (b : ℕ → ℕ) (wall at : ℕ) → wall < at → numberIs (number.Refuse pastEnd) ≡ number5 b wall at
 unfolding numberIs
-way-five-before b end at h = sym (five-fault b end at (ones-past b end at 8 0 (omega arith) (omega arith)))
+way-five-before b wall at h = sym (five-fault b wall at (ones-past b wall at 8 0 (omega arith) (omega arith)))
 
 -- no one at all: the five bits are the window's first
 zero-lead : (x : ℕ) → x < 2 ^ 56 → Leading (x / 2 ^ 49) 0
 zero-lead x h = record { few = omega arith; ones = omega arith; then = λ l. omega arith }
 
-module _ (s : List ℕ) (end at x : ℕ) (h : at ≤ end) (e : x ≡ num (bitAt s) at 57) where
+module _ (s : List ℕ) (wall at x : ℕ) (h : at ≤ wall) (e : x ≡ num (bitAt s) at 57) where
   module _ (n : ℕ) (r : Leading (x / 2 ^ 49) n) where
-    pub way-five-full : 8 ≤ n → 8 ≤ end - at → numberIs (number.Refuse tooLarge) ≡ number5 (bitAt s) end at
+    pub way-five-full : 8 ≤ n → 8 ≤ wall - at → numberIs (number.Refuse tooLarge) ≡ number5 (bitAt s) wall at
     unfolding numberIs
-    way-five-full l k = sym (five-full s end at n x e r l (omega arith))
+    way-five-full l k = sym (five-full s wall at n x e r l (omega arith))
 
-    pub way-five-short : 8 ≤ n → end - at < 8 → numberIs (number.Refuse pastEnd) ≡ number5 (bitAt s) end at
+    pub way-five-short : 8 ≤ n → wall - at < 8 → numberIs (number.Refuse pastEnd) ≡ number5 (bitAt s) wall at
     unfolding numberIs
-    way-five-short l k = sym (five-short s end at n x e r h (omega arith) k)
+    way-five-short l k = sym (five-short s wall at n x e r h (omega arith) k)
 
-    pub way-five-off : n < 8 → end - at < 5 * (n + 1) → numberIs (number.Refuse pastEnd) ≡ number5 (bitAt s) end at
+    pub way-five-off : n < 8 → wall - at < 5 * (n + 1) → numberIs (number.Refuse pastEnd) ≡ number5 (bitAt s) wall at
     unfolding numberIs
-    way-five-off l k = elim (decLe (end - at) n) [
-      | yes m ↦ sym (five-short s end at n x e r h m (omega arith))
-      | no m ↦ sym (five-cut-off s end at n x e r l (omega arith) (omega arith))
+    way-five-off l k = elim (decLe (wall - at) n) [
+      | yes m ↦ sym (five-short s wall at n x e r h m (omega arith))
+      | no m ↦ sym (five-cut-off s wall at n x e r l (omega arith) (omega arith))
     ]
 
-    pub way-five-cut : (p : Bits) (q : Number) → n < 8 → 5 * (n + 1) ≤ end - at → p .0 ≡ at + 5 * (n + 1)
-        → numberIs q ≡ got (cutGroups x n, p .0, isShort n (cutGroups x n)) → numberIs q ≡ number5 (bitAt s) end at
-    way-five-cut p q l k f g = g ∙ rw f (sym (five-whole s end at n x e r l (omega arith)))
+    pub way-five-cut : (p : Bits) (q : Number) → n < 8 → 5 * (n + 1) ≤ wall - at → p .0 ≡ at + 5 * (n + 1)
+        → numberIs q ≡ got (cutGroups x n, p .0, isShort n (cutGroups x n)) → numberIs q ≡ number5 (bitAt s) wall at
+    way-five-cut p q l k f g = g ∙ rw f (sym (five-whole s wall at n x e r l (omega arith)))
 
   module _ (k : x < 2 ^ 56) where
-    pub way-five-none : end - at < 5 → numberIs (number.Refuse pastEnd) ≡ number5 (bitAt s) end at
+    pub way-five-none : wall - at < 5 → numberIs (number.Refuse pastEnd) ≡ number5 (bitAt s) wall at
     way-five-none l = way-five-off 0 (zero-lead x k) (omega arith) (omega arith)
 
-    pub way-five-one : 5 ≤ end - at → (p : Bits) → p .0 ≡ at + 5 → numberIs (number.Value (x / 2 ^ 52) p true) ≡ number5 (bitAt s) end at
+    pub way-five-one : 5 ≤ wall - at → (p : Bits) → p .0 ≡ at + 5 → numberIs (number.Value (x / 2 ^ 52) p true) ≡ number5 (bitAt s) wall at
     unfolding numberIs cutGroups
     way-five-one l p f =
         let g : x / 2 ^ 52 % 2 ^ 4 ≡ x / 2 ^ 52 = omega arith in
-        let w = five-whole s end at 0 x e (zero-lead x k) (omega arith) (omega arith) in
+        let w = five-whole s wall at 0 x e (zero-lead x k) (omega arith) (omega arith) in
         rw f (sym (w ∙ rw (g, short-one 0 (x / 2 ^ 52) refl)))

@@ -20,4 +20,4 @@ numberIs (number.Refuse e) = fault e
 
 -- a fixed width that a word holds; a wider one is too large
 unfoldable pub fixed32 : (ℕ → ℕ) → ℕ → ℕ → ℕ → Res (ℕ × ℕ)
-fixed32 b end at w = cond (leb w 32) (fixedAt b end at w) (fault tooLarge)
+fixed32 b wall at w = cond (leb w 32) (fixedAt b wall at w) (fault tooLarge)

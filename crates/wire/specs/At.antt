@@ -1,7 +1,7 @@
 -- Bits that stand at a place, below a wall.
 use Prim.Native.Nat.{ℕ, _+_}
 use mathlib.Core.Path.{_≡_}
-use mathlib.Core.List.{List, []}
+use mathlib.Core.List.{List}
 use lib.ListN.{length}
 use Rattle.wire.specs.Bits.{Has}
 

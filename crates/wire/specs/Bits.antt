@@ -19,7 +19,7 @@ num b at (suc w) = num b at w * 2 + b (at + w)
 
 -- w bits and the place past them, or pastEnd where one of them is at the wall or past it
 unfoldable pub fixedAt : (ℕ → ℕ) → ℕ → ℕ → ℕ → Res (ℕ × ℕ)
-fixedAt b end at w = cond (leb (at + w) end) (got (num b at w, at + w)) (fault pastEnd)
+fixedAt b wall at w = cond (leb (at + w) wall) (got (num b at w, at + w)) (fault pastEnd)
 
 -- the w lowest bits of v, the highest first
 unfoldable pub digits : ℕ → ℕ → List ℕ

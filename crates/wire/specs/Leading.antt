@@ -1,5 +1,5 @@
 -- The ones that a vluimsbf5 begins with in a window of bits, and its groups there.
-use Prim.Native.Nat.{ℕ, zero, _+_, _-_, _*_, _/_, _%_, _^_, _<_, _≤_}
+use Prim.Native.Nat.{ℕ, _+_, _-_, _*_, _/_, _%_, _^_, _<_, _≤_}
 use mathlib.Core.Path.{_≡_}
 
 -- of the eight bits y the first n are ones, and if there is one after them it is a zero

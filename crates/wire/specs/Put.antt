@@ -1,7 +1,7 @@
 -- What a write of bits does to a buffer.
 use Prim.Native.Nat.{ℕ, _+_, _*_, _^_, _<_, _≤_}
 use mathlib.Core.Path.{_≡_}
-use mathlib.Core.List.{List, []}
+use mathlib.Core.List.{List}
 use lib.ListN.{length}
 use Rattle.numbers.specs.Refusal.{outsideRow}
 use Rattle.wire.specs.declared.Read.{Read}

@@ -26,12 +26,12 @@ pub fn bit(s: &[u8], at: u32) -> u32
 }
 
 // The number that w bits are; more than 32 are TOO_LARGE, as no word holds them.
-pub fn fixed(s: &[u8], end: Bits, at: Bits, w: u32) -> Read
-    requires { ⌜ end .0 ≤ 8 * length (now s) ⌝ }
-    ensures { λ r. ⌜ readIs r ≡ fixed32 (bitAt (now (s .entry))) (end .0) (at .0) w ⌝ }
+pub fn fixed(s: &[u8], wall: Bits, at: Bits, w: u32) -> Read
+    requires { ⌜ wall .0 ≤ 8 * length (now s) ⌝ }
+    ensures { λ r. ⌜ readIs r ≡ fixed32 (bitAt (now (s .entry))) (wall .0) (at .0) w ⌝ }
 {
     let a = at.0;
-    let e = end.0;
+    let e = wall.0;
     if w > 32 {
         return Read::Refuse(refusal::TOO_LARGE);
     }
@@ -92,12 +92,12 @@ fn cut5(x: u64, n: u32, next: Bits) -> Number
 }
 
 // vluimsbf5, in shortest form or not: all of it lies in one window.
-pub fn any5(s: &[u8], end: Bits, at: Bits) -> Number
-    requires { ⌜ end .0 ≤ 8 * length (now s) ⌝ }
-    ensures { λ r. ⌜ numberIs r ≡ number5 (bitAt (now (s .entry))) (end .0) (at .0) ⌝ }
+pub fn any5(s: &[u8], wall: Bits, at: Bits) -> Number
+    requires { ⌜ wall .0 ≤ 8 * length (now s) ⌝ }
+    ensures { λ r. ⌜ numberIs r ≡ number5 (bitAt (now (s .entry))) (wall .0) (at .0) ⌝ }
 {
     let a = at.0;
-    let e = end.0;
+    let e = wall.0;
     if e < a {
         return Number::Refuse(refusal::PAST_END);
     }
@@ -125,27 +125,27 @@ pub fn any5(s: &[u8], end: Bits, at: Bits) -> Number
 }
 
 // vluimsbf8 of at most two bytes, in shortest form or not.
-pub fn any8(s: &[u8], end: Bits, at: Bits) -> Number
-    requires { ⌜ end .0 ≤ 8 * length (now s) ⌝ }
-    ensures { λ r. ⌜ numberIs r ≡ number8 (bitAt (now (s .entry))) (end .0) (at .0) ⌝ }
+pub fn any8(s: &[u8], wall: Bits, at: Bits) -> Number
+    requires { ⌜ wall .0 ≤ 8 * length (now s) ⌝ }
+    ensures { λ r. ⌜ numberIs r ≡ number8 (bitAt (now (s .entry))) (wall .0) (at .0) ⌝ }
 {
-    match fixed(s, end, at, 8) {
+    match fixed(s, wall, at, 8) {
         Read::Refuse(e) => Number::Refuse(e),
         Read::Value(x, p) => {
             if x < 128 {
                 return Number::Value(x, p, true);
             }
-            second8(s, end, x - 128, p)
+            second8(s, wall, x - 128, p)
         }
     }
 }
 
 // The second byte of a vluimsbf8 whose first holds the seven bits x.
-fn second8(s: &[u8], end: Bits, x: u32, at: Bits) -> Number
-    requires { ⌜ (end .0 ≤ 8 * length (now s)) × (x < 128) ⌝ }
-    ensures { λ r. ⌜ numberIs r ≡ second8At (bitAt (now (s .entry))) (end .0) x (at .0) ⌝ }
+fn second8(s: &[u8], wall: Bits, x: u32, at: Bits) -> Number
+    requires { ⌜ (wall .0 ≤ 8 * length (now s)) × (x < 128) ⌝ }
+    ensures { λ r. ⌜ numberIs r ≡ second8At (bitAt (now (s .entry))) (wall .0) x (at .0) ⌝ }
 {
-    match fixed(s, end, at, 8) {
+    match fixed(s, wall, at, 8) {
         Read::Refuse(e) => Number::Refuse(e),
         Read::Value(y, p) => {
             if 128 <= y {
@@ -175,17 +175,17 @@ pub fn shortest(n: Number) -> Read
 }
 
 // vluimsbf5 in shortest form.
-pub fn vlu5(s: &[u8], end: Bits, at: Bits) -> Read
-    requires { ⌜ end .0 ≤ 8 * length (now s) ⌝ }
-    ensures { λ r. ⌜ readIs r ≡ read5 (bitAt (now (s .entry))) (end .0) (at .0) ⌝ }
+pub fn vlu5(s: &[u8], wall: Bits, at: Bits) -> Read
+    requires { ⌜ wall .0 ≤ 8 * length (now s) ⌝ }
+    ensures { λ r. ⌜ readIs r ≡ read5 (bitAt (now (s .entry))) (wall .0) (at .0) ⌝ }
 {
-    shortest(any5(s, end, at))
+    shortest(any5(s, wall, at))
 }
 
 // vluimsbf8 in shortest form.
-pub fn vlu8(s: &[u8], end: Bits, at: Bits) -> Read
-    requires { ⌜ end .0 ≤ 8 * length (now s) ⌝ }
-    ensures { λ r. ⌜ readIs r ≡ read8 (bitAt (now (s .entry))) (end .0) (at .0) ⌝ }
+pub fn vlu8(s: &[u8], wall: Bits, at: Bits) -> Read
+    requires { ⌜ wall .0 ≤ 8 * length (now s) ⌝ }
+    ensures { λ r. ⌜ readIs r ≡ read8 (bitAt (now (s .entry))) (wall .0) (at .0) ⌝ }
 {
-    shortest(any8(s, end, at))
+    shortest(any8(s, wall, at))
 }

@@ -11,7 +11,7 @@ use Rattle.wire.specs.Bits.{bitAt, digits, source}
 use Rattle.wire.specs.Number.{code5, codeOf5, more}
 use Rattle.wire.specs.Put.{Put, Room, Wrote}
 use Rattle.wire.proofs.Put.{put-one, bytes-one}
-use Rattle.value.specs.Simple.{bytes, Octets}
+use Rattle.value.specs.Simple.{bytes, AllBytes}
 use Rattle.value.proofs.SimpleLaws.{bytes-octets}
 use Rattle.model.specs.Grammar.{Bits}
 use Rattle.model.proofs.Sums.{bits-append}
@@ -72,16 +72,16 @@ none-of : (m : ℕ) → 0 / m % 2 ≡ 0
 none-of m = rw (zero-div m)
 
 -- octets
-octet-at : (l : List ℕ) → Octets l → (i : ℕ) → getD l i 0 < 256
+octet-at : (l : List ℕ) → AllBytes l → (i : ℕ) → getD l i 0 < 256
 octet-at [] h i = omega arith
 octet-at (x ∷ l) h zero = h .0
 octet-at (x ∷ l) h (suc i) = octet-at l (h .1) i
 
-octets-zeros : (n : ℕ) → Octets (replicate n 0)
+octets-zeros : (n : ℕ) → AllBytes (replicate n 0)
 octets-zeros zero = tt
 octets-zeros (suc n) = (omega arith, octets-zeros n)
 
-octets-both : (a b : List ℕ) → Octets a → Octets b → Octets (a ++ b)
+octets-both : (a b : List ℕ) → AllBytes a → AllBytes b → AllBytes (a ++ b)
 octets-both [] b h k = k
 octets-both (x ∷ a) b h k = (h .0, octets-both a b (h .1) k)
 
@@ -116,7 +116,7 @@ module _ (k x : ℕ) (w : List ℕ) (h : Bits w) (fits : 1 + (length w + 7) / 8 
   unfolding filled
   whole-length = length-append (x ∷ pack w) tail ∙ omega (arith, length-replicate {A = ℕ} (k - length (x ∷ pack w)) 0, pack-length w)
 
-  whole-octets : Octets whole
+  whole-octets : AllBytes whole
   unfolding filled pack
   whole-octets = (small, octets-both (pack w) tail (bytes-octets (source w) (source-bit w h) 0 ((length w + 7) / 8)) (octets-zeros (k - length (x ∷ pack w))))
 

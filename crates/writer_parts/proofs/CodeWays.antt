@@ -15,7 +15,7 @@ use Rattle.wire.specs.Number.{code5}
 use Rattle.signed.specs.Words.{down, signOf, magnitudeOf}
 use Rattle.signed.specs.Views.{Parts}
 use Rattle.signed.proofs.Laws.{met-minus, met-plus}
-use Rattle.value.specs.Code.{Code, choice, five, signed, some, shifted, less, bitsOf}
+use Rattle.value.specs.Code.{Code, choice, five, signed, some, shifted, wordLess, bitsOf}
 use Rattle.value.specs.Answer.{innerIs, codeIs}
 use Rattle.value.proofs.WriteWays.{width-two, code5-short}
 use Rattle.value.specs.declared.Inner as innerT
@@ -93,7 +93,7 @@ pub ruleset some-ways = (some-none, some-some)
 
 -- a word from lo on
 module _ (lo v k : ℕ) (h : lo < 2 ^ 32) (e : k ≡ down lo v) where
-  less-is : less lo v ≡ k
+  less-is : wordLess lo v ≡ k
   less-is = let f : lo % 2 ^ 32 ≡ lo = omega arith in rw f (sym e)
 
   shifted-bits : (c : Code) → bitsOf (shifted lo c) v ≡ bitsOf c k
