@@ -5,3 +5,4 @@ pub mod Determined
 pub mod Demands
 pub mod EventRoom
 pub mod TableRoom
+pub mod Contracts

@@ -16,10 +16,9 @@ ghost use mathlib.Core.Path.{_≡_};
 ghost use lib.ListN.{length};
 ghost use Prim.Native.Nat.{_*_, _≤_};
 ghost use Rattle.numbers.specs.Limit.{mostEventWords};
-ghost use Rattle.model.specs.Whole.{reading};
 ghost use Rattle.reader.specs.Answers.{answerIs};
-ghost use Rattle.bim.specs.Calls.{readBytes};
-ghost use Rattle.bim.specs.EventRoom.{fewEventWords, slotWords, ReadBack};
+ghost use Rattle.bim.specs.Contracts.{ReadByWords, ReadByBytes};
+ghost use Rattle.bim.specs.EventRoom.{fewEventWords, slotWords};
 ghost use Rattle.bim.specs.TableRoom.{Lends};
 
 // The words that are lent for events: four for each that has room.
@@ -47,11 +46,8 @@ fn read_and_store(
 ) -> Answer
     requires { ⌜ 4 * length (now list) ≤ length (now events) ⌝ }
     ensures { λ r. ⌜
-        ReadBack
-        (reading (now (words .entry)) «root_name» «root_type» (now (payload .entry))
-        (length (now (list .entry))) (length (now (texts .entry))))
-        (length (now (events .entry))) (length (now (texts .entry)))
-        (answerIs r) (now (events .exit)) (now (texts .exit)) ⌝ }
+        ReadByWords (now (words .entry)) «root_name» «root_type» (now (payload .entry)) (length (now (list .entry)))
+        (now (events .entry)) (now (texts .entry)) (answerIs r) (now (events .exit)) (now (texts .exit)) ⌝ }
 {
     let a = read(words, root_name, root_type, payload, list, texts);
     clear(events);
@@ -73,11 +69,8 @@ fn read_with_most_events(
     requires most { ⌜ m ≤ mostEventWords ⌝ }
     requires fits { ⌜ 4 * m ≤ length (now events) ⌝ }
     ensures { λ r. ⌜
-        ReadBack
-        (reading (now (words .entry)) «root_name» «root_type» (now (payload .entry))
-        m (length (now (texts .entry))))
-        (length (now (events .entry))) (length (now (texts .entry)))
-        (answerIs r) (now (events .exit)) (now (texts .exit)) ⌝ }
+        ReadByWords (now (words .entry)) «root_name» «root_type» (now (payload .entry)) m
+        (now (events .entry)) (now (texts .entry)) (answerIs r) (now (events .exit)) (now (texts .exit)) ⌝ }
 {
     let mut list = [0u32; limit::MOST_EVENT_WORDS];
     read_and_store(
@@ -106,11 +99,8 @@ fn read_small_first(
     requires most { ⌜ m ≤ mostEventWords ⌝ }
     requires fits { ⌜ 4 * m ≤ length (now events) ⌝ }
     ensures { λ r. ⌜
-        ReadBack
-        (reading (now (words .entry)) «root_name» «root_type» (now (payload .entry))
-        m (length (now (texts .entry))))
-        (length (now (events .entry))) (length (now (texts .entry)))
-        (answerIs r) (now (events .exit)) (now (texts .exit)) ⌝ }
+        ReadByWords (now (words .entry)) «root_name» «root_type» (now (payload .entry)) m
+        (now (events .entry)) (now (texts .entry)) (answerIs r) (now (events .exit)) (now (texts .exit)) ⌝ }
 {
     let mut few = [0u32; FEW_EVENT_WORDS];
     let a = read_and_store(
@@ -138,11 +128,8 @@ fn read_with_event_room(
     texts: &mut [u8],
 ) -> Answer
     ensures { λ r. ⌜
-        ReadBack
-        (reading (now (words .entry)) «root_name» «root_type» (now (payload .entry))
-        (slotWords (length (now (events .entry)))) (length (now (texts .entry))))
-        (length (now (events .entry))) (length (now (texts .entry)))
-        (answerIs r) (now (events .exit)) (now (texts .exit)) ⌝ }
+        ReadByWords (now (words .entry)) «root_name» «root_type» (now (payload .entry)) (slotWords (length (now (events .entry))))
+        (now (events .entry)) (now (texts .entry)) (answerIs r) (now (events .exit)) (now (texts .exit)) ⌝ }
 {
     let m = slot_words(events.len());
     if m < FEW_EVENT_WORDS {
@@ -176,11 +163,8 @@ fn read_with_table_room(
 ) -> Answer
     requires { ⌜ Lends n (length (now table)) (length (now words)) ⌝ }
     ensures { λ r. ⌜
-        ReadBack
-        (readBytes (now (table .entry)) «root_name» «root_type» (now (payload .entry))
-        (length (now (events .entry))) (length (now (texts .entry))))
-        (length (now (events .entry))) (length (now (texts .entry)))
-        (answerIs r) (now (events .exit)) (now (texts .exit)) ⌝ }
+        ReadByBytes (now (table .entry)) «root_name» «root_type» (now (payload .entry))
+        (now (events .entry)) (now (texts .entry)) (answerIs r) (now (events .exit)) (now (texts .exit)) ⌝ }
 {
     load(table, words, n);
     let mut a = read_with_event_room(&words[..n], root_name, root_type, payload, events, texts);
@@ -199,11 +183,8 @@ pub fn read_bytes(
     texts: &mut [u8],
 ) -> Answer
     ensures { λ r. ⌜
-        ReadBack
-        (readBytes (now (table .entry)) «root_name» «root_type» (now (payload .entry))
-        (length (now (events .entry))) (length (now (texts .entry))))
-        (length (now (events .entry))) (length (now (texts .entry)))
-        (answerIs r) (now (events .exit)) (now (texts .exit)) ⌝ }
+        ReadByBytes (now (table .entry)) «root_name» «root_type» (now (payload .entry))
+        (now (events .entry)) (now (texts .entry)) (answerIs r) (now (events .exit)) (now (texts .exit)) ⌝ }
 {
     let n = words_lent(table.len());
     if n <= FEW_WORDS {

@@ -15,7 +15,8 @@ ghost use Prim.Native.Nat.{_/_, _%_, _≤_};
 ghost use lib.ListN.{length};
 ghost use Rattle.numbers.specs.Limit as limit;
 ghost use Rattle.writer.specs.Answers.{Writes};
-ghost use Rattle.bim.specs.Calls.{unlisted, writeList, writeBytes};
+ghost use Rattle.bim.specs.Calls.{unlisted};
+ghost use Rattle.bim.specs.Contracts.{WrittenByWords, WrittenByBytes};
 ghost use Rattle.bim.specs.TableRoom.{Lends};
 
 // Refuses bytes that are no list: one word is none either, and is refused where they are. The place of NO_READING is n.
@@ -57,11 +58,8 @@ fn load_and_write(
     requires whole { ⌜ length (now events) % limit.event ≡ 0 ⌝ }
     requires room { ⌜ length (now events) / 4 ≤ length (now list) ⌝ }
     ensures { λ r. ⌜
-        Writes
-        (writeList (now (words .entry)) «root_name» «root_type» mode
-        (now (events .entry)) (now (texts .entry)) (length (now (payload .entry))))
-        mode (length (now (events .entry)) / limit.event) (length (now (texts .entry))) (length (now (payload .entry)))
-        r (now (payload .exit)) ⌝ }
+        WrittenByWords (now (words .entry)) «root_name» «root_type» mode (now (events .entry)) (now (texts .entry))
+        (now (payload .entry)) r (now (payload .exit)) ⌝ }
 {
     let k = events.len() / 4;
     load(events, list, k);
@@ -87,11 +85,8 @@ fn write_with_event_room(
     payload: &mut [u8],
 ) -> Answer
     ensures { λ r. ⌜
-        Writes
-        (writeList (now (words .entry)) «root_name» «root_type» mode
-        (now (events .entry)) (now (texts .entry)) (length (now (payload .entry))))
-        mode (length (now (events .entry)) / limit.event) (length (now (texts .entry))) (length (now (payload .entry)))
-        r (now (payload .exit)) ⌝ }
+        WrittenByWords (now (words .entry)) «root_name» «root_type» mode (now (events .entry)) (now (texts .entry))
+        (now (payload .entry)) r (now (payload .exit)) ⌝ }
 {
     let size = events.len();
     let over = size % limit::EVENT;
@@ -142,11 +137,8 @@ fn write_with_table_room(
 ) -> Answer
     requires { ⌜ Lends n (length (now table)) (length (now words)) ⌝ }
     ensures { λ r. ⌜
-        Writes
-        (writeBytes (now (table .entry)) «root_name» «root_type» mode
-        (now (events .entry)) (now (texts .entry)) (length (now (payload .entry))))
-        mode (length (now (events .entry)) / limit.event) (length (now (texts .entry))) (length (now (payload .entry)))
-        r (now (payload .exit)) ⌝ }
+        WrittenByBytes (now (table .entry)) «root_name» «root_type» mode (now (events .entry)) (now (texts .entry))
+        (now (payload .entry)) r (now (payload .exit)) ⌝ }
 {
     load(table, words, n);
     let mut a = write_with_event_room(
@@ -174,11 +166,8 @@ pub fn write_bytes(
     payload: &mut [u8],
 ) -> Answer
     ensures { λ r. ⌜
-        Writes
-        (writeBytes (now (table .entry)) «root_name» «root_type» mode
-        (now (events .entry)) (now (texts .entry)) (length (now (payload .entry))))
-        mode (length (now (events .entry)) / limit.event) (length (now (texts .entry))) (length (now (payload .entry)))
-        r (now (payload .exit)) ⌝ }
+        WrittenByBytes (now (table .entry)) «root_name» «root_type» mode (now (events .entry)) (now (texts .entry))
+        (now (payload .entry)) r (now (payload .exit)) ⌝ }
 {
     let n = words_lent(table.len());
     if n <= FEW_WORDS {
