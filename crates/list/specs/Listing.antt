@@ -8,6 +8,8 @@ use Rattle.numbers.specs.Refusal as refusal
 use Rattle.numbers.specs.Limit.{mostTableWords}
 use Rattle.model.specs.Whole.{Reply, reading}
 use Rattle.model.specs.Whole.Reply.{declined}
+use Rattle.reader.specs.Answers.{Replies}
+use Rattle.reader.specs.declared.Answer.{Answer}
 use Rattle.buffers.specs.Bytes.{wordFrom, halfFrom, wordsOf}
 
 -- the word count, and where the root name, the root type and the payload stand behind the words
@@ -34,6 +36,15 @@ unfoldable pub listed : List ℕ → ℕ → ℕ → ℕ → Reply
 listed s n words bytes = reading (tableIn s n) (halfFrom s (nameAt n)) (halfFrom s (typeAt n)) (payloadIn s n) words bytes
 
 -- an input that ends before its root type is whole, or a word count over mostTableWords, is refused as a table of no words is
+abbrev pub unread : ℕ → ℕ → Reply
+unread words bytes = declined refusal.table 0 []
+
 unfoldable pub listing : List ℕ → ℕ → ℕ → Reply
 listing s words bytes =
-    cond (leb (countIn s) mostTableWords) (cond (leb (payloadAt (countIn s)) (length s)) (listed s (countIn s) words bytes) (declined refusal.table 0 [])) (declined refusal.table 0 [])
+    cond (leb (countIn s) mostTableWords)
+    (cond (leb (payloadAt (countIn s)) (length s)) (listed s (countIn s) words bytes) (unread words bytes))
+    (unread words bytes)
+
+-- THE PROMISE, of a reply that hangs on the room: E and T are lent, and E′ and T′ are what is left in them
+abbrev pub Answers : (ℕ → ℕ → Reply) → (E T : List ℕ) → Answer → (E′ T′ : List ℕ) → Type 0
+Answers f E T r E′ T′ = Replies (f (length E) (length T)) (length E) (length T) r E′ T′
