@@ -19,7 +19,7 @@ use Rattle.reader.specs.Answers.{Replies}
 use Rattle.reader.specs.declared.Answer.{Answer}
 use Rattle.buffers.specs.Bytes.{halfFrom, wordsOf}
 use Rattle.buffers.proofs.BytesLaws.{words-length}
-use Rattle.list.specs.Listing.{countIn, nameAt, typeAt, payloadAt, lookedAt, tableIn, payloadIn, listed, listing}
+use Rattle.list.specs.Listing.{countIn, nameAt, typeAt, payloadAt, tableIn, payloadIn, listed, listing}
 
 module _ (W B : ℕ) (r : Answer) (E T : List ℕ) where
   -- no words at all
@@ -39,13 +39,13 @@ module _ (W B : ℕ) (r : Answer) (E T : List ℕ) where
         omega (arith, words-length (take (4 * n) (drop 4 s)), length-take (4 * n) (drop 4 s), length-drop 4 s) in
         e ∙ ap (λ (k : ℕ). take n (wordsOf (take k (drop 4 s)))) z ∙ take-all n (wordsOf (take (4 * n) (drop 4 s))) m
 
-    payload-is : (from to : ℕ) → from ≡ payloadAt n → to ≡ min (length s) (from + lookedAt) → take (to - from) (drop from s) ≡ payloadIn s n
+    payload-is : (from to : ℕ) → from ≡ payloadAt n → to ≡ min (length s) (from + 8193) → take (to - from) (drop from s) ≡ payloadIn s n
     payload-is from to e g =
-        ordered (length s - from) lookedAt
-        (λ h. take-all (to - from) (drop from s) (omega (arith, length-drop from s)) ∙ sym (take-all lookedAt (drop from s) (omega (arith, length-drop from s))) ∙ ap (λ (k : ℕ). take lookedAt (drop k s)) e)
-        (λ h. let z : to - from ≡ lookedAt = omega arith in ap (λ (k : ℕ). take k (drop from s)) z ∙ ap (λ (k : ℕ). take lookedAt (drop k s)) e)
+        ordered (length s - from) 8193
+        (λ h. take-all (to - from) (drop from s) (omega (arith, length-drop from s)) ∙ sym (take-all 8193 (drop from s) (omega (arith, length-drop from s))) ∙ ap (λ (k : ℕ). take 8193 (drop k s)) e)
+        (λ h. let z : to - from ≡ 8193 = omega arith in ap (λ (k : ℕ). take k (drop from s)) z ∙ ap (λ (k : ℕ). take 8193 (drop k s)) e)
 
-    pub parts-read : (l : List ℕ) (at from to name type : ℕ) → payloadAt n ≤ length s → at ≡ nameAt n → from ≡ payloadAt n → to ≡ min (length s) (from + lookedAt)
+    pub parts-read : (l : List ℕ) (at from to name type : ℕ) → payloadAt n ≤ length s → at ≡ nameAt n → from ≡ payloadAt n → to ≡ min (length s) (from + 8193)
         → take n l ≡ take n (wordsOf (take (at - 4) (drop 4 s))) → name ≡ halfFrom s at → type ≡ halfFrom s (at + 2)
         → Replies (reading (take n l) name type (take (to - from) (drop from s)) W B) W B r E T → Replies (listed s n W B) W B r E T
     unfolding listed

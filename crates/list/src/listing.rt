@@ -6,22 +6,16 @@ use numbers::limit;
 use reader::Answer;
 use reader::read;
 ghost use mathlib.Core.Path.{_≡_};
-ghost use mathlib.Core.List.{[]};
 ghost use Prim.Native.Nat.{_+_, _≤_, min};
 ghost use lib.ListN.{length};
-ghost use Rattle.numbers.specs.Refusal as refusal;
 ghost use Rattle.numbers.specs.Limit.{mostTableWords};
-ghost use Rattle.model.specs.Whole.Reply.{declined};
-ghost use Rattle.reader.specs.Answers.{Replies};
 ghost use Rattle.list.specs.Listing as meaning;
 
 // A table of no words.
 fn unread(input: &[u8], events: &mut [u32], texts: &mut [u8]) -> Answer
     ensures { λ r. ⌜
-        Replies
-        (declined refusal.table 0 [])
-        (length (now (events .entry))) (length (now (texts .entry)))
-        r (now (events .exit)) (now (texts .exit)) ⌝ }
+        meaning.Answers meaning.unread
+        (now (events .entry)) (now (texts .entry)) r (now (events .exit)) (now (texts .exit)) ⌝ }
 {
     let words = [0u32; 4];
     read(&words[..0], 0, 0, input, events, texts)
@@ -33,7 +27,7 @@ const LOOKED_AT: usize = limit::MOST_PAYLOAD + 1;
 // Where the payload ends, as far as it is looked at.
 fn payload_end(from: usize, size: usize) -> usize
     requires { ⌜ from ≤ size ⌝ }
-    ensures { λ r. ⌜ r ≡ min size (from + meaning.lookedAt) ⌝ }
+    ensures { λ r. ⌜ r ≡ min size (from + 8193) ⌝ }
 {
     if size - from < LOOKED_AT {
         return size;
@@ -43,13 +37,10 @@ fn payload_end(from: usize, size: usize) -> usize
 
 // The parts behind a count of n words.
 fn read_parts(input: &[u8], n: usize, events: &mut [u32], texts: &mut [u8]) -> Answer
-    requires most { ⌜ n ≤ mostTableWords ⌝ }
-    requires whole { ⌜ meaning.payloadAt n ≤ length (now input) ⌝ }
+    requires { ⌜ (n ≤ mostTableWords) × (meaning.payloadAt n ≤ length (now input)) ⌝ }
     ensures { λ r. ⌜
-        Replies
-        (meaning.listed (now (input .entry)) n (length (now (events .entry))) (length (now (texts .entry))))
-        (length (now (events .entry))) (length (now (texts .entry)))
-        r (now (events .exit)) (now (texts .exit)) ⌝ }
+        meaning.Answers (meaning.listed (now (input .entry)) n)
+        (now (events .entry)) (now (texts .entry)) r (now (events .exit)) (now (texts .exit)) ⌝ }
 {
     let at = 4 + 4 * n;
     let root_name = half(input, at);
@@ -71,10 +62,8 @@ fn read_parts(input: &[u8], n: usize, events: &mut [u32], texts: &mut [u8]) -> A
 // The whole input.
 pub fn read_input(input: &[u8], events: &mut [u32], texts: &mut [u8]) -> Answer
     ensures { λ r. ⌜
-        Replies
-        (meaning.listing (now (input .entry)) (length (now (events .entry))) (length (now (texts .entry))))
-        (length (now (events .entry))) (length (now (texts .entry)))
-        r (now (events .exit)) (now (texts .exit)) ⌝ }
+        meaning.Answers (meaning.listing (now (input .entry)))
+        (now (events .entry)) (now (texts .entry)) r (now (events .exit)) (now (texts .exit)) ⌝ }
 {
     let size = input.len();
     if size < 8 {

@@ -6,13 +6,12 @@ use listing::read_input;
 use numbers::limit;
 use numbers::refusal;
 use reader::Answer;
-use text::LINE;
 use text::event_line;
 use text::heading;
 use text::refusal;
 
 fn print_event(kind: u32, p: u32, q: u32, bits: u32) {
-    let mut line = [0u8; LINE];
+    let mut line = [0u8; 128];
     let k = event_line(&mut line, kind, p, q, bits);
     io::write_all(1, &line[..k]);
 }
@@ -32,13 +31,13 @@ fn print_events(events: &[u32], n: usize) {
 }
 
 fn print_refusal(number: u32, place: usize) {
-    let mut line = [0u8; LINE];
+    let mut line = [0u8; 128];
     let k = refusal(&mut line, number, place);
     io::write_all(1, &line[..k]);
 }
 
 fn print_heading(events: u32, text: u32, bits: u32) {
-    let mut line = [0u8; LINE];
+    let mut line = [0u8; 128];
     let k = heading(&mut line, events, text, bits);
     io::write_all(1, &line[..k]);
 }

@@ -6,15 +6,11 @@ ghost use lib.ListN.{length, take};
 ghost use Rattle.io.specs.Counts.{Counts};
 ghost use Rattle.list.specs.Text as meaning;
 
-// The bytes that are lent for a line: no line is longer.
-pub const LINE: usize = 128;
-
 // Bytes put behind the first `at` of a line; the place past them.
 fn put(out: &mut [u8], at: usize, s: &[u8]) -> usize
     requires { ⌜ at + length (now s) ≤ length (now out) ⌝ }
-    ensures { λ r. ⌜
-        (r ≡ at + length (now (s .entry)))
-        × (take r (now (out .exit)) ≡ take at (now (out .entry)) ++ now (s .entry)) ⌝ }
+    ensures place { λ r. ⌜ r ≡ at + length (now (s .entry)) ⌝ }
+    ensures added { λ r. ⌜ take r (now (out .exit)) ≡ take at (now (out .entry)) ++ now (s .entry) ⌝ }
 {
     let mut i = 0;
     while i < s.len() {
@@ -27,9 +23,8 @@ fn put(out: &mut [u8], at: usize, s: &[u8]) -> usize
 // A number in decimal.
 fn put_number(out: &mut [u8], at: usize, n: u64) -> usize
     requires { ⌜ at + 20 ≤ length (now out) ⌝ }
-    ensures { λ r. ⌜
-        (r ≤ at + 20)
-        × (take r (now (out .exit)) ≡ take at (now (out .entry)) ++ meaning.decimal n) ⌝ }
+    ensures most { λ r. ⌜ r ≤ at + 20 ⌝ }
+    ensures added { λ r. ⌜ take r (now (out .exit)) ≡ take at (now (out .entry)) ++ meaning.decimal n ⌝ }
 {
     let mut digits = [0u8; 20];
     let k = io::decimal(n, &mut digits);
@@ -39,9 +34,9 @@ fn put_number(out: &mut [u8], at: usize, n: u64) -> usize
 // A word, and a number.
 fn put_after(out: &mut [u8], at: usize, s: &[u8], n: u64) -> usize
     requires { ⌜ at + length (now s) + 20 ≤ length (now out) ⌝ }
-    ensures { λ r. ⌜
-        (r ≤ at + length (now (s .entry)) + 20)
-        × (take r (now (out .exit)) ≡ take at (now (out .entry)) ++ (now (s .entry) ++ meaning.decimal n)) ⌝ }
+    ensures most { λ r. ⌜ r ≤ at + length (now (s .entry)) + 20 ⌝ }
+    ensures added { λ r. ⌜
+        take r (now (out .exit)) ≡ take at (now (out .entry)) ++ (now (s .entry) ++ meaning.decimal n) ⌝ }
 {
     let p = put(out, at, s);
     put_number(out, p, n)
@@ -49,10 +44,9 @@ fn put_after(out: &mut [u8], at: usize, s: &[u8], n: u64) -> usize
 
 // An event's line.
 pub fn event_line(out: &mut [u8], kind: u32, p: u32, q: u32, bits: u32) -> usize
-    requires { ⌜ meaning.lineBytes ≤ length (now out) ⌝ }
-    ensures { λ r. ⌜
-        Counts r (now (out .exit))
-        × (take r (now (out .exit)) ≡ meaning.eventLine kind p q bits) ⌝ }
+    requires { ⌜ 128 ≤ length (now out) ⌝ }
+    ensures counted { λ r. ⌜ Counts r (now (out .exit)) ⌝ }
+    ensures line { λ r. ⌜ take r (now (out .exit)) ≡ meaning.eventLine kind p q bits ⌝ }
 {
     let a = put_number(out, 0, kind as u64);
     let b = put_after(out, a, b" ", p as u64);
@@ -63,10 +57,9 @@ pub fn event_line(out: &mut [u8], kind: u32, p: u32, q: u32, bits: u32) -> usize
 
 // The first line of a reading.
 pub fn heading(out: &mut [u8], events: u32, text: u32, bits: u32) -> usize
-    requires { ⌜ meaning.lineBytes ≤ length (now out) ⌝ }
-    ensures { λ r. ⌜
-        Counts r (now (out .exit))
-        × (take r (now (out .exit)) ≡ meaning.heading events text bits) ⌝ }
+    requires { ⌜ 128 ≤ length (now out) ⌝ }
+    ensures counted { λ r. ⌜ Counts r (now (out .exit)) ⌝ }
+    ensures line { λ r. ⌜ take r (now (out .exit)) ≡ meaning.heading events text bits ⌝ }
 {
     let a = put_after(out, 0, b"events ", events as u64);
     let b = put_after(out, a, b" text ", text as u64);
@@ -76,10 +69,9 @@ pub fn heading(out: &mut [u8], events: u32, text: u32, bits: u32) -> usize
 
 // The line of a refusal.
 pub fn refusal(out: &mut [u8], number: u32, place: usize) -> usize
-    requires { ⌜ meaning.lineBytes ≤ length (now out) ⌝ }
-    ensures { λ r. ⌜
-        Counts r (now (out .exit))
-        × (take r (now (out .exit)) ≡ meaning.refusal number place) ⌝ }
+    requires { ⌜ 128 ≤ length (now out) ⌝ }
+    ensures counted { λ r. ⌜ Counts r (now (out .exit)) ⌝ }
+    ensures line { λ r. ⌜ take r (now (out .exit)) ≡ meaning.refusal number place ⌝ }
 {
     let a = put_after(out, 0, b"refused ", number as u64);
     let b = put_after(out, a, b" ", place as u64);
