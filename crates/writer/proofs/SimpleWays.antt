@@ -49,18 +49,18 @@ module _ (L X : List ℕ) (c : Cursor) (N : List ℕ) (s : Step) (M : List ℕ) 
   item-as i f m e g h = walked-as s (alone-noted L (c .event) i T ∙ rw (e, g)) h
 
   module _ (v : ℕ) (z : v ≡ getD L (4 * c .event + 1) 0) where
-    module _ (kind b d : ℕ) (f : formT.Form) (e : formIs f ≡ simpleOf kind b d) where
-      value-as : (sm : Simple) → formIs f ≡ sm → Walked L X (noted (wanted 3 v 0) (simpleOut sm v T) (eventsAt L (c .event))) c N s M → Walks L X (alone (valued kind b d)) c N s M
+    module _ (simple b d : ℕ) (f : formT.Form) (e : formIs f ≡ simpleOf simple b d) where
+      value-as : (sm : Simple) → formIs f ≡ sm → Walked L X (noted (wanted 3 v 0) (simpleOut sm v T) (eventsAt L (c .event))) c N s M → Walks L X (alone (valued simple b d)) c N s M
       unfolding eventOf wordOf
       value-as sm g h =
-          let same : simpleOut (simpleOf kind b d) v T ≡ simpleOut sm v T = ap (λ (x : Simple). simpleOut x v T) (sym e ∙ g) in
-          item-as (valued kind b d) (wanted 3 v 0) (simpleOut sm v T) (rw z) (out-valued (wordOf (valued kind b d) Event) T kind b d ∙ rw (← z) same) h
+          let same : simpleOut (simpleOf simple b d) v T ≡ simpleOut sm v T = ap (λ (x : Simple). simpleOut x v T) (sym e ∙ g) in
+          item-as (valued simple b d) (wanted 3 v 0) (simpleOut sm v T) (rw z) (out-valued (wordOf (valued simple b d) Event) T simple b d ∙ rw (← z) same) h
 
-      pub value-number : (code : codeT.Code) → f ≡ fv.Number code → Walked L X (noted (wanted 3 v 0) (simpleOut (plain (codeIs code)) v T) (eventsAt L (c .event))) c N s M → Walks L X (alone (valued kind b d)) c N s M
+      pub value-number : (code : codeT.Code) → f ≡ fv.Number code → Walked L X (noted (wanted 3 v 0) (simpleOut (plain (codeIs code)) v T) (eventsAt L (c .event))) c N s M → Walks L X (alone (valued simple b d)) c N s M
       unfolding formIs
       value-number code w h = value-as (plain (codeIs code)) (rw w) h
 
-      pub value-text : f ≡ fv.Text → Walked L X (noted (wanted 3 v 0) (simpleOut text v T) (eventsAt L (c .event))) c N s M → Walks L X (alone (valued kind b d)) c N s M
+      pub value-text : f ≡ fv.Text → Walked L X (noted (wanted 3 v 0) (simpleOut text v T) (eventsAt L (c .event))) c N s M → Walks L X (alone (valued simple b d)) c N s M
       unfolding formIs
       value-text w h = value-as text (rw w) h
 
@@ -95,37 +95,37 @@ module _ (L X : List ℕ) (c : Cursor) (N : List ℕ) (r : Step) (M : List ℕ) 
       walked-as s (item-rest L (c .event) i (textsAt X (c .used)) k)
       (along-go L X (alone i (eventsAt L (c .event)) (textsAt X (c .used))) (λ A U. k (wordOf i (eventAt L (c .event))) A U) c N r M h e w s K (rw (← z) y))
 
-module _ (L X : List ℕ) (c : Cursor) (N : List ℕ) (r : Step) (M : List ℕ) (name kind b d : ℕ) where
+module _ (L X : List ℕ) (c : Cursor) (N : List ℕ) (r : Step) (M : List ℕ) (name simple b d : ℕ) where
   module _ (h : Walked L X (noted (wanted 2 name 1) (got ([], textsAt X (c .used))) (eventsAt L (c .event))) c N r M) where
-    pub required-stop : (n at : ℕ) → r ≡ Refuse n at → Walks L X (required· name kind b d) c N r M
+    pub required-stop : (n at : ℕ) → r ≡ Refuse n at → Walks L X (required· name simple b d) c N r M
     unfolding required·
-    required-stop n at w = item-stop L X c N r M (required name) (λ v A U. alone (valued kind b d) A U) (required-as L X c N r M name h) n at w
+    required-stop n at w = item-stop L X c N r M (required name) (λ v A U. alone (valued simple b d) A U) (required-as L X c N r M name h) n at w
 
-    pub required-go : (e : Cursor) → r ≡ Go e → (s : Step) (K : List ℕ) → Walks L X (alone (valued kind b d)) e M s K → Walks L X (required· name kind b d) c N s K
+    pub required-go : (e : Cursor) → r ≡ Go e → (s : Step) (K : List ℕ) → Walks L X (alone (valued simple b d)) e M s K → Walks L X (required· name simple b d) c N s K
     unfolding required· wordOf
-    required-go e w s K y = item-go L X c N r M (required name) (λ v A U. alone (valued kind b d) A U) (required-as L X c N r M name h) 1 refl e w s K y
+    required-go e w s K y = item-go L X c N r M (required name) (λ v A U. alone (valued simple b d) A U) (required-as L X c N r M name h) 1 refl e w s K y
 
   module _ (x q : ℕ) (a : x ≡ getD L (4 * c .event + 2) 0) (z : q ≡ min x 1)
       (h : Walked L X (noted (wanted 2 name q) (simpleOut (plain (codeIs (cv.Plain (iv.Choice 2)))) q (textsAt X (c .used))) (eventsAt L (c .event))) c N r M) where
     by : q ≡ min (getD L (4 * c .event + 2) 0) 1
     by = z ∙ ap (λ (n : ℕ). min n 1) a
 
-    pub optional-stop : (n at : ℕ) → r ≡ Refuse n at → Walks L X (optional· name kind b d) c N r M
+    pub optional-stop : (n at : ℕ) → r ≡ Refuse n at → Walks L X (optional· name simple b d) c N r M
     unfolding optional·
-    optional-stop n at w = item-stop L X c N r M (optional name) (λ v A U. present v kind b d A U) (optional-as L X c N r M name q by h) n at w
+    optional-stop n at w = item-stop L X c N r M (optional name) (λ v A U. present v simple b d A U) (optional-as L X c N r M name q by h) n at w
 
     module _ (e : Cursor) (w : r ≡ Go e) where
-      pub optional-absent : q ≡ 0 → Walks L X (optional· name kind b d) c N (Go e) M
+      pub optional-absent : q ≡ 0 → Walks L X (optional· name simple b d) c N (Go e) M
       unfolding optional· wordOf present
       optional-absent y =
           let on = ready-on L X _ c N r M h e w in
-          item-go L X c N r M (optional name) (λ v A U. present v kind b d A U) (optional-as L X c N r M name q by h) 0 (sym y ∙ by) e w (Go e) M (stays L X e M on)
+          item-go L X c N r M (optional name) (λ v A U. present v simple b d A U) (optional-as L X c N r M name q by h) 0 (sym y ∙ by) e w (Go e) M (stays L X e M on)
 
-      pub optional-go : (q ≡ 0 → ⊥) → (s : Step) (K : List ℕ) → Walks L X (alone (valued kind b d)) e M s K → Walks L X (optional· name kind b d) c N s K
+      pub optional-go : (q ≡ 0 → ⊥) → (s : Step) (K : List ℕ) → Walks L X (alone (valued simple b d)) e M s K → Walks L X (optional· name simple b d) c N s K
       unfolding optional· wordOf present
       optional-go y s K g =
           let one : suc (q - 1) ≡ q = omega arith in
-          item-go L X c N r M (optional name) (λ v A U. present v kind b d A U) (optional-as L X c N r M name q by h) (suc (q - 1)) (one ∙ by) e w s K g
+          item-go L X c N r M (optional name) (λ v A U. present v simple b d A U) (optional-as L X c N r M name q by h) (suc (q - 1)) (one ∙ by) e w s K g
 
 pub ruleset required-ways = (required-stop, required-go, ready-on)
 

@@ -17,18 +17,18 @@ use Rattle.writer.specs.declared.front.Fault as faultT
 use Rattle.writer.specs.declared.front.Fault.the-variants as fv
 
 -- nothing applies: a known root, a mode, a list of whole events
-pub record Fine (t : List ℕ) (name kind mode : ℕ) (L : List ℕ) : Type 0 where
-  pub enters : Entered t name kind
+pub record Fine (t : List ℕ) (name ty mode : ℕ) (L : List ℕ) : Type 0 where
+  pub enters : Entered t name ty
   pub mode-is : modeAsked mode ≡ got (modeIs mode)
   pub mode-small : mode ≤ 2
   pub shape : Shaped L
 
 abbrev pub FrontIs : List ℕ → ℕ → ℕ → ℕ → List ℕ → faultT.Fault → Type 0
-FrontIs t name kind mode L fv.No = Fine t name kind mode L
-FrontIs t name kind mode L (fv.At n p) = (X : List ℕ) (room : ℕ) → writing t name kind mode L X room ≡ unmade n p
+FrontIs t name ty mode L fv.No = Fine t name ty mode L
+FrontIs t name ty mode L (fv.At n p) = (X : List ℕ) (room : ℕ) → writing t name ty mode L X room ≡ unmade n p
 
-pub record Fronted (t : List ℕ) (name kind mode : ℕ) (L : List ℕ) (r : faultT.Fault) : Type 0 where
-  pub is : FrontIs t name kind mode L r
+pub record Fronted (t : List ℕ) (name ty mode : ℕ) (L : List ℕ) (r : faultT.Fault) : Type 0 where
+  pub is : FrontIs t name ty mode L r
 
 -- after the walk, which gave the bits w
 abbrev pub ends : List ℕ → List ℕ → Cursor → ℕ → Mode → List ℕ → Made

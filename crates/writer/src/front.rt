@@ -23,12 +23,12 @@ pub enum Fault {
 }
 
 // By a table that is right: root, mode, the list's shape.
-fn checked(table: &[u32], name: u32, kind: u32, mode: u32, events: &[u32]) -> Fault
+fn checked(table: &[u32], name: u32, t: u32, mode: u32, events: &[u32]) -> Fault
     requires { ⌜ verdict (now table) ≡ right ⌝ }
-    ensures { λ r. ⌜ Fronted (now (table .entry)) name kind mode (now (events .entry)) r ⌝ }
+    ensures { λ r. ⌜ Fronted (now (table .entry)) name t mode (now (events .entry)) r ⌝ }
 {
     let known = types(table);
-    if known <= kind {
+    if known <= t {
         return Fault::At(refusal::ROOT, 0);
     }
     if limit::MOST_NAME < name {
@@ -48,13 +48,13 @@ fn checked(table: &[u32], name: u32, kind: u32, mode: u32, events: &[u32]) -> Fa
 }
 
 // The table, then the rest.
-pub fn asked(table: &[u32], name: u32, kind: u32, mode: u32, events: &[u32]) -> Fault
-    ensures { λ r. ⌜ Fronted (now (table .entry)) name kind mode (now (events .entry)) r ⌝ }
+pub fn asked(table: &[u32], name: u32, t: u32, mode: u32, events: &[u32]) -> Fault
+    ensures { λ r. ⌜ Fronted (now (table .entry)) name t mode (now (events .entry)) r ⌝ }
 {
     let v = check(table);
     match v {
         Verdict::Wrong(i) => Fault::At(refusal::TABLE, i),
-        Verdict::Right => checked(table, name, kind, mode, events),
+        Verdict::Right => checked(table, name, t, mode, events),
     }
 }
 

@@ -1,17 +1,18 @@
 // The writer: a walk over the list of events that judges each and notes its bits, then the pen.
+mod attributes; // attributes.rt: one attribute, and all of a type
+mod cycle; // cycle.rt: elements, what is inside them, particle rows
 mod front; // front.rt: what is judged before the walk, and after it
 mod ink; // ink.rt: the mode byte and the notes, into the payload
-pub mod simple; // simple.rt: values and attributes
-pub mod walk; // walk.rt: the cycle element, content, particle, rounds
+mod values; // values.rt: a simple value, a branch, a count
 
 use buffers::clear;
+use cycle::element;
 use front::Fault;
 use front::asked;
 use front::settled;
 use ink::draw;
 use numbers::limit;
 use numbers::refusal;
-use walk::element;
 use wire::Bits;
 use wire::Bytes;
 use writer_parts::Cursor;
@@ -86,7 +87,7 @@ fn finish(
 }
 
 // Rows that may still be opened below the root.
-const BELOW_ROOT: usize = limit::MOST_OPEN as usize - 1;
+const BELOW_ROOT: u32 = limit::MOST_OPEN - 1;
 
 // Words of a list that is short: its notes are lent less room, as room is zeroed whole before it is used.
 const FEW_WORDS: usize = 512;
@@ -116,10 +117,10 @@ fn noted(
         texts,
         notes,
         mode,
-        root_name,
-        root_type,
         BELOW_ROOT,
         start,
+        root_name,
+        root_type,
     );
     match r {
         Step::Refuse(n, p) => refused(n, p),

@@ -1,8 +1,8 @@
 -- A value is an event noted, as number or text.
 use Rattle.writer.proofs.SimpleWays.{value-ways}
 use borrow.Author.Needs.{needs}
-use Rattle.writer.proofs.simple.value.Statement.{statement}
-use Rattle.writer.proofs.simple.value.Tie as tie
+use Rattle.writer.proofs.values.value.Statement.{statement}
+use Rattle.writer.proofs.values.value.Tie as tie
 
 mul-word : tie.Need-mul-word
 mul-word c = search (needs, value-ways)

@@ -1,8 +1,8 @@
 -- By whether an event is left.
-use Rattle.writer.proofs.WalkWays.{deep-here, deep-past}
+use Rattle.writer.proofs.CycleWays.{deep-here, deep-past}
 use borrow.Author.Needs.{needs}
-use Rattle.writer.proofs.walk.too_deep.Statement.{statement}
-use Rattle.writer.proofs.walk.too_deep.Tie as tie
+use Rattle.writer.proofs.cycle.too_deep.Statement.{statement}
+use Rattle.writer.proofs.cycle.too_deep.Tie as tie
 
 returns : tie.Need-returns
 returns c = search (needs, deep-here, deep-past)

@@ -1,8 +1,8 @@
 -- By the mode.
-use Rattle.writer.proofs.WalkWays.{flag-ways}
+use Rattle.writer.proofs.CycleWays.{flag-ways}
 use borrow.Author.Needs.{needs}
-use Rattle.writer.proofs.walk.flag_in.Statement.{statement}
-use Rattle.writer.proofs.walk.flag_in.Tie as tie
+use Rattle.writer.proofs.cycle.flag_in.Statement.{statement}
+use Rattle.writer.proofs.cycle.flag_in.Tie as tie
 
 returns : tie.Need-returns
 returns c = search (needs, flag-ways)

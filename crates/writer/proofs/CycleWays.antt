@@ -118,13 +118,13 @@ said true e = refl
 said false e = sym e
 
 -- element
-module _ (L X : List ℕ) (c : Cursor) (N : List ℕ) (r : Ready L X N c) (t : List ℕ) (mode d name kind : ℕ) (x q b : ℕ) (a : x ≡ getD L (4 * c .event + 2) 0) (z : q ≡ flagFor mode x)
+module _ (L X : List ℕ) (c : Cursor) (N : List ℕ) (r : Ready L X N c) (t : List ℕ) (mode d name ty : ℕ) (x q b : ℕ) (a : x ≡ getD L (4 * c .event + 2) 0) (z : q ≡ flagFor mode x)
     (j : b ≡ judged L (c .event) (wanted kinds.start name q)) where
   start-is : asStart (modeIs mode) name (eventAt L (c .event)) ≡ wanted kinds.start name q
   unfolding flagFor
   start-is = rw (z, a)
 
-  pub element-unlike : 0 < b → Walks L X (element· t mode d name kind) c N (Refuse b (c .event)) N
+  pub element-unlike : 0 < b → Walks L X (element· t mode d name ty) c N (Refuse b (c .event)) N
   unfolding element· elementOut
   element-unlike p = record { is = record { out = taken-unlike L (c .event) (wanted kinds.start name q) (asStart (modeIs mode) name) _ start-is b j p (r .inside); inside = r .inside } }
 
@@ -139,13 +139,13 @@ module _ (L X : List ℕ) (c : Cursor) (N : List ℕ) (r : Ready L X N c) (t : L
     matched-q = sym (ap (λ (f : Bare). f .q) (unlike-none (wanted kinds.start name q) (eventAt L (c .event)) (sym (judged-is L (c .event) (wanted kinds.start name q) within) ∙ like)))
 
     abbrev body : Out
-    body = allowed (heldOf t kind) (suc (length (eventsAt L (c .event + 1)))) (sealed (modeIs mode) q (inside· t mode d kind (eventsAt L (c .event + 1)) (textsAt X (c .used))))
+    body = allowed (heldOf t ty) (suc (length (eventsAt L (c .event + 1)))) (sealed (modeIs mode) q (inside· t mode d ty (eventsAt L (c .event + 1)) (textsAt X (c .used))))
 
-    element-is : element· t mode d name kind (eventsAt L (c .event)) (textsAt X (c .used)) ≡ body
+    element-is : element· t mode d name ty (eventsAt L (c .event)) (textsAt X (c .used)) ≡ body
     unfolding element· elementOut
     element-is = taken-like L (c .event) (wanted kinds.start name q) (asStart (modeIs mode) name) _ start-is like ∙ rw matched-q
 
-    pub element-unheld : (h : Bool) → h ≡ heldOf t kind → not h ≡ true → Walks L X (element· t mode d name kind) c N (Refuse notHeld (c .event)) N
+    pub element-unheld : (h : Bool) → h ≡ heldOf t ty → not h ≡ true → Walks L X (element· t mode d name ty) c N (Refuse notHeld (c .event)) N
     unfolding allowed
     element-unheld h e g =
         let i = within in
@@ -159,20 +159,20 @@ module _ (L X : List ℕ) (c : Cursor) (N : List ℕ) (r : Ready L X N c) (t : L
     pub element-next : c .event + 1 < 2 ^ 64
     element-next = let i = within in let f = r .few in omega arith
 
-    module _ (h : Bool) (e : h ≡ heldOf t kind) (y′ : not h ≡ false) (s : Step) (M : List ℕ) (g : Walks L X (inside· t mode d kind) (past c) N s M) where
-      held-is : element· t mode d name kind (eventsAt L (c .event)) (textsAt X (c .used)) ≡ sealed (modeIs mode) q (inside· t mode d kind (eventsAt L (c .event + 1)) (textsAt X (c .used)))
+    module _ (h : Bool) (e : h ≡ heldOf t ty) (y′ : not h ≡ false) (s : Step) (M : List ℕ) (g : Walks L X (inside· t mode d ty) (past c) N s M) where
+      held-is : element· t mode d name ty (eventsAt L (c .event)) (textsAt X (c .used)) ≡ sealed (modeIs mode) q (inside· t mode d ty (eventsAt L (c .event + 1)) (textsAt X (c .used)))
       unfolding allowed
       held-is = let f : h ≡ true = said h y′ in element-is ∙ rw (← e, f)
 
-      pub element-stop : (n at : ℕ) → s ≡ Refuse n at → Walks L X (element· t mode d name kind) c N s M
+      pub element-stop : (n at : ℕ) → s ≡ Refuse n at → Walks L X (element· t mode d name ty) c N s M
       unfolding sealed
       element-stop n at w = let k = stopped g n at w in rw w (record { is = record { out = held-is ∙ rw (k .out); inside = k .inside } })
 
       module _ (o : Cursor) (w : s ≡ Go o) where
-        pub element-go : (u : Step) (K : List ℕ) → Walked L X (sealed (modeIs mode) q (wrote (between X M (past c) o) (eventsAt L (o .event)) (textsAt X (o .used)))) c M u K → Walks L X (element· t mode d name kind) c N u K
+        pub element-go : (u : Step) (K : List ℕ) → Walked L X (sealed (modeIs mode) q (wrote (between X M (past c) o) (eventsAt L (o .event)) (textsAt X (o .used)))) c M u K → Walks L X (element· t mode d name ty) c N u K
         element-go u K y =
             let k = went g o w in
-            let same : element· t mode d name kind (eventsAt L (c .event)) (textsAt X (c .used)) ≡ sealed (modeIs mode) q (wrote (between X M (past c) o) (eventsAt L (o .event)) (textsAt X (o .used))) = held-is ∙ ap (sealed (modeIs mode) q) (k .out) in
+            let same : element· t mode d name ty (eventsAt L (c .event)) (textsAt X (c .used)) ≡ sealed (modeIs mode) q (wrote (between X M (past c) o) (eventsAt L (o .event)) (textsAt X (o .used))) = held-is ∙ ap (sealed (modeIs mode) q) (k .out) in
             walked-as u same (earlier u y)
           where
             earlier : (u : Step) → Walked L X (sealed (modeIs mode) q (wrote (between X M (past c) o) (eventsAt L (o .event)) (textsAt X (o .used)))) c M u K
@@ -191,47 +191,47 @@ module _ (L X : List ℕ) (c : Cursor) (N : List ℕ) (p : Out) (s : Step) (M : 
 pub ruleset element-ways = (element-unlike, element-unheld, element-ready, element-next, element-stop, element-sealing, element-kept, element-go)
 
 -- inside
-module _ (L X : List ℕ) (c : Cursor) (N : List ℕ) (t : List ℕ) (mode d kind : ℕ) (s : spanT.Span) (e : Spans t kind s) where
-  pub span-small : Right t → kind < typesIn t → s .first + s .count < 4294967296
-  span-small r h = let a = span-ok t (r .is) kind h in let b = counts-ok t (r .is) .attributes-few in let f = e .first-is in let g = e .count-is in omega arith
+module _ (L X : List ℕ) (c : Cursor) (N : List ℕ) (t : List ℕ) (mode d ty : ℕ) (s : spanT.Span) (e : Spans t ty s) where
+  pub span-small : Right t → ty < typesIn t → s .first + s .count < 4294967296
+  span-small r h = let a = span-ok t (r .is) ty h in let b = counts-ok t (r .is) .attributes-few in let f = e .first-is in let g = e .count-is in omega arith
 
   module _ (r : Step) (M : List ℕ) (h : Walks L X (attributes· (attributesFrom t (s .count) (s .first))) c N r M) where
-    inside-as : inside· t mode d kind (eventsAt L (c .event)) (textsAt X (c .used)) ≡ along (attributes· (attributesFrom t (s .count) (s .first)) (eventsAt L (c .event)) (textsAt X (c .used))) (λ A U. content· t mode d kind A U)
+    inside-as : inside· t mode d ty (eventsAt L (c .event)) (textsAt X (c .used)) ≡ along (attributes· (attributesFrom t (s .count) (s .first)) (eventsAt L (c .event)) (textsAt X (c .used))) (λ A U. content· t mode d ty A U)
     unfolding inside· content·
     inside-as =
-        steps-laws.inside-is (modeIs mode) (heldOf t) (tableOf t) (eventsAt L (c .event)) (textsAt X (c .used)) d kind
-        ∙ ap (λ (o : Out). along o (λ A U. steps.contentOut (modeIs mode) (heldOf t) (tableOf t) d (tableOf t .content kind) A U))
-        (attributes-are (modeIs mode) (heldOf t) (tableOf t) (tableOf t .attributes kind) (eventsAt L (c .event)) (textsAt X (c .used)) ∙ rw (attributes-walk t kind, ← e .first-is, ← e .count-is))
+        steps-laws.inside-is (modeIs mode) (heldOf t) (tableOf t) (eventsAt L (c .event)) (textsAt X (c .used)) d ty
+        ∙ ap (λ (o : Out). along o (λ A U. steps.contentOut (modeIs mode) (heldOf t) (tableOf t) d (tableOf t .content ty) A U))
+        (attributes-are (modeIs mode) (heldOf t) (tableOf t) (tableOf t .attributes ty) (eventsAt L (c .event)) (textsAt X (c .used)) ∙ rw (attributes-walk t ty, ← e .first-is, ← e .count-is))
 
-    pub inside-stop : (n at : ℕ) → r ≡ Refuse n at → Walks L X (inside· t mode d kind) c N r M
+    pub inside-stop : (n at : ℕ) → r ≡ Refuse n at → Walks L X (inside· t mode d ty) c N r M
     inside-stop n at w = walked-as r inside-as (along-stop L X _ _ c N r M h n at w)
 
-    pub inside-go : (o : Cursor) → r ≡ Go o → (u : Step) (K : List ℕ) → Walks L X (content· t mode d kind) o M u K → Walks L X (inside· t mode d kind) c N u K
-    inside-go o w u K y = walked-as u inside-as (along-go L X _ (λ A U. content· t mode d kind A U) c N r M h o w u K y)
+    pub inside-go : (o : Cursor) → r ≡ Go o → (u : Step) (K : List ℕ) → Walks L X (content· t mode d ty) o M u K → Walks L X (inside· t mode d ty) c N u K
+    inside-go o w u K y = walked-as u inside-as (along-go L X _ (λ A U. content· t mode d ty A U) c N r M h o w u K y)
 
 pub ruleset inside-ways = (span-small, inside-stop, inside-go, ready-on)
 
 -- content
-module _ (L X : List ℕ) (c : Cursor) (N : List ℕ) (t : List ℕ) (mode d kind : ℕ) (o : contentT.Content) (e : contentIs o ≡ tableOf t .content kind) where
-  content-as : (x : Content) → contentIs o ≡ x → content· t mode d kind (eventsAt L (c .event)) (textsAt X (c .used)) ≡ steps.contentOut (modeIs mode) (heldOf t) (tableOf t) d x (eventsAt L (c .event)) (textsAt X (c .used))
+module _ (L X : List ℕ) (c : Cursor) (N : List ℕ) (t : List ℕ) (mode d ty : ℕ) (o : contentT.Content) (e : contentIs o ≡ tableOf t .content ty) where
+  content-as : (x : Content) → contentIs o ≡ x → content· t mode d ty (eventsAt L (c .event)) (textsAt X (c .used)) ≡ steps.contentOut (modeIs mode) (heldOf t) (tableOf t) d x (eventsAt L (c .event)) (textsAt X (c .used))
   unfolding content·
   content-as x f = rw (← e, f)
 
-  pub content-none : o ≡ ov.Empty → Ready L X N c → Walks L X (content· t mode d kind) c N (Go c) N
+  pub content-none : o ≡ ov.Empty → Ready L X N c → Walks L X (content· t mode d ty) c N (Go c) N
   content-none w r = walked-as (Go c) (content-as Content.empty (rw w) ∙ steps-laws.content-empty (modeIs mode) (heldOf t) (tableOf t) (eventsAt L (c .event)) (textsAt X (c .used)) d) (stays L X c N r)
 
-  pub content-value : (k x y : ℕ) → o ≡ ov.Simple k x y → (s : Step) (M : List ℕ) → Walks L X (alone (valued k x y)) c N s M → Walks L X (content· t mode d kind) c N s M
+  pub content-value : (k x y : ℕ) → o ≡ ov.Simple k x y → (s : Step) (M : List ℕ) → Walks L X (alone (valued k x y)) c N s M → Walks L X (content· t mode d ty) c N s M
   unfolding alone
   content-value k x y w s M h =
       walked-as s (content-as (Content.simple k x y) (rw w) ∙ steps-laws.content-simple (modeIs mode) (heldOf t) (tableOf t) (eventsAt L (c .event)) (textsAt X (c .used)) d k x y
       ∙ steps-laws.value-is (modeIs mode) (heldOf t) (tableOf t) (eventsAt L (c .event)) (textsAt X (c .used)) k x y) h
 
-  pub content-particle : (i : ℕ) → o ≡ ov.Particles i → (s : Step) (M : List ℕ) → Walks L X (particle· t mode d i) c N s M → Walks L X (content· t mode d kind) c N s M
+  pub content-particle : (i : ℕ) → o ≡ ov.Particles i → (s : Step) (M : List ℕ) → Walks L X (particle· t mode d i) c N s M → Walks L X (content· t mode d ty) c N s M
   unfolding particle·
   content-particle i w s M h = walked-as s (content-as (Content.particles i) (rw w) ∙ steps-laws.content-particles (modeIs mode) (heldOf t) (tableOf t) (eventsAt L (c .event)) (textsAt X (c .used)) d i) h
 
-  pub content-row : Right t → kind < typesIn t → (i : ℕ) → o ≡ ov.Particles i → i < particlesIn t
-  content-row r h i w = let k : ContentOk (particlesIn t) (contentIs o) = rw e (content-ok t (r .is) kind h) in rw w at k
+  pub content-row : Right t → ty < typesIn t → (i : ℕ) → o ≡ ov.Particles i → i < particlesIn t
+  content-row r h i w = let k : ContentOk (particlesIn t) (contentIs o) = rw e (content-ok t (r .is) ty h) in rw w at k
 
 pub ruleset content-ways = (content-none, content-value, content-particle, content-row)
 
@@ -247,11 +247,11 @@ module _ (L X : List ℕ) (c : Cursor) (N : List ℕ) (t : List ℕ) (mode d i :
     particle-as x f = let m : suc (d - 1) ≡ d = omega arith in rw (← e, f, m)
 
     module _ (s : Step) (M : List ℕ) where
-      pub particle-element : (name kind : ℕ) → p ≡ pv.Element name kind → Walks L X (element· t mode (d - 1) name kind) c N s M → Walks L X (particle· t mode d i) c N s M
+      pub particle-element : (name ty : ℕ) → p ≡ pv.Element name ty → Walks L X (element· t mode (d - 1) name ty) c N s M → Walks L X (particle· t mode d i) c N s M
       unfolding element· inside·
-      particle-element name kind w h = walked-as s (particle-as (Row.element name kind) (rw w) ∙ steps-laws.particle-element (modeIs mode) (heldOf t) (tableOf t) (eventsAt L (c .event)) (textsAt X (c .used)) (d - 1) name kind) h
+      particle-element name ty w h = walked-as s (particle-as (Row.element name ty) (rw w) ∙ steps-laws.particle-element (modeIs mode) (heldOf t) (tableOf t) (eventsAt L (c .event)) (textsAt X (c .used)) (d - 1) name ty) h
 
-      pub particle-sequence : (first count : ℕ) → p ≡ pv.Sequence first count → Walks L X (rounds· t mode (d - 1) count first 1) c N s M → Walks L X (particle· t mode d i) c N s M
+      pub particle-sequence : (first count : ℕ) → p ≡ pv.Sequence first count → Walks L X (rounds· t mode (d - 1) first 1 count) c N s M → Walks L X (particle· t mode d i) c N s M
       unfolding rounds·
       particle-sequence first count w h =
           let one : (a : ℕ) → first + a ≡ first + 1 * a = λ a. omega arith in
@@ -274,8 +274,8 @@ module _ (t : List ℕ) (i : ℕ) (p : particleT.Particle) (e : rowIs p ≡ tabl
   row-fine : RowOk (typesIn t) (particlesIn t) i (rowIs p)
   row-fine = rw e (row-ok t (r .is) i h)
 
-  pub row-type : (name kind : ℕ) → p ≡ pv.Element name kind → kind < typesIn t
-  row-type name kind w = (rw w at row-fine) .type-known
+  pub row-type : (name ty : ℕ) → p ≡ pv.Element name ty → ty < typesIn t
+  row-type name ty w = (rw w at row-fine) .type-known
 
   pub row-sequence : (first count : ℕ) → p ≡ pv.Sequence first count → Within t first 1 count
   row-sequence first count w = let g : GroupOk (particlesIn t) i 1 first count = rw w at row-fine in let k = g .within in record { each = λ j m. omega arith; short = omega arith }
@@ -318,11 +318,11 @@ module _ (L X : List ℕ) (c : Cursor) (N : List ℕ) (t : List ℕ) (mode d : �
   module _ (child least most : ℕ) (h : Walks L X (alone (counted least most)) c N r M) where
     pub occur-stop : (n at : ℕ) → r ≡ Refuse n at → Walks L X (occur· t mode d child least most) c N r M
     unfolding occur·
-    occur-stop n at w = item-stop L X c N r M (counted least most) (λ v A U. rounds· t mode d v child 0 A U) h n at w
+    occur-stop n at w = item-stop L X c N r M (counted least most) (λ v A U. rounds· t mode d child 0 v A U) h n at w
 
-    pub occur-go : (e : Cursor) → r ≡ Go e → (s : Step) (K : List ℕ) → Walks L X (rounds· t mode d v child 0) e M s K → Walks L X (occur· t mode d child least most) c N s K
+    pub occur-go : (e : Cursor) → r ≡ Go e → (s : Step) (K : List ℕ) → Walks L X (rounds· t mode d child 0 v) e M s K → Walks L X (occur· t mode d child least most) c N s K
     unfolding occur· wordOf
-    occur-go e w s K y = item-go L X c N r M (counted least most) (λ v A U. rounds· t mode d v child 0 A U) h v z e w s K y
+    occur-go e w s K y = item-go L X c N r M (counted least most) (λ v A U. rounds· t mode d child 0 v A U) h v z e w s K y
 
 pub occur-within : (t : List ℕ) (child n : ℕ) → child < particlesIn t → Within t child 0 n
 occur-within t child n h = record { each = λ j m. omega arith; short = omega arith }
@@ -334,16 +334,16 @@ pub ruleset occur-ways = (occur-stop, occur-go, occur-within, ready-on)
 -- rounds: what is left
 module _ (L X : List ℕ) (t : List ℕ) (mode d n step : ℕ) where
   abbrev pub leftR : ℕ → ℕ → Cursor → Out
-  leftR j i c = rounds· t mode d (n - j) i step (eventsAt L (c .event)) (textsAt X (c .used))
+  leftR j i c = rounds· t mode d i step (n - j) (eventsAt L (c .event)) (textsAt X (c .used))
 
-  pub rounds-start : (first : ℕ) (c : Cursor) (N : List ℕ) → Leads L X (rounds· t mode d n first step (eventsAt L (c .event)) (textsAt X (c .used))) c N (leftR 0 first c) c N
+  pub rounds-start : (first : ℕ) (c : Cursor) (N : List ℕ) → Leads L X (rounds· t mode d first step n (eventsAt L (c .event)) (textsAt X (c .used))) c N (leftR 0 first c) c N
   rounds-start first c N = leads-start L X _ _ c N (let a : n - 0 ≡ n = omega arith in rw a)
 
   rounds-over : (j i : ℕ) (c : Cursor) → n ≤ j → leftR j i c ≡ wrote [] (eventsAt L (c .event)) (textsAt X (c .used))
   unfolding rounds·
   rounds-over j i c h = let m : n - j ≡ 0 = omega arith in rw m (steps-laws.rounds-none (modeIs mode) (heldOf t) (tableOf t) (eventsAt L (c .event)) (textsAt X (c .used)) d (λ a. tableOf t .row (i + step * a)))
 
-  rounds-next : (j i : ℕ) (c : Cursor) → j < n → leftR j i c ≡ along (particle· t mode d i (eventsAt L (c .event)) (textsAt X (c .used))) (λ A U. rounds· t mode d (n - (j + 1)) (i + step) step A U)
+  rounds-next : (j i : ℕ) (c : Cursor) → j < n → leftR j i c ≡ along (particle· t mode d i (eventsAt L (c .event)) (textsAt X (c .used))) (λ A U. rounds· t mode d (i + step) step (n - (j + 1)) A U)
   unfolding rounds· particle·
   rounds-next j i c h =
       let m : n - j ≡ suc (n - (j + 1)) = omega arith in

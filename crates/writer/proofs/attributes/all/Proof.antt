@@ -9,8 +9,8 @@ use Rattle.writer.specs.Meaning.{attributes·}
 use Rattle.writer.proofs.Leads.{Leads}
 use Rattle.writer.proofs.SimpleWays.{all-ways, left}
 use borrow.Author.Needs.{needs}
-use Rattle.writer.proofs.simple.all.Statement.{statement}
-use Rattle.writer.proofs.simple.all.Tie as tie
+use Rattle.writer.proofs.attributes.all.Statement.{statement}
+use Rattle.writer.proofs.attributes.all.Tie as tie
 
 abbrev Inv-loop : tie.InvT-loop
 Inv-loop table events texts notes₀ first n c₀ i₀ notes c i =

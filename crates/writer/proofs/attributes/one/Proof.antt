@@ -1,8 +1,8 @@
 -- By the row's mark.
 use Rattle.writer.proofs.SimpleWays.{one-ways}
 use borrow.Author.Needs.{needs}
-use Rattle.writer.proofs.simple.one.Statement.{statement}
-use Rattle.writer.proofs.simple.one.Tie as tie
+use Rattle.writer.proofs.attributes.one.Statement.{statement}
+use Rattle.writer.proofs.attributes.one.Tie as tie
 
 attribute-requires : tie.Need-attribute-requires
 attribute-requires c κs = search (needs, one-ways)

@@ -1,5 +1,7 @@
-// The cycle element, inside, content, particle, choose, occur, rounds: rows still allowed open, `depth`, fall at each call.
-use super::simple;
+// The cycle: an element holds what is inside it, that is by particle rows, and a particle row is by elements. `depth` rows may still be
+// opened; it falls at each row, so the cycle ends.
+use crate::attributes;
+use crate::values;
 use numbers::kind;
 use numbers::refusal;
 use table::Content;
@@ -16,7 +18,7 @@ ghost use Rattle.table.specs.Words.{typesIn, particlesIn};
 ghost use Rattle.writer_parts.specs.Walk.{Ready, Walks};
 ghost use Rattle.writer.specs.Meaning.{Right, Within, flagFor, deepAt, element·, inside·, content·, particle·, choose·, occur·, rounds·};
 
-// A Start's second word that is wanted where the event has q.
+// The second word of a Start that is wanted where the event has q.
 fn flag_in(mode: u32, q: u32) -> u32
     ensures { λ r. ⌜ r ≡ flagFor mode q ⌝ }
 {
@@ -32,20 +34,20 @@ fn flag_in(mode: u32, q: u32) -> u32
     1
 }
 
-// An element of a name and a type.
+// An element of a name and a type: its Start, what is inside it, its End.
 pub fn element(
     table: &[u32],
     events: &[u32],
     texts: &[u8],
     notes: &mut [u32],
     mode: u32,
-    name: u32,
-    kind: u32,
-    depth: usize,
+    depth: u32,
     c: Cursor,
+    name: u32,
+    t: u32,
 ) -> Step
-    requires { ⌜ (Ready (now events) (now texts) (now notes) c) × (Right (now table)) × (kind < typesIn (now table)) × (depth ≤ mostOpen) ⌝ }
-    ensures { λ r. ⌜ Walks (now (events .entry)) (now (texts .entry)) (element· (now (table .entry)) mode depth name kind) c (now (notes .entry)) r (now (notes .exit)) ⌝ }
+    requires { ⌜ (Ready (now events) (now texts) (now notes) c) × (Right (now table)) × (t < typesIn (now table)) × (depth ≤ mostOpen) ⌝ }
+    ensures { λ r. ⌜ Walks (now (events .entry)) (now (texts .entry)) (element· (now (table .entry)) mode depth name t) c (now (notes .entry)) r (now (notes .exit)) ⌝ }
 {
     let at = c.event;
     let q = flag_in(mode, rows::word(events, 4 * at + 2));
@@ -53,7 +55,7 @@ pub fn element(
     if 0 < bad {
         return Step::Refuse(bad, at);
     }
-    let held = rows::held(table, kind);
+    let held = rows::held(table, t);
     if !held {
         return Step::Refuse(refusal::NOT_HELD, at);
     }
@@ -62,35 +64,35 @@ pub fn element(
         used: c.used,
         bits: c.bits,
     };
-    let r = inside(table, events, texts, notes, mode, kind, depth, o);
+    let r = inside(table, events, texts, notes, mode, depth, o, t);
     let Step::Go(e) = r else {
         return r;
     };
     close(events, texts, notes, mode, q, c, e)
 }
 
-// What is inside an element of a type: attributes, content.
+// What is inside an element of a type: attributes, then content.
 pub fn inside(
     table: &[u32],
     events: &[u32],
     texts: &[u8],
     notes: &mut [u32],
     mode: u32,
-    kind: u32,
-    depth: usize,
+    depth: u32,
     c: Cursor,
+    t: u32,
 ) -> Step
-    requires { ⌜ (Ready (now events) (now texts) (now notes) c) × (Right (now table)) × (kind < typesIn (now table)) × (depth ≤ mostOpen) ⌝ }
-    ensures { λ r. ⌜ Walks (now (events .entry)) (now (texts .entry)) (inside· (now (table .entry)) mode depth kind) c (now (notes .entry)) r (now (notes .exit)) ⌝ }
+    requires { ⌜ (Ready (now events) (now texts) (now notes) c) × (Right (now table)) × (t < typesIn (now table)) × (depth ≤ mostOpen) ⌝ }
+    ensures { λ r. ⌜ Walks (now (events .entry)) (now (texts .entry)) (inside· (now (table .entry)) mode depth t) c (now (notes .entry)) r (now (notes .exit)) ⌝ }
 {
-    let s = rows::span(table, kind);
+    let s = rows::span(table, t);
     let first = s.first;
     let n = s.count;
-    let r = simple::all(table, events, texts, notes, first, n, c);
+    let r = attributes::all(table, events, texts, notes, c, first, n);
     let Step::Go(e) = r else {
         return r;
     };
-    content(table, events, texts, notes, mode, kind, depth, e)
+    content(table, events, texts, notes, mode, depth, e, t)
 }
 
 // The content of a type.
@@ -100,17 +102,17 @@ pub fn content(
     texts: &[u8],
     notes: &mut [u32],
     mode: u32,
-    kind: u32,
-    depth: usize,
+    depth: u32,
     c: Cursor,
+    t: u32,
 ) -> Step
-    requires { ⌜ (Ready (now events) (now texts) (now notes) c) × (Right (now table)) × (kind < typesIn (now table)) × (depth ≤ mostOpen) ⌝ }
-    ensures { λ r. ⌜ Walks (now (events .entry)) (now (texts .entry)) (content· (now (table .entry)) mode depth kind) c (now (notes .entry)) r (now (notes .exit)) ⌝ }
+    requires { ⌜ (Ready (now events) (now texts) (now notes) c) × (Right (now table)) × (t < typesIn (now table)) × (depth ≤ mostOpen) ⌝ }
+    ensures { λ r. ⌜ Walks (now (events .entry)) (now (texts .entry)) (content· (now (table .entry)) mode depth t) c (now (notes .entry)) r (now (notes .exit)) ⌝ }
 {
-    match rows::content(table, kind) {
+    match rows::content(table, t) {
         Content::Empty => Step::Go(c),
-        Content::Simple(k, x, y) => simple::value(events, texts, notes, k, x, y, c),
-        Content::Particles(i) => particle(table, events, texts, notes, mode, i, depth, c),
+        Content::Simple(simple, x, y) => values::value(events, texts, notes, c, simple, x, y),
+        Content::Particles(i) => particle(table, events, texts, notes, mode, depth, c, i),
     }
 }
 
@@ -124,16 +126,16 @@ fn too_deep(events: &[u32], at: usize) -> Step
     Step::Refuse(refusal::NO_READING, at)
 }
 
-// The particle row i, where depth rows may still be opened.
+// The particle row i, where one may still be opened.
 pub fn particle(
     table: &[u32],
     events: &[u32],
     texts: &[u8],
     notes: &mut [u32],
     mode: u32,
-    i: u32,
-    depth: usize,
+    depth: u32,
     c: Cursor,
+    i: u32,
 ) -> Step
     requires { ⌜ (Ready (now events) (now texts) (now notes) c) × (Right (now table)) × (i < particlesIn (now table)) × (depth ≤ mostOpen) ⌝ }
     ensures { λ r. ⌜ Walks (now (events .entry)) (now (texts .entry)) (particle· (now (table .entry)) mode depth i) c (now (notes .entry)) r (now (notes .exit)) ⌝ }
@@ -143,106 +145,102 @@ pub fn particle(
     }
     let d = depth - 1;
     match rows::particle(table, i) {
-        Particle::Element(name, kind) => {
-            element(table, events, texts, notes, mode, name, kind, d, c)
+        Particle::Element(name, t) => { element(table, events, texts, notes, mode, d, c, name, t) }
+        Particle::Sequence(first, n) => {
+            rounds(table, events, texts, notes, mode, d, c, first, 1, n)
         }
-        Particle::Sequence(first, count) => {
-            rounds(table, events, texts, notes, mode, first, 1, count, d, c)
-        }
-        Particle::Choice(first, count) => {
-            choose(table, events, texts, notes, mode, first, count, d, c)
-        }
+        Particle::Choice(first, n) => { choose(table, events, texts, notes, mode, d, c, first, n) }
         Particle::Occurs(child, least, most) => occur(
             table,
             events,
             texts,
             notes,
             mode,
+            d,
+            c,
             child,
             least,
             most,
-            d,
-            c,
         ),
     }
 }
 
-// A choice: its branch, then that row.
+// A choice of n rows from one on: its branch, then that row.
 pub fn choose(
     table: &[u32],
     events: &[u32],
     texts: &[u8],
     notes: &mut [u32],
     mode: u32,
-    first: u32,
-    count: u32,
-    depth: usize,
+    depth: u32,
     c: Cursor,
+    first: u32,
+    n: u32,
 ) -> Step
-    requires { ⌜ (Ready (now events) (now texts) (now notes) c) × (Right (now table)) × (first + count ≤ particlesIn (now table)) × (depth ≤ mostOpen) ⌝ }
-    ensures { λ r. ⌜ Walks (now (events .entry)) (now (texts .entry)) (choose· (now (table .entry)) mode depth first count) c (now (notes .entry)) r (now (notes .exit)) ⌝ }
+    requires { ⌜ (Ready (now events) (now texts) (now notes) c) × (Right (now table)) × (first + n ≤ particlesIn (now table)) × (depth ≤ mostOpen) ⌝ }
+    ensures { λ r. ⌜ Walks (now (events .entry)) (now (texts .entry)) (choose· (now (table .entry)) mode depth first n) c (now (notes .entry)) r (now (notes .exit)) ⌝ }
 {
     let at = c.event;
     let v = rows::word(events, 4 * at + 1);
-    let r = simple::pick(events, texts, notes, count, v, c);
+    let r = values::pick(events, texts, notes, c, n, v);
     let Step::Go(e) = r else {
         return r;
     };
-    particle(table, events, texts, notes, mode, first + v, depth, e)
+    particle(table, events, texts, notes, mode, depth, e, first + v)
 }
 
-// An occurs row: its count, then so many rounds.
+// An occurs row: its count, then its child so many times.
 pub fn occur(
     table: &[u32],
     events: &[u32],
     texts: &[u8],
     notes: &mut [u32],
     mode: u32,
+    depth: u32,
+    c: Cursor,
     child: u32,
     least: u32,
     most: u32,
-    depth: usize,
-    c: Cursor,
 ) -> Step
     requires { ⌜ (Ready (now events) (now texts) (now notes) c) × (Right (now table)) × (child < particlesIn (now table)) × (depth ≤ mostOpen) ⌝ }
     ensures { λ r. ⌜ Walks (now (events .entry)) (now (texts .entry)) (occur· (now (table .entry)) mode depth child least most) c (now (notes .entry)) r (now (notes .exit)) ⌝ }
 {
     let at = c.event;
     let v = rows::word(events, 4 * at + 1);
-    let r = simple::count(events, texts, notes, least, most, v, c);
+    let r = values::count(events, texts, notes, c, least, most, v);
     let Step::Go(e) = r else {
         return r;
     };
-    rounds(table, events, texts, notes, mode, child, 0, v, depth, e)
+    rounds(table, events, texts, notes, mode, depth, e, child, 0, v)
 }
 
-// n rows, from one on, each `step` past the last.
+// n rows from one on, each so far past the last: 1 for a sequence, 0 for the child of an occurs row.
 pub fn rounds(
     table: &[u32],
     events: &[u32],
     texts: &[u8],
     notes: &mut [u32],
     mode: u32,
+    depth: u32,
+    c: Cursor,
     first: u32,
     step: u32,
     n: u32,
-    depth: usize,
-    c: Cursor,
 ) -> Step
     requires { ⌜ (Ready (now events) (now texts) (now notes) c) × (Right (now table)) × (Within (now table) first step n) × (depth ≤ mostOpen) ⌝ }
-    ensures { λ r. ⌜ Walks (now (events .entry)) (now (texts .entry)) (rounds· (now (table .entry)) mode depth n first step) c (now (notes .entry)) r (now (notes .exit)) ⌝ }
+    ensures { λ r. ⌜ Walks (now (events .entry)) (now (texts .entry)) (rounds· (now (table .entry)) mode depth first step n) c (now (notes .entry)) r (now (notes .exit)) ⌝ }
 {
-    let mut at = c;
+    let mut cursor = c;
     let mut i = first;
     let mut j: u32 = 0;
     while j < n {
-        let r = particle(table, events, texts, notes, mode, i, depth, at);
+        let r = particle(table, events, texts, notes, mode, depth, cursor, i);
         let Step::Go(e) = r else {
             return r;
         };
-        at = e;
-        i = i + step;
-        j = j + 1;
+        cursor = e;
+        i += step;
+        j += 1;
     }
-    Step::Go(at)
+    Step::Go(cursor)
 }

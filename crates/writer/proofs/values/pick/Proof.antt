@@ -1,8 +1,8 @@
 -- A branch is an event noted.
 use Rattle.writer.proofs.SimpleWays.{picked-way}
 use borrow.Author.Needs.{needs}
-use Rattle.writer.proofs.simple.pick.Statement.{statement}
-use Rattle.writer.proofs.simple.pick.Tie as tie
+use Rattle.writer.proofs.values.pick.Statement.{statement}
+use Rattle.writer.proofs.values.pick.Tie as tie
 
 coded-requires : tie.Need-coded-requires
 coded-requires c κs = search (needs, picked-way)

@@ -1,8 +1,8 @@
 -- The flag, then the value or nothing.
 use Rattle.writer.proofs.SimpleWays.{optional-ways, optional-absent}
 use borrow.Author.Needs.{needs}
-use Rattle.writer.proofs.simple.optional.Statement.{statement}
-use Rattle.writer.proofs.simple.optional.Tie as tie
+use Rattle.writer.proofs.attributes.optional.Statement.{statement}
+use Rattle.writer.proofs.attributes.optional.Tie as tie
 
 mul-word : tie.Need-mul-word
 mul-word c = search (needs, optional-ways)

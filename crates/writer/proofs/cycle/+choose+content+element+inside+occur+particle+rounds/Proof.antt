@@ -7,30 +7,30 @@ use borrow.Author.Needs.{needs}
 use Rattle.writer_parts.specs.Walk.{eventsAt, textsAt, Ready}
 use Rattle.writer.specs.Meaning.{rounds·}
 use Rattle.writer.proofs.Leads.{Leads}
-use Rattle.writer.proofs.WalkWays.{choose-ways, content-ways, element-ways, inside-ways, occur-ways, particle-ways, rounds-ways, leftR, row-type, row-sequence, row-choice, row-child, element-unheld, element-stop, element-sealing, element-kept, element-go}
+use Rattle.writer.proofs.CycleWays.{choose-ways, content-ways, element-ways, inside-ways, occur-ways, particle-ways, rounds-ways, leftR, row-type, row-sequence, row-choice, row-child, element-unheld, element-stop, element-sealing, element-kept, element-go}
 use borrow.Fn.Kinds.{In}
 use borrow.Fn.PlainCycle.{Measures, is, falls, and}
-use Rattle.writer.proofs.walk.choose.Reads as choose
-use Rattle.writer.proofs.walk.choose.Kinds as choose-kinds
-use Rattle.writer.proofs.walk.+choose+content+element+inside+occur+particle+rounds.Lts-choose as choose-lts
-use Rattle.writer.proofs.walk.content.Reads as content
-use Rattle.writer.proofs.walk.content.Kinds as content-kinds
-use Rattle.writer.proofs.walk.+choose+content+element+inside+occur+particle+rounds.Lts-content as content-lts
-use Rattle.writer.proofs.walk.element.Reads as element
-use Rattle.writer.proofs.walk.element.Kinds as element-kinds
-use Rattle.writer.proofs.walk.+choose+content+element+inside+occur+particle+rounds.Lts-element as element-lts
-use Rattle.writer.proofs.walk.inside.Reads as inside
-use Rattle.writer.proofs.walk.inside.Kinds as inside-kinds
-use Rattle.writer.proofs.walk.+choose+content+element+inside+occur+particle+rounds.Lts-inside as inside-lts
-use Rattle.writer.proofs.walk.occur.Reads as occur
-use Rattle.writer.proofs.walk.occur.Kinds as occur-kinds
-use Rattle.writer.proofs.walk.+choose+content+element+inside+occur+particle+rounds.Lts-occur as occur-lts
-use Rattle.writer.proofs.walk.particle.Reads as particle
-use Rattle.writer.proofs.walk.particle.Kinds as particle-kinds
-use Rattle.writer.proofs.walk.+choose+content+element+inside+occur+particle+rounds.Lts-particle as particle-lts
-use Rattle.writer.proofs.walk.rounds.Reads as rounds
-use Rattle.writer.proofs.walk.rounds.Kinds as rounds-kinds
-use Rattle.writer.proofs.walk.+choose+content+element+inside+occur+particle+rounds.Lts-rounds as rounds-lts
+use Rattle.writer.proofs.cycle.choose.Reads as choose
+use Rattle.writer.proofs.cycle.choose.Kinds as choose-kinds
+use Rattle.writer.proofs.cycle.+choose+content+element+inside+occur+particle+rounds.Lts-choose as choose-lts
+use Rattle.writer.proofs.cycle.content.Reads as content
+use Rattle.writer.proofs.cycle.content.Kinds as content-kinds
+use Rattle.writer.proofs.cycle.+choose+content+element+inside+occur+particle+rounds.Lts-content as content-lts
+use Rattle.writer.proofs.cycle.element.Reads as element
+use Rattle.writer.proofs.cycle.element.Kinds as element-kinds
+use Rattle.writer.proofs.cycle.+choose+content+element+inside+occur+particle+rounds.Lts-element as element-lts
+use Rattle.writer.proofs.cycle.inside.Reads as inside
+use Rattle.writer.proofs.cycle.inside.Kinds as inside-kinds
+use Rattle.writer.proofs.cycle.+choose+content+element+inside+occur+particle+rounds.Lts-inside as inside-lts
+use Rattle.writer.proofs.cycle.occur.Reads as occur
+use Rattle.writer.proofs.cycle.occur.Kinds as occur-kinds
+use Rattle.writer.proofs.cycle.+choose+content+element+inside+occur+particle+rounds.Lts-occur as occur-lts
+use Rattle.writer.proofs.cycle.particle.Reads as particle
+use Rattle.writer.proofs.cycle.particle.Kinds as particle-kinds
+use Rattle.writer.proofs.cycle.+choose+content+element+inside+occur+particle+rounds.Lts-particle as particle-lts
+use Rattle.writer.proofs.cycle.rounds.Reads as rounds
+use Rattle.writer.proofs.cycle.rounds.Kinds as rounds-kinds
+use Rattle.writer.proofs.cycle.+choose+content+element+inside+occur+particle+rounds.Lts-rounds as rounds-lts
 use Rattle.writer_parts.proofs.leaves.close.Reads as close-reads
 use Rattle.writer_parts.proofs.leaves.unlike.Reads as unlike-reads
 use Rattle.table.proofs.rows.content.Reads as content-reads
@@ -38,39 +38,39 @@ use Rattle.table.proofs.rows.held.Reads as held-reads
 use Rattle.table.proofs.rows.particle.Reads as particle-reads
 use Rattle.table.proofs.rows.span.Reads as span-reads
 use Rattle.table.proofs.rows.word.Reads as word-reads
-use Rattle.writer.proofs.simple.all.Reads as all-reads
-use Rattle.writer.proofs.simple.count.Reads as count-reads
-use Rattle.writer.proofs.simple.pick.Reads as pick-reads
-use Rattle.writer.proofs.simple.value.Reads as value-reads
-use Rattle.writer.proofs.walk.flag_in.Reads as flag-in-reads
-use Rattle.writer.proofs.walk.too_deep.Reads as too-deep-reads
-use Rattle.writer.proofs.walk.+choose+content+element+inside+occur+particle+rounds.{
+use Rattle.writer.proofs.attributes.all.Reads as all-reads
+use Rattle.writer.proofs.values.count.Reads as count-reads
+use Rattle.writer.proofs.values.pick.Reads as pick-reads
+use Rattle.writer.proofs.values.value.Reads as value-reads
+use Rattle.writer.proofs.cycle.flag_in.Reads as flag-in-reads
+use Rattle.writer.proofs.cycle.too_deep.Reads as too-deep-reads
+use Rattle.writer.proofs.cycle.+choose+content+element+inside+occur+particle+rounds.{
   statement,
 }
-use Rattle.writer.proofs.walk.+choose+content+element+inside+occur+particle+rounds.Tie.{
+use Rattle.writer.proofs.cycle.+choose+content+element+inside+occur+particle+rounds.Tie.{
   close,
 }
 
 abbrev μ-choose : Measures 4 choose-kinds.ps ℕ
-μ-choose κs a = 8 * (a .1 .1 .1 .1 .1 .1 .1 .0) + 1
+μ-choose κs a = 8 * (a .1 .1 .1 .1 .1 .0) + 1
 
 abbrev μ-content : Measures 4 content-kinds.ps ℕ
-μ-content κs a = 8 * (a .1 .1 .1 .1 .1 .1 .0) + 1
+μ-content κs a = 8 * (a .1 .1 .1 .1 .1 .0) + 1
 
 abbrev μ-element : Measures 4 element-kinds.ps ℕ
-μ-element κs a = 8 * (a .1 .1 .1 .1 .1 .1 .1 .0) + 3
+μ-element κs a = 8 * (a .1 .1 .1 .1 .1 .0) + 3
 
 abbrev μ-inside : Measures 4 inside-kinds.ps ℕ
-μ-inside κs a = 8 * (a .1 .1 .1 .1 .1 .1 .0) + 2
+μ-inside κs a = 8 * (a .1 .1 .1 .1 .1 .0) + 2
 
 abbrev μ-occur : Measures 4 occur-kinds.ps ℕ
-μ-occur κs a = 8 * (a .1 .1 .1 .1 .1 .1 .1 .1 .0) + 2
+μ-occur κs a = 8 * (a .1 .1 .1 .1 .1 .0) + 2
 
 abbrev μ-particle : Measures 4 particle-kinds.ps ℕ
-μ-particle κs a = 8 * (a .1 .1 .1 .1 .1 .1 .0) + 0
+μ-particle κs a = 8 * (a .1 .1 .1 .1 .1 .0) + 0
 
 abbrev μ-rounds : Measures 4 rounds-kinds.ps ℕ
-μ-rounds κs a = 8 * (a .1 .1 .1 .1 .1 .1 .1 .1 .0) + 1
+μ-rounds κs a = 8 * (a .1 .1 .1 .1 .1 .0) + 1
 
 abbrev choose-at : ℕ → In 4 choose-kinds.ps
 choose-at t = and 4 choose-kinds.ps (is 4 choose-kinds.ps μ-choose t) choose.Pre
@@ -178,8 +178,8 @@ content-content-requires t c κs = search (needs, content-ways)
 content-enum-told : (t : ℕ) → content-lts.Need-enum-told (content-env t) (content-at t) content.Post
 content-enum-told t c = search needs
 
-content-enum-known-k : (t : ℕ) → content-lts.Need-enum-known-k (content-env t) (content-at t) content.Post
-content-enum-known-k t c = search needs
+content-enum-known-simple : (t : ℕ) → content-lts.Need-enum-known-simple (content-env t) (content-at t) content.Post
+content-enum-known-simple t c = search needs
 
 content-value-requires : (t : ℕ) → content-lts.Need-value-requires (content-env t) (content-at t) content.Post
 content-value-requires t c κs = search (needs, content-ways)
@@ -424,11 +424,11 @@ particle-returns-5 : (t : ℕ) → particle-lts.Need-returns-5 (particle-env t) 
 particle-returns-5 t c = search (needs, particle-ways)
 
 abbrev rounds-Inv-loop : rounds-lts.InvT-loop
-rounds-Inv-loop table events texts notes₀ mode first step n depth at₀ i₀ j₀ notes at i j =
-    (length notes ≡ length notes₀) × (j ≤ n) × (Ready events texts notes at) × (i ≡ first + step * j) × Leads events texts (rounds· table mode depth n first step (eventsAt events (at₀ .event)) (textsAt texts (at₀ .used))) at₀ notes₀ (leftR events texts table mode depth n step j i at) at notes
+rounds-Inv-loop table events texts notes₀ mode depth first step n cursor₀ i₀ j₀ notes cursor i j =
+    (length notes ≡ length notes₀) × (j ≤ n) × (Ready events texts notes cursor) × (i ≡ first + step * j) × Leads events texts (rounds· table mode depth first step n (eventsAt events (cursor₀ .event)) (textsAt texts (cursor₀ .used))) cursor₀ notes₀ (leftR events texts table mode depth n step j i cursor) cursor notes
 
 abbrev rounds-μ-loop : rounds-lts.MeasureT-loop
-rounds-μ-loop table events texts notes₀ mode first step n depth at₀ i₀ j₀ notes at i j = n - j
+rounds-μ-loop table events texts notes₀ mode depth first step n cursor₀ i₀ j₀ notes cursor i j = n - j
 
 rounds-loop-holds :
     (t : ℕ) →
@@ -579,7 +579,7 @@ pub +choose+content+element+inside+occur+particle+rounds-spec : {M : Type 1} →
     content.Post
     (content-content-requires t)
     (content-enum-told t)
-    (content-enum-known-k t)
+    (content-enum-known-simple t)
     (content-value-requires t)
     (content-enum-known-i t)
     (content-particle-requires t)

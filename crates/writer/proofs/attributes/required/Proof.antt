@@ -1,8 +1,8 @@
 -- The mark, then the value.
 use Rattle.writer.proofs.SimpleWays.{required-ways}
 use borrow.Author.Needs.{needs}
-use Rattle.writer.proofs.simple.required.Statement.{statement}
-use Rattle.writer.proofs.simple.required.Tie as tie
+use Rattle.writer.proofs.attributes.required.Statement.{statement}
+use Rattle.writer.proofs.attributes.required.Tie as tie
 
 mark-requires : tie.Need-mark-requires
 mark-requires c κs = search (needs, required-ways)

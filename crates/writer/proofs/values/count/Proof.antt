@@ -1,8 +1,8 @@
 -- A count is an event noted.
 use Rattle.writer.proofs.SimpleWays.{counted-way}
 use borrow.Author.Needs.{needs}
-use Rattle.writer.proofs.simple.count.Statement.{statement}
-use Rattle.writer.proofs.simple.count.Tie as tie
+use Rattle.writer.proofs.values.count.Statement.{statement}
+use Rattle.writer.proofs.values.count.Tie as tie
 
 times-requires : tie.Need-times-requires
 times-requires c κs = search (needs, counted-way)
