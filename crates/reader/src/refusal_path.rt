@@ -8,7 +8,7 @@ ghost use Prim.Native.Nat.{_≤_, _<_};
 ghost use lib.ListN.{length};
 ghost use Rattle.numbers.specs.Limit.{mostName, mostNames};
 ghost use Rattle.reader_parts.specs.Paths.{namesOf};
-ghost use Rattle.reader.specs.Told.{walks, Named};
+ghost use Rattle.reader.specs.RefusalPath.{walks, Named};
 
 // Gone on; refused, with number and place, in the innermost open element; or so refused inside one that has told its path, and how many names.
 pub enum Walk {
@@ -18,7 +18,7 @@ pub enum Walk {
 }
 
 // A leaf's step as a walk.
-pub fn walked(s: Step) -> Walk
+pub fn from_step(s: Step) -> Walk
     ensures { λ r. ⌜ r ≡ walks s ⌝ }
 {
     match s {
@@ -28,7 +28,7 @@ pub fn walked(s: Step) -> Walk
 }
 
 // The names of one path over those of another.
-pub fn copied(to: &mut [u16], from: &[u16])
+pub fn copy_names(to: &mut [u16], from: &[u16])
     requires { ⌜ (length (now to) ≡ mostNames) × (length (now from) ≡ mostNames) ⌝ }
     ensures { λ _. ⌜ now (to .exit) ≡ now (from .entry) ⌝ }
 {
@@ -40,7 +40,7 @@ pub fn copied(to: &mut [u16], from: &[u16])
 }
 
 // What the element of a name answers for the walk through what is in it: its own refusal is told, with the path and the name.
-pub fn named(told: &mut [u16], path: Path, name: u32, w: Walk) -> Walk
+pub fn name_refusal(told: &mut [u16], path: Path, name: u32, w: Walk) -> Walk
     requires { ⌜ (length (now told) ≡ mostNames) × (path .count < mostNames) × (name ≤ mostName) ⌝ }
     ensures { λ r. ⌜ Named name (namesOf path) w (now (told .entry)) r (now (told .exit)) ⌝ }
 {
@@ -50,7 +50,7 @@ pub fn named(told: &mut [u16], path: Path, name: u32, w: Walk) -> Walk
         Walk::Refuse(n, at) => {
             let inner = path.push(name as u16);
             let names = inner.names;
-            copied(told, &names);
+            copy_names(told, &names);
             Walk::Told(n, at, inner.count)
         }
     }

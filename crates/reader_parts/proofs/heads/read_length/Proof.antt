@@ -1,8 +1,8 @@
 -- TheLength, and the end that it says.
 use Rattle.reader_parts.proofs.HeadWays.{measured-ways}
 use borrow.Author.Needs.{needs}
-use Rattle.reader_parts.proofs.heads.measured.Statement.{statement}
-use Rattle.reader_parts.proofs.heads.measured.Tie as tie
+use Rattle.reader_parts.proofs.heads.read_length.Statement.{statement}
+use Rattle.reader_parts.proofs.heads.read_length.Tie as tie
 
 number-requires : tie.Need-number-requires
 number-requires c κs = search needs
@@ -28,8 +28,8 @@ returns-3 c = search (needs, measured-ways)
 returns-4 : tie.Need-returns-4
 returns-4 c = search (needs, measured-ways)
 
-pub measured-spec : {M : Type 1} → statement M
-measured-spec =
+pub read-length-spec : {M : Type 1} → statement M
+read-length-spec =
     tie.close
     (tie.spec
     number-requires

@@ -1,8 +1,8 @@
 -- Its event, and its value where it is present.
 use Rattle.reader_parts.proofs.AttributeWays.{noted-ways}
 use borrow.Author.Needs.{needs}
-use Rattle.reader_parts.proofs.attributes.noted.Statement.{statement}
-use Rattle.reader_parts.proofs.attributes.noted.Tie as tie
+use Rattle.reader_parts.proofs.attributes.store_attribute.Statement.{statement}
+use Rattle.reader_parts.proofs.attributes.store_attribute.Tie as tie
 
 store-requires : tie.Need-store-requires
 store-requires c κs = search needs
@@ -37,8 +37,8 @@ same-length-4 c = search needs
 returns-3 : tie.Need-returns-3
 returns-3 c = search (needs, noted-ways)
 
-pub noted-spec : {M : Type 1} → statement M
-noted-spec =
+pub store-attribute-spec : {M : Type 1} → statement M
+store-attribute-spec =
     tie.close
     (tie.spec
     store-requires

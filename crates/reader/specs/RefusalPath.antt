@@ -8,8 +8,8 @@ use Rattle.reader_parts.specs.Paths.{back}
 use Rattle.reader_parts.specs.declared.Cursor.{Cursor}
 use Rattle.reader_parts.specs.declared.Step.{Step}
 use Rattle.reader_parts.specs.declared.Step.the-variants as step·is
-use Rattle.reader.specs.declared.told.Walk.{Walk}
-use Rattle.reader.specs.declared.told.Walk.the-variants.{Go, Refuse, Told}
+use Rattle.reader.specs.declared.refusal_path.Walk.{Walk}
+use Rattle.reader.specs.declared.refusal_path.Walk.the-variants.{Go, Refuse, Told}
 
 abbrev pub walks : Step → Walk
 walks (step·is.Go c) = Go c

@@ -1,8 +1,8 @@
 -- A refusal is told, with the name; all else is passed on.
 use borrow.Author.Needs.{needs}
-use Rattle.reader.proofs.ToldLaws.{named-ways}
-use Rattle.reader.proofs.told.named.Statement.{statement}
-use Rattle.reader.proofs.told.named.Tie as tie
+use Rattle.reader.proofs.RefusalPathLaws.{named-ways}
+use Rattle.reader.proofs.refusal_path.name_refusal.Statement.{statement}
+use Rattle.reader.proofs.refusal_path.name_refusal.Tie as tie
 
 enum-known-w : tie.Need-enum-known-w
 enum-known-w c = search needs
@@ -19,11 +19,11 @@ cast-push c = search needs
 push-requires : tie.Need-push-requires
 push-requires c κs = search needs
 
-slice-aggregate-copied : tie.Need-slice-aggregate-copied
-slice-aggregate-copied c = search needs
+slice-aggregate-copy-names : tie.Need-slice-aggregate-copy-names
+slice-aggregate-copy-names c = search needs
 
-copied-requires : tie.Need-copied-requires
-copied-requires c κs = search needs
+copy-names-requires : tie.Need-copy-names-requires
+copy-names-requires c κs = search needs
 
 returns : tie.Need-returns
 returns c = search (needs, named-ways)
@@ -37,8 +37,8 @@ same-length c = search needs
 returns-3 : tie.Need-returns-3
 returns-3 c = search (needs, named-ways)
 
-pub named-spec : {M : Type 1} → statement M
-named-spec =
+pub name-refusal-spec : {M : Type 1} → statement M
+name-refusal-spec =
     tie.close
     (tie.spec
     enum-known-w
@@ -46,8 +46,8 @@ named-spec =
     enum-known-w-3
     cast-push
     push-requires
-    slice-aggregate-copied
-    copied-requires
+    slice-aggregate-copy-names
+    copy-names-requires
     returns
     returns-2
     same-length

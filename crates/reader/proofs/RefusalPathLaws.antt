@@ -15,9 +15,9 @@ use Rattle.reader_parts.specs.declared.Cursor.{Cursor}
 use Rattle.reader_parts.specs.declared.Path.{Path}
 use Rattle.reader_parts.specs.declared.Step.{Step}
 use Rattle.reader_parts.specs.declared.Step.the-variants as step·is
-use Rattle.reader.specs.declared.told.Walk.{Walk}
-use Rattle.reader.specs.declared.told.Walk.the-variants.{Go, Refuse, Told}
-use Rattle.reader.specs.Told.{walks, stepOf, view, Named}
+use Rattle.reader.specs.declared.refusal_path.Walk.{Walk}
+use Rattle.reader.specs.declared.refusal_path.Walk.the-variants.{Go, Refuse, Told}
+use Rattle.reader.specs.RefusalPath.{walks, stepOf, view, Named}
 
 -- a walk that did not go on; f is the number of a walk's case
 pub record Stopped (w : Walk) : Type 0 where

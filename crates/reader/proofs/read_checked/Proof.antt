@@ -1,8 +1,8 @@
 -- `checked` judges 2, 3 and 4, in order, then reads the root. Each answer is a way of specs/Root.
 use borrow.Author.Needs.{needs}
 use Rattle.reader.proofs.RootLaws.{entry-ways}
-use Rattle.reader.proofs.checked.Statement.{statement}
-use Rattle.reader.proofs.checked.Tie as tie
+use Rattle.reader.proofs.read_checked.Statement.{statement}
+use Rattle.reader.proofs.read_checked.Tie as tie
 
 types-requires : tie.Need-types-requires
 types-requires c κs = search needs
@@ -55,8 +55,8 @@ same-length-2 c = search needs
 returns-4 : tie.Need-returns-4
 returns-4 c = search needs
 
-pub checked-spec : {M : Type 1} → statement M
-checked-spec =
+pub read-checked-spec : {M : Type 1} → statement M
+read-checked-spec =
     tie.close
     (tie.spec
     types-requires

@@ -4,9 +4,9 @@ use mathlib.Core.Path.{_≡_, sym, _∙_}
 use native.Mathlib.Omega.{arith}
 use borrow.Author.Needs.{needs}
 use lib.ListN.{length, length-set}
-use Rattle.reader.proofs.ToldLaws.{Over, over-more, over-all}
-use Rattle.reader.proofs.told.copied.Statement.{statement}
-use Rattle.reader.proofs.told.copied.Tie as tie
+use Rattle.reader.proofs.RefusalPathLaws.{Over, over-more, over-all}
+use Rattle.reader.proofs.refusal_path.copy_names.Statement.{statement}
+use Rattle.reader.proofs.refusal_path.copy_names.Tie as tie
 
 abbrev Inv-loop : tie.InvT-loop
 Inv-loop to₀ from i₀ to i = (length to ≡ length to₀) × (i ≤ length to) × Over to from i
@@ -44,5 +44,5 @@ same-length c = search needs
 returns : tie.Need-returns Inv-loop μ-loop
 returns c = over-all (c .before .loop .to) _ (c .before .loop .i) (c .before .loop .inv .0 ∙ c .before .before .pre .0 ∙ sym (c .before .before .pre .1)) (c .before .loop .inv .2) (c .loop-test .left)
 
-pub copied-spec : {M : Type 1} → statement M
-copied-spec = tie.close (tie.spec Inv-loop μ-loop loop-holds mul-to shared-slice-read-to mul-to-2 slice-write-to add-i loop-less loop-again same-length returns)
+pub copy-names-spec : {M : Type 1} → statement M
+copy-names-spec = tie.close (tie.spec Inv-loop μ-loop loop-holds mul-to shared-slice-read-to mul-to-2 slice-write-to add-i loop-less loop-again same-length returns)

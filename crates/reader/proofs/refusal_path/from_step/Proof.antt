@@ -1,8 +1,8 @@
 -- A leaf's step as a walk, case by case.
 use borrow.Author.Needs.{needs}
-use Rattle.reader.proofs.ToldLaws.{walked-ways}
-use Rattle.reader.proofs.told.walked.Statement.{statement}
-use Rattle.reader.proofs.told.walked.Tie as tie
+use Rattle.reader.proofs.RefusalPathLaws.{walked-ways}
+use Rattle.reader.proofs.refusal_path.from_step.Statement.{statement}
+use Rattle.reader.proofs.refusal_path.from_step.Tie as tie
 
 enum-known-s : tie.Need-enum-known-s
 enum-known-s c = search needs
@@ -16,5 +16,5 @@ returns c = search (needs, walked-ways)
 returns-2 : tie.Need-returns-2
 returns-2 c = search (needs, walked-ways)
 
-pub walked-spec : {M : Type 1} → statement M
-walked-spec = tie.close (tie.spec enum-known-s enum-known-s-2 returns returns-2)
+pub from-step-spec : {M : Type 1} → statement M
+from-step-spec = tie.close (tie.spec enum-known-s enum-known-s-2 returns returns-2)
