@@ -37,9 +37,9 @@ use Rattle.model.specs.WriteSteps as steps
 use Rattle.model.proofs.WriteSteps as steps-laws
 use Rattle.model.specs.Whole.{eventAt}
 use Rattle.model.proofs.Named.{item-out-named}
-use Rattle.writer_parts.specs.declared.Cursor.{Cursor}
-use Rattle.writer_parts.specs.declared.Step.{Step}
-use Rattle.writer_parts.specs.declared.Step.the-variants.{Go, Refuse}
+use Rattle.writer_parts.specs.declared.Spot.{Spot}
+use Rattle.writer_parts.specs.declared.Judgement.{Judgement}
+use Rattle.writer_parts.specs.declared.Judgement.the-variants.{Go, Refuse}
 use Rattle.writer_parts.specs.Notes.{modeIs}
 use Rattle.writer_parts.specs.Walk.{eventsIn, eventsAt, textsAt, between, past, Ready, Sealing, Went, Stopped, Walked, Walks, wanted, judged, noted, alone}
 use Rattle.writer_parts.proofs.WalkLaws.{went, stopped, walked-as, stays, along-stop, along-go, alone-noted, events-next, events-none, events-count, judged-in, judged-is, taken-like, taken-unlike}
@@ -76,8 +76,8 @@ pub deep-past : (L : List ℕ) (i : ℕ) → eventsIn L ≤ i → Refuse noReadi
 unfolding deepAt
 deep-past L i h = rw (le-ltb i (eventsIn L) h)
 
-module _ (L X : List ℕ) (c : Cursor) (N : List ℕ) where
-  pub deep-walked : Ready L X N c → (s : Step) → s ≡ deepAt L (c .event) → Walked L X (tooDeep (eventsAt L (c .event))) c N s N
+module _ (L X : List ℕ) (c : Spot) (N : List ℕ) where
+  pub deep-walked : Ready L X N c → (s : Judgement) → s ≡ deepAt L (c .event) → Walked L X (tooDeep (eventsAt L (c .event))) c N s N
   unfolding tooDeep
   deep-walked r s e = elim (decLt (c .event) (eventsIn L)) [
     | yes h ↦
@@ -118,7 +118,7 @@ said true e = refl
 said false e = sym e
 
 -- element
-module _ (L X : List ℕ) (c : Cursor) (N : List ℕ) (r : Ready L X N c) (t : List ℕ) (mode d name ty : ℕ) (x q b : ℕ) (a : x ≡ getD L (4 * c .event + 2) 0) (z : q ≡ flagFor mode x)
+module _ (L X : List ℕ) (c : Spot) (N : List ℕ) (r : Ready L X N c) (t : List ℕ) (mode d name ty : ℕ) (x q b : ℕ) (a : x ≡ getD L (4 * c .event + 2) 0) (z : q ≡ flagFor mode x)
     (j : b ≡ judged L (c .event) (wanted kinds.start name q)) where
   start-is : asStart (modeIs mode) name (eventAt L (c .event)) ≡ wanted kinds.start name q
   unfolding flagFor
@@ -159,7 +159,7 @@ module _ (L X : List ℕ) (c : Cursor) (N : List ℕ) (r : Ready L X N c) (t : L
     pub element-next : c .event + 1 < 2 ^ 64
     element-next = let i = within in let f = r .few in omega arith
 
-    module _ (h : Bool) (e : h ≡ heldOf t ty) (y′ : not h ≡ false) (s : Step) (M : List ℕ) (g : Walks L X (inside· t mode d ty) (past c) N s M) where
+    module _ (h : Bool) (e : h ≡ heldOf t ty) (y′ : not h ≡ false) (s : Judgement) (M : List ℕ) (g : Walks L X (inside· t mode d ty) (past c) N s M) where
       held-is : element· t mode d name ty (eventsAt L (c .event)) (textsAt X (c .used)) ≡ sealed (modeIs mode) q (inside· t mode d ty (eventsAt L (c .event + 1)) (textsAt X (c .used)))
       unfolding allowed
       held-is = let f : h ≡ true = said h y′ in element-is ∙ rw (← e, f)
@@ -168,20 +168,20 @@ module _ (L X : List ℕ) (c : Cursor) (N : List ℕ) (r : Ready L X N c) (t : L
       unfolding sealed
       element-stop n at w = let k = stopped g n at w in rw w (record { is = record { out = held-is ∙ rw (k .out); inside = k .inside } })
 
-      module _ (o : Cursor) (w : s ≡ Go o) where
-        pub element-go : (u : Step) (K : List ℕ) → Walked L X (sealed (modeIs mode) q (wrote (between X M (past c) o) (eventsAt L (o .event)) (textsAt X (o .used)))) c M u K → Walks L X (element· t mode d name ty) c N u K
+      module _ (o : Spot) (w : s ≡ Go o) where
+        pub element-go : (u : Judgement) (K : List ℕ) → Walked L X (sealed (modeIs mode) q (wrote (between X M (past c) o) (eventsAt L (o .event)) (textsAt X (o .used)))) c M u K → Walks L X (element· t mode d name ty) c N u K
         element-go u K y =
             let k = went g o w in
             let same : element· t mode d name ty (eventsAt L (c .event)) (textsAt X (c .used)) ≡ sealed (modeIs mode) q (wrote (between X M (past c) o) (eventsAt L (o .event)) (textsAt X (o .used))) = held-is ∙ ap (sealed (modeIs mode) q) (k .out) in
             walked-as u same (earlier u y)
           where
-            earlier : (u : Step) → Walked L X (sealed (modeIs mode) q (wrote (between X M (past c) o) (eventsAt L (o .event)) (textsAt X (o .used)))) c M u K
+            earlier : (u : Judgement) → Walked L X (sealed (modeIs mode) q (wrote (between X M (past c) o) (eventsAt L (o .event)) (textsAt X (o .used)))) c M u K
                 → Walked L X (sealed (modeIs mode) q (wrote (between X M (past c) o) (eventsAt L (o .event)) (textsAt X (o .used)))) c N u K
             earlier (Go f) y = let a = y .is in record { is = record { out = a .out; counts = a .counts; onward = a .onward; ready = a .ready; before = λ i h. a .before i h ∙ went g o w .before i (omega arith) } }
             earlier (Refuse n at) y = record { is = y .is }
 
 -- what was walked inside may be sealed
-module _ (L X : List ℕ) (c : Cursor) (N : List ℕ) (p : Out) (s : Step) (M : List ℕ) (g : Walked L X p (past c) N s M) (o : Cursor) (w : s ≡ Go o) where
+module _ (L X : List ℕ) (c : Spot) (N : List ℕ) (p : Out) (s : Judgement) (M : List ℕ) (g : Walked L X p (past c) N s M) (o : Spot) (w : s ≡ Go o) where
   pub element-sealing : Sealing L X M c o
   element-sealing = let k = went g o w in let n = k .onward in record { started = omega arith; ready = k .ready; counts = k .counts }
 
@@ -191,11 +191,11 @@ module _ (L X : List ℕ) (c : Cursor) (N : List ℕ) (p : Out) (s : Step) (M : 
 pub ruleset element-ways = (element-unlike, element-unheld, element-ready, element-next, element-stop, element-sealing, element-kept, element-go)
 
 -- inside
-module _ (L X : List ℕ) (c : Cursor) (N : List ℕ) (t : List ℕ) (mode d ty : ℕ) (s : spanT.Span) (e : Spans t ty s) where
+module _ (L X : List ℕ) (c : Spot) (N : List ℕ) (t : List ℕ) (mode d ty : ℕ) (s : spanT.Span) (e : Spans t ty s) where
   pub span-small : Right t → ty < typesIn t → s .first + s .count < 4294967296
   span-small r h = let a = span-ok t (r .is) ty h in let b = counts-ok t (r .is) .attributes-few in let f = e .first-is in let g = e .count-is in omega arith
 
-  module _ (r : Step) (M : List ℕ) (h : Walks L X (attributes· (attributesFrom t (s .count) (s .first))) c N r M) where
+  module _ (r : Judgement) (M : List ℕ) (h : Walks L X (attributes· (attributesFrom t (s .count) (s .first))) c N r M) where
     inside-as : inside· t mode d ty (eventsAt L (c .event)) (textsAt X (c .used)) ≡ along (attributes· (attributesFrom t (s .count) (s .first)) (eventsAt L (c .event)) (textsAt X (c .used))) (λ A U. content· t mode d ty A U)
     unfolding inside· content·
     inside-as =
@@ -206,13 +206,13 @@ module _ (L X : List ℕ) (c : Cursor) (N : List ℕ) (t : List ℕ) (mode d ty 
     pub inside-stop : (n at : ℕ) → r ≡ Refuse n at → Walks L X (inside· t mode d ty) c N r M
     inside-stop n at w = walked-as r inside-as (along-stop L X _ _ c N r M h n at w)
 
-    pub inside-go : (o : Cursor) → r ≡ Go o → (u : Step) (K : List ℕ) → Walks L X (content· t mode d ty) o M u K → Walks L X (inside· t mode d ty) c N u K
+    pub inside-go : (o : Spot) → r ≡ Go o → (u : Judgement) (K : List ℕ) → Walks L X (content· t mode d ty) o M u K → Walks L X (inside· t mode d ty) c N u K
     inside-go o w u K y = walked-as u inside-as (along-go L X _ (λ A U. content· t mode d ty A U) c N r M h o w u K y)
 
 pub ruleset inside-ways = (span-small, inside-stop, inside-go, ready-on)
 
 -- content
-module _ (L X : List ℕ) (c : Cursor) (N : List ℕ) (t : List ℕ) (mode d ty : ℕ) (o : contentT.Content) (e : contentIs o ≡ tableOf t .content ty) where
+module _ (L X : List ℕ) (c : Spot) (N : List ℕ) (t : List ℕ) (mode d ty : ℕ) (o : contentT.Content) (e : contentIs o ≡ tableOf t .content ty) where
   content-as : (x : Content) → contentIs o ≡ x → content· t mode d ty (eventsAt L (c .event)) (textsAt X (c .used)) ≡ steps.contentOut (modeIs mode) (heldOf t) (tableOf t) d x (eventsAt L (c .event)) (textsAt X (c .used))
   unfolding content·
   content-as x f = rw (← e, f)
@@ -220,13 +220,13 @@ module _ (L X : List ℕ) (c : Cursor) (N : List ℕ) (t : List ℕ) (mode d ty 
   pub content-none : o ≡ ov.Empty → Ready L X N c → Walks L X (content· t mode d ty) c N (Go c) N
   content-none w r = walked-as (Go c) (content-as Content.empty (rw w) ∙ steps-laws.content-empty (modeIs mode) (heldOf t) (tableOf t) (eventsAt L (c .event)) (textsAt X (c .used)) d) (stays L X c N r)
 
-  pub content-value : (k x y : ℕ) → o ≡ ov.Simple k x y → (s : Step) (M : List ℕ) → Walks L X (alone (valued k x y)) c N s M → Walks L X (content· t mode d ty) c N s M
+  pub content-value : (k x y : ℕ) → o ≡ ov.Simple k x y → (s : Judgement) (M : List ℕ) → Walks L X (alone (valued k x y)) c N s M → Walks L X (content· t mode d ty) c N s M
   unfolding alone
   content-value k x y w s M h =
       walked-as s (content-as (Content.simple k x y) (rw w) ∙ steps-laws.content-simple (modeIs mode) (heldOf t) (tableOf t) (eventsAt L (c .event)) (textsAt X (c .used)) d k x y
       ∙ steps-laws.value-is (modeIs mode) (heldOf t) (tableOf t) (eventsAt L (c .event)) (textsAt X (c .used)) k x y) h
 
-  pub content-particle : (i : ℕ) → o ≡ ov.Particles i → (s : Step) (M : List ℕ) → Walks L X (particle· t mode d i) c N s M → Walks L X (content· t mode d ty) c N s M
+  pub content-particle : (i : ℕ) → o ≡ ov.Particles i → (s : Judgement) (M : List ℕ) → Walks L X (particle· t mode d i) c N s M → Walks L X (content· t mode d ty) c N s M
   unfolding particle·
   content-particle i w s M h = walked-as s (content-as (Content.particles i) (rw w) ∙ steps-laws.content-particles (modeIs mode) (heldOf t) (tableOf t) (eventsAt L (c .event)) (textsAt X (c .used)) d i) h
 
@@ -236,8 +236,8 @@ module _ (L X : List ℕ) (c : Cursor) (N : List ℕ) (t : List ℕ) (mode d ty 
 pub ruleset content-ways = (content-none, content-value, content-particle, content-row)
 
 -- particle
-module _ (L X : List ℕ) (c : Cursor) (N : List ℕ) (t : List ℕ) (mode d i : ℕ) where
-  pub particle-deep : d ≡ 0 → Ready L X N c → (s : Step) → s ≡ deepAt L (c .event) → Walks L X (particle· t mode d i) c N s N
+module _ (L X : List ℕ) (c : Spot) (N : List ℕ) (t : List ℕ) (mode d i : ℕ) where
+  pub particle-deep : d ≡ 0 → Ready L X N c → (s : Judgement) → s ≡ deepAt L (c .event) → Walks L X (particle· t mode d i) c N s N
   unfolding particle·
   particle-deep z r s e = rw z (walked-as s (steps-laws.particle-deep (modeIs mode) (heldOf t) (tableOf t) (eventsAt L (c .event)) (textsAt X (c .used)) (tableOf t .row i)) (deep-walked L X c N r s e))
 
@@ -246,7 +246,7 @@ module _ (L X : List ℕ) (c : Cursor) (N : List ℕ) (t : List ℕ) (mode d i :
     unfolding particle·
     particle-as x f = let m : suc (d - 1) ≡ d = omega arith in rw (← e, f, m)
 
-    module _ (s : Step) (M : List ℕ) where
+    module _ (s : Judgement) (M : List ℕ) where
       pub particle-element : (name ty : ℕ) → p ≡ pv.Element name ty → Walks L X (element· t mode (d - 1) name ty) c N s M → Walks L X (particle· t mode d i) c N s M
       unfolding element· inside·
       particle-element name ty w h = walked-as s (particle-as (Row.element name ty) (rw w) ∙ steps-laws.particle-element (modeIs mode) (heldOf t) (tableOf t) (eventsAt L (c .event)) (textsAt X (c .used)) (d - 1) name ty) h
@@ -289,7 +289,7 @@ module _ (t : List ℕ) (i : ℕ) (p : particleT.Particle) (e : rowIs p ≡ tabl
 pub ruleset particle-ways = (particle-deep, particle-element, particle-sequence, particle-choice, particle-occurs, row-type, row-sequence, row-choice, row-child)
 
 -- choose and occur: the event's word, then the rest
-pub picked-below : (L X : List ℕ) (c : Cursor) (N : List ℕ) (n v : ℕ) → v ≡ getD L (4 * c .event + 1) 0 → (r : Step) (M : List ℕ) → Walks L X (alone (picked n)) c N r M → (e : Cursor) → r ≡ Go e → v < n
+pub picked-below : (L X : List ℕ) (c : Spot) (N : List ℕ) (n v : ℕ) → v ≡ getD L (4 * c .event + 1) 0 → (r : Judgement) (M : List ℕ) → Walks L X (alone (picked n)) c N r M → (e : Spot) → r ≡ Go e → v < n
 unfolding noted wordOf
 picked-below L X c N n v z r M h e w =
     let E = eventAt L (c .event) in
@@ -298,14 +298,14 @@ picked-below L X c N n v z r M h e w =
     taken-says (λ e. asItem (picked n) E) (eventsAt L (c .event)) _ (λ f A m g. coded-says (itemOut (picked n) (wordOf (picked n) E) T) (suc (length A)) _ (item-written (picked n) E T) (item-out-named (picked n) (wordOf (picked n) E) T) (λ a p. gives (rw z (picked-value n (p .is))))) in
     says .says _ _ _ (sym (alone-noted L (c .event) (picked n) T) ∙ went h e w .out)
 
-module _ (L X : List ℕ) (c : Cursor) (N : List ℕ) (t : List ℕ) (mode d : ℕ) (v : ℕ) (z : v ≡ getD L (4 * c .event + 1) 0) (r : Step) (M : List ℕ) where
+module _ (L X : List ℕ) (c : Spot) (N : List ℕ) (t : List ℕ) (mode d : ℕ) (v : ℕ) (z : v ≡ getD L (4 * c .event + 1) 0) (r : Judgement) (M : List ℕ) where
   module _ (first count : ℕ) (h : Walks L X (alone (picked count)) c N r M) where
     pub choose-stop : (n at : ℕ) → r ≡ Refuse n at → Walks L X (choose· t mode d first count) c N r M
     unfolding choose·
     choose-stop n at w = item-stop L X c N r M (picked count) (λ v A U. particle· t mode d (first + v) A U) h n at w
 
-    module _ (e : Cursor) (w : r ≡ Go e) where
-      pub choose-go : (s : Step) (K : List ℕ) → Walks L X (particle· t mode d (first + v)) e M s K → Walks L X (choose· t mode d first count) c N s K
+    module _ (e : Spot) (w : r ≡ Go e) where
+      pub choose-go : (s : Judgement) (K : List ℕ) → Walks L X (particle· t mode d (first + v)) e M s K → Walks L X (choose· t mode d first count) c N s K
       unfolding choose· wordOf
       choose-go s K y = item-go L X c N r M (picked count) (λ v A U. particle· t mode d (first + v) A U) h v z e w s K y
 
@@ -320,7 +320,7 @@ module _ (L X : List ℕ) (c : Cursor) (N : List ℕ) (t : List ℕ) (mode d : �
     unfolding occur·
     occur-stop n at w = item-stop L X c N r M (counted least most) (λ v A U. rounds· t mode d child 0 v A U) h n at w
 
-    pub occur-go : (e : Cursor) → r ≡ Go e → (s : Step) (K : List ℕ) → Walks L X (rounds· t mode d child 0 v) e M s K → Walks L X (occur· t mode d child least most) c N s K
+    pub occur-go : (e : Spot) → r ≡ Go e → (s : Judgement) (K : List ℕ) → Walks L X (rounds· t mode d child 0 v) e M s K → Walks L X (occur· t mode d child least most) c N s K
     unfolding occur· wordOf
     occur-go e w s K y = item-go L X c N r M (counted least most) (λ v A U. rounds· t mode d child 0 v A U) h v z e w s K y
 
@@ -333,17 +333,17 @@ pub ruleset occur-ways = (occur-stop, occur-go, occur-within, ready-on)
 
 -- rounds: what is left
 module _ (L X : List ℕ) (t : List ℕ) (mode d n step : ℕ) where
-  abbrev pub leftR : ℕ → ℕ → Cursor → Out
+  abbrev pub leftR : ℕ → ℕ → Spot → Out
   leftR j i c = rounds· t mode d i step (n - j) (eventsAt L (c .event)) (textsAt X (c .used))
 
-  pub rounds-start : (first : ℕ) (c : Cursor) (N : List ℕ) → Leads L X (rounds· t mode d first step n (eventsAt L (c .event)) (textsAt X (c .used))) c N (leftR 0 first c) c N
+  pub rounds-start : (first : ℕ) (c : Spot) (N : List ℕ) → Leads L X (rounds· t mode d first step n (eventsAt L (c .event)) (textsAt X (c .used))) c N (leftR 0 first c) c N
   rounds-start first c N = leads-start L X _ _ c N (let a : n - 0 ≡ n = omega arith in rw a)
 
-  rounds-over : (j i : ℕ) (c : Cursor) → n ≤ j → leftR j i c ≡ wrote [] (eventsAt L (c .event)) (textsAt X (c .used))
+  rounds-over : (j i : ℕ) (c : Spot) → n ≤ j → leftR j i c ≡ wrote [] (eventsAt L (c .event)) (textsAt X (c .used))
   unfolding rounds·
   rounds-over j i c h = let m : n - j ≡ 0 = omega arith in rw m (steps-laws.rounds-none (modeIs mode) (heldOf t) (tableOf t) (eventsAt L (c .event)) (textsAt X (c .used)) d (λ a. tableOf t .row (i + step * a)))
 
-  rounds-next : (j i : ℕ) (c : Cursor) → j < n → leftR j i c ≡ along (particle· t mode d i (eventsAt L (c .event)) (textsAt X (c .used))) (λ A U. rounds· t mode d (i + step) step (n - (j + 1)) A U)
+  rounds-next : (j i : ℕ) (c : Spot) → j < n → leftR j i c ≡ along (particle· t mode d i (eventsAt L (c .event)) (textsAt X (c .used))) (λ A U. rounds· t mode d (i + step) step (n - (j + 1)) A U)
   unfolding rounds· particle·
   rounds-next j i c h =
       let m : n - j ≡ suc (n - (j + 1)) = omega arith in
@@ -353,15 +353,15 @@ module _ (L X : List ℕ) (t : List ℕ) (mode d n step : ℕ) where
       ∙ steps-laws.rounds-more (modeIs mode) (heldOf t) (tableOf t) (eventsAt L (c .event)) (textsAt X (c .used)) d (n - (j + 1)) (λ a. tableOf t .row (i + step * a))
       ∙ (λ x. along (steps.particleOut (modeIs mode) (heldOf t) (tableOf t) d (tableOf t .row (none x)) (eventsAt L (c .event)) (textsAt X (c .used))) (λ A U. steps.roundsOut (modeIs mode) (heldOf t) (tableOf t) d (n - (j + 1)) (λ a. tableOf t .row (on a x)) A U))
 
-  module _ (o₀ : Out) (c₀ : Cursor) (N₀ : List ℕ) (j i : ℕ) (c : Cursor) (N : List ℕ) (l : Leads L X o₀ c₀ N₀ (leftR j i c) c N) where
+  module _ (o₀ : Out) (c₀ : Spot) (N₀ : List ℕ) (j i : ℕ) (c : Spot) (N : List ℕ) (l : Leads L X o₀ c₀ N₀ (leftR j i c) c N) where
     pub rounds-end : n ≤ j → Ready L X N c → Walked L X o₀ c₀ N₀ (Go c) N
     rounds-end h r = leads-end L X o₀ c₀ N₀ (leftR j i c) c N l (rounds-over j i c h) r
 
-    module _ (h : j < n) (r : Step) (M : List ℕ) (g : Walks L X (particle· t mode d i) c N r M) where
+    module _ (h : j < n) (r : Judgement) (M : List ℕ) (g : Walks L X (particle· t mode d i) c N r M) where
       pub rounds-stop : (m at : ℕ) → r ≡ Refuse m at → Walked L X o₀ c₀ N₀ r M
       rounds-stop m at w = leads-stop L X o₀ c₀ N₀ (leftR j i c) c N l _ _ (rounds-next j i c h) r M g m at w
 
-      pub rounds-again : (e : Cursor) → r ≡ Go e → Leads L X o₀ c₀ N₀ (leftR (j + 1) (i + step) e) e M
+      pub rounds-again : (e : Spot) → r ≡ Go e → Leads L X o₀ c₀ N₀ (leftR (j + 1) (i + step) e) e M
       rounds-again e w = leads-go L X o₀ c₀ N₀ (leftR j i c) c N l _ _ (rounds-next j i c h) r M g e w _ refl
 
 module _ (t : List ℕ) (first step n : ℕ) (w : Within t first step n) (j i : ℕ) (e : i ≡ first + step * j) where

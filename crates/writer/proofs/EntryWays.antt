@@ -19,9 +19,9 @@ use Rattle.model.specs.Pack.{pack}
 use Rattle.model.specs.Entries.{planOf, listOf}
 use Rattle.model.proofs.Entries.{writing-entered}
 use Rattle.model.specs.Whole.{Made, made, unmade, modeByte, declines, filled, outcomeMade, payloadLeft, eventsFrom, roomed, spent, written, writing}
-use Rattle.writer_parts.specs.declared.Cursor.{Cursor}
-use Rattle.writer_parts.specs.declared.Step.{Step}
-use Rattle.writer_parts.specs.declared.Step.the-variants.{Go, Refuse}
+use Rattle.writer_parts.specs.declared.Spot.{Spot}
+use Rattle.writer_parts.specs.declared.Judgement.{Judgement}
+use Rattle.writer_parts.specs.declared.Judgement.the-variants.{Go, Refuse}
 use Rattle.writer_parts.specs.Notes.{spells, modeIs}
 use Rattle.writer_parts.specs.Walk.{eventsIn, eventsAt, textsAt, between, Ready, Walked, Walks}
 use Rattle.writer_parts.proofs.WalkLaws.{went, stopped, events-count}
@@ -35,7 +35,7 @@ use Rattle.writer.specs.Front.{Fine, Fronted, Whole, ends, Settled}
 use Rattle.writer.specs.Cleared.{Zeros}
 
 -- finish
-module _ (L X N : List ℕ) (mode : ℕ) (c : Cursor) (s : List ℕ) (bits : c .bits ≡ length (between X N origin c)) (f : faultT.Fault) (h : Settled L X c (length s) f) where
+module _ (L X N : List ℕ) (mode : ℕ) (c : Spot) (s : List ℕ) (bits : c .bits ≡ length (between X N origin c)) (f : faultT.Fault) (h : Settled L X c (length s) f) where
   pub finish-refused : (n p : ℕ) → f ≡ fv.At n p → Zeros s → (a : code.Answer) → answerIs a ≡ declines n p []
       → Writes (ends L X c (length s) (modeIs mode) (between X N origin c)) mode (eventsIn L) (length X) (length s) a s
   finish-refused n p w z a e = unmade-writes _ mode (eventsIn L) (length X) (length s) n p a s (refused-so (between X N origin c) bits) e (z .is)
@@ -65,16 +65,16 @@ module _ (L X N : List ℕ) (mode : ℕ) (c : Cursor) (s : List ℕ) (bits : c .
         let u = whole .spent-all in
         record { answer = rw z (g ∙ (λ j. says mode (o j) (u j) (8 + bits j))); left = rw (z, same) e }
 
-pub finish-place : (L X N : List ℕ) (c : Cursor) → Ready L X N c → FitsIn w32 (c .event)
+pub finish-place : (L X N : List ℕ) (c : Spot) → Ready L X N c → FitsIn w32 (c .event)
 finish-place L X N c r = let i = r .inside in let d = r .few in record { fits = omega arith }
 
-pub finish-used : (L X N : List ℕ) (c : Cursor) → Ready L X N c → FitsIn w32 (c .used)
+pub finish-used : (L X N : List ℕ) (c : Spot) → Ready L X N c → FitsIn w32 (c .used)
 finish-used L X N c r = let i = r .inside in let d = r .few in let s = r .short in record { fits = omega arith }
 
-pub finish-bits : (L X N : List ℕ) (c : Cursor) → Ready L X N c → FitsIn w32 (8 + c .bits)
+pub finish-bits : (L X N : List ℕ) (c : Spot) → Ready L X N c → FitsIn w32 (8 + c .bits)
 finish-bits L X N c r = let i = r .inside in let d = r .few in let s = r .small in record { fits = omega arith }
 
-pub finish-room : (L X N : List ℕ) (c : Cursor) → Ready L X N c → 4 * c .event ≤ length N
+pub finish-room : (L X N : List ℕ) (c : Spot) → Ready L X N c → 4 * c .event ≤ length N
 finish-room L X N c r = let i = r .inside in let d = r .sized in omega arith
 
 pub ruleset finish-ways = (finish-refused, finish-fits, finish-short, finish-done, finish-place, finish-used, finish-bits, finish-room)
@@ -117,7 +117,7 @@ module _ (t : List ℕ) (name ty mode : ℕ) (L X : List ℕ) (room : ℕ) (fine
   unfolding written
   walked = let g = fine in writing-entered t name ty mode L X room (modeIs mode) (g .enters) (g .mode-is) (g .shape) ∙ rw (root, count)
 
-  module _ (N : List ℕ) (r : Step) (M : List ℕ) (g : Walks L X (element· t mode 63 name ty) origin N r M) where
+  module _ (N : List ℕ) (r : Judgement) (M : List ℕ) (g : Walks L X (element· t mode 63 name ty) origin N r M) where
     pub write-stopped : (n p : ℕ) → r ≡ Refuse n p → (a : code.Answer) → answerIs a ≡ declines n p [] → (P : List ℕ) → P ≡ replicate room 0
         → Writes (writing t name ty mode L X room) mode (eventsIn L) (length X) room a P
     unfolding spent
@@ -127,7 +127,7 @@ module _ (t : List ℕ) (name ty mode : ℕ) (L X : List ℕ) (room : ℕ) (fine
         let back : eventsIn L - (eventsIn L - p) ≡ p = omega arith in
         unmade-writes _ mode (eventsIn L) (length X) room n p a P (walked ∙ rw (k .out, back)) e z
 
-    module _ (c : Cursor) (y : r ≡ Go c) where
+    module _ (c : Spot) (y : r ≡ Go c) where
       pub write-done : (same : ℕ) → same ≡ room → (a : code.Answer) (P : List ℕ) → Writes (ends L X c same (modeIs mode) (between X M origin c)) mode (eventsIn L) (length X) same a P
           → Writes (writing t name ty mode L X room) mode (eventsIn L) (length X) room a P
       write-done same e a P v =
@@ -139,7 +139,7 @@ module _ (t : List ℕ) (name ty mode : ℕ) (L X : List ℕ) (room : ℕ) (fine
 pub write-mode : (t : List ℕ) (name ty mode : ℕ) (L : List ℕ) → Fine t name ty mode L → mode ≤ 2
 write-mode t name ty mode L h = h .mode-small
 
-module _ (L X : List ℕ) (o : Out) (N : List ℕ) (r : Step) (M : List ℕ) (g : Walked L X o origin N r M) (c : Cursor) (y : r ≡ Go c) where
+module _ (L X : List ℕ) (o : Out) (N : List ℕ) (r : Judgement) (M : List ℕ) (g : Walked L X o origin N r M) (c : Spot) (y : r ≡ Go c) where
   pub write-bits : c .bits ≡ length (between X M origin c)
   write-bits = let k = went g c y .counts in k ∙ omega arith
 

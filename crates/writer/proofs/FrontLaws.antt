@@ -23,7 +23,7 @@ use Rattle.table.specs.declared.answers.Verdict.the-variants as vv
 use Rattle.model.specs.Items.{Mode}
 use Rattle.model.proofs.Entries.{asked-then}
 use Rattle.model.specs.Whole.{unmade, asked, modeAsked, roomed, spent, shaped, orUnmade, verdictMade, writing}
-use Rattle.writer_parts.specs.declared.Cursor.{Cursor}
+use Rattle.writer_parts.specs.declared.Spot.{Spot}
 use Rattle.writer_parts.specs.Notes.{modeIs}
 use Rattle.writer_parts.specs.Walk.{eventsIn, eventsAt, textsAt}
 use Rattle.writer_parts.proofs.WalkLaws.{events-next, events-none, events-count}
@@ -96,7 +96,7 @@ pub ruleset checked-ways = (front-type, front-name, front-mode, front-parts, fro
 
 pub ruleset asked-ways = (front-wrong, front-right)
 
-module _ (L X : List ℕ) (c : Cursor) (room : ℕ) where
+module _ (L X : List ℕ) (c : Spot) (room : ℕ) where
   module _ (h : c .event < eventsIn L) (k : ℕ) (e : k ≡ getD L (4 * c .event) 0) where
     left-one : (w : List ℕ) (m : Mode) → ends L X c room m w ≡ unmade (cond (eqb k 7) 19 18) (c .event)
     unfolding spent

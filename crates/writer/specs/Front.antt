@@ -10,7 +10,7 @@ use Rattle.model.specs.Write.{wrote}
 use Rattle.model.specs.Pack.{pack}
 use Rattle.model.specs.Entries.{Entered, Shaped}
 use Rattle.model.specs.Whole.{Made, made, unmade, modeByte, modeAsked, roomed, spent, writing}
-use Rattle.writer_parts.specs.declared.Cursor.{Cursor}
+use Rattle.writer_parts.specs.declared.Spot.{Spot}
 use Rattle.writer_parts.specs.Notes.{modeIs}
 use Rattle.writer_parts.specs.Walk.{eventsIn, eventsAt, textsAt}
 use Rattle.writer.specs.declared.front.Fault as faultT
@@ -31,18 +31,18 @@ pub record Fronted (t : List ℕ) (name ty mode : ℕ) (L : List ℕ) (r : fault
   pub is : FrontIs t name ty mode L r
 
 -- after the walk, which gave the bits w
-abbrev pub ends : List ℕ → List ℕ → Cursor → ℕ → Mode → List ℕ → Made
+abbrev pub ends : List ℕ → List ℕ → Spot → ℕ → Mode → List ℕ → Made
 ends L X c room m w = spent (eventsIn L) (wrote w (eventsAt L (c .event)) (textsAt X (c .used))) (roomed room m)
 
-pub record Whole (L X : List ℕ) (c : Cursor) (room : ℕ) : Type 0 where
+pub record Whole (L X : List ℕ) (c : Spot) (room : ℕ) : Type 0 where
   pub over : c .event ≡ eventsIn L
   pub spent-all : c .used ≡ length X
   pub fits : 1 + (c .bits + 7) / 8 ≤ min room mostPayload
   pub gives : (w : List ℕ) (m : Mode) → c .bits ≡ length w → ends L X c room m w ≡ made (modeByte m ∷ pack w) (8 + length w)
 
-abbrev pub SettledIs : List ℕ → List ℕ → Cursor → ℕ → faultT.Fault → Type 0
+abbrev pub SettledIs : List ℕ → List ℕ → Spot → ℕ → faultT.Fault → Type 0
 SettledIs L X c room fv.No = Whole L X c room
 SettledIs L X c room (fv.At n p) = (w : List ℕ) (m : Mode) → c .bits ≡ length w → ends L X c room m w ≡ unmade n p
 
-pub record Settled (L X : List ℕ) (c : Cursor) (room : ℕ) (r : faultT.Fault) : Type 0 where
+pub record Settled (L X : List ℕ) (c : Spot) (room : ℕ) (r : faultT.Fault) : Type 0 where
   pub is : SettledIs L X c room r

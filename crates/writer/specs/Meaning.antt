@@ -13,8 +13,8 @@ use Rattle.table.specs.Rows.{Attribute, tableOf, heldOf}
 use Rattle.model.specs.Model.Item.{required, optional, valued, picked, counted}
 use Rattle.model.specs.Write.{Bare, Out, wrote, along, flagIn, elementOut}
 use Rattle.model.specs.WriteSteps.{itemThen, particleOut, roundsOut, contentOut, insideOut}
-use Rattle.writer_parts.specs.declared.Step.{Step}
-use Rattle.writer_parts.specs.declared.Step.the-variants.{Refuse}
+use Rattle.writer_parts.specs.declared.Judgement.{Judgement}
+use Rattle.writer_parts.specs.declared.Judgement.the-variants.{Refuse}
 use Rattle.writer_parts.specs.Notes.{modeIs}
 use Rattle.writer_parts.specs.Walk.{eventsIn, alone}
 
@@ -48,7 +48,7 @@ unfoldable pub flagFor : ℕ → ℕ → ℕ
 flagFor mode q = flagIn (modeIs mode) q
 
 -- too deep, or no reading where no event is left
-unfoldable pub deepAt : List ℕ → ℕ → Step
+unfoldable pub deepAt : List ℕ → ℕ → Judgement
 deepAt L i = cond (ltb i (eventsIn L)) (Refuse refusal.depth i) (Refuse noReading i)
 
 module _ (t : List ℕ) (mode d : ℕ) where

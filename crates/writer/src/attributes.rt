@@ -5,10 +5,10 @@ use table::rows::attribute;
 use table::rows::word;
 use value::Code;
 use value::Inner;
-use writer_parts::Cursor;
-use writer_parts::Step;
-use writer_parts::leaves::coded;
+use writer_parts::Judgement;
+use writer_parts::Spot;
 use writer_parts::leaves::mark;
+use writer_parts::leaves::note_code;
 ghost use mathlib.Core.Path.{_≡_};
 ghost use Prim.Native.Nat.{_+_, _<_, min};
 ghost use Rattle.table.specs.Rows.{attributeOf, attributesFrom};
@@ -20,17 +20,17 @@ pub fn required(
     events: &[u32],
     texts: &[u8],
     notes: &mut [u32],
-    c: Cursor,
+    c: Spot,
     name: u32,
     simple: u32,
     x: u32,
     y: u32,
-) -> Step
+) -> Judgement
     requires { ⌜ Ready (now events) (now texts) (now notes) c ⌝ }
     ensures { λ r. ⌜ Walks (now (events .entry)) (now (texts .entry)) (required· name simple x y) c (now (notes .entry)) r (now (notes .exit)) ⌝ }
 {
     let r = mark(events, texts, notes, c, kind::ATTRIBUTE, name, 1);
-    let Step::Go(e) = r else {
+    let Judgement::Go(e) = r else {
         return r;
     };
     value(events, texts, notes, e, simple, x, y)
@@ -47,20 +47,20 @@ pub fn optional(
     events: &[u32],
     texts: &[u8],
     notes: &mut [u32],
-    c: Cursor,
+    c: Spot,
     name: u32,
     simple: u32,
     x: u32,
     y: u32,
-) -> Step
+) -> Judgement
     requires { ⌜ Ready (now events) (now texts) (now notes) c ⌝ }
     ensures { λ r. ⌜ Walks (now (events .entry)) (now (texts .entry)) (optional· name simple x y) c (now (notes .entry)) r (now (notes .exit)) ⌝ }
 {
     let i = c.event;
     let q = flag(word(events, 4 * i + 2));
     let code = Code::Plain(Inner::Choice(2));
-    let r = coded(events, texts, notes, c, kind::ATTRIBUTE, name, q, code, q);
-    let Step::Go(e) = r else {
+    let r = note_code(events, texts, notes, c, kind::ATTRIBUTE, name, q, code, q);
+    let Judgement::Go(e) = r else {
         return r;
     };
     if q == 0 {
@@ -75,9 +75,9 @@ pub fn one(
     events: &[u32],
     texts: &[u8],
     notes: &mut [u32],
-    c: Cursor,
+    c: Spot,
     i: u32,
-) -> Step
+) -> Judgement
     requires { ⌜ Ready (now events) (now texts) (now notes) c ⌝ }
     ensures { λ r. ⌜ Walks (now (events .entry)) (now (texts .entry)) (attribute· (attributeOf (now (table .entry)) i)) c (now (notes .entry)) r (now (notes .exit)) ⌝ }
 {
@@ -98,10 +98,10 @@ pub fn all(
     events: &[u32],
     texts: &[u8],
     notes: &mut [u32],
-    c: Cursor,
+    c: Spot,
     first: u32,
     n: u32,
-) -> Step
+) -> Judgement
     requires { ⌜ (Ready (now events) (now texts) (now notes) c) × (first + n < 4294967296) ⌝ }
     ensures { λ r. ⌜ Walks (now (events .entry)) (now (texts .entry)) (attributes· (attributesFrom (now (table .entry)) n first)) c (now (notes .entry)) r (now (notes .exit)) ⌝ }
 {
@@ -109,11 +109,11 @@ pub fn all(
     let mut i: u32 = 0;
     while i < n {
         let r = one(table, events, texts, notes, cursor, first + i);
-        let Step::Go(e) = r else {
+        let Judgement::Go(e) = r else {
             return r;
         };
         cursor = e;
         i += 1;
     }
-    Step::Go(cursor)
+    Judgement::Go(cursor)
 }

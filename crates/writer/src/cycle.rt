@@ -7,8 +7,8 @@ use numbers::refusal;
 use table::Content;
 use table::Particle;
 use table::rows;
-use writer_parts::Cursor;
-use writer_parts::Step;
+use writer_parts::Judgement;
+use writer_parts::Spot;
 use writer_parts::leaves::close;
 use writer_parts::leaves::unlike;
 ghost use mathlib.Core.Path.{_≡_};
@@ -42,10 +42,10 @@ pub fn element(
     notes: &mut [u32],
     mode: u32,
     depth: u32,
-    c: Cursor,
+    c: Spot,
     name: u32,
     t: u32,
-) -> Step
+) -> Judgement
     requires { ⌜ (Ready (now events) (now texts) (now notes) c) × (Right (now table)) × (t < typesIn (now table)) × (depth ≤ mostOpen) ⌝ }
     ensures { λ r. ⌜ Walks (now (events .entry)) (now (texts .entry)) (element· (now (table .entry)) mode depth name t) c (now (notes .entry)) r (now (notes .exit)) ⌝ }
 {
@@ -53,19 +53,19 @@ pub fn element(
     let q = flag_in(mode, rows::word(events, 4 * at + 2));
     let bad = unlike(events, at, kind::START, name, q);
     if 0 < bad {
-        return Step::Refuse(bad, at);
+        return Judgement::Refuse(bad, at);
     }
     let held = rows::held(table, t);
     if !held {
-        return Step::Refuse(refusal::NOT_HELD, at);
+        return Judgement::Refuse(refusal::NOT_HELD, at);
     }
-    let o = Cursor {
+    let o = Spot {
         event: at + 1,
         used: c.used,
         bits: c.bits,
     };
     let r = inside(table, events, texts, notes, mode, depth, o, t);
-    let Step::Go(e) = r else {
+    let Judgement::Go(e) = r else {
         return r;
     };
     close(events, texts, notes, mode, q, c, e)
@@ -79,9 +79,9 @@ pub fn inside(
     notes: &mut [u32],
     mode: u32,
     depth: u32,
-    c: Cursor,
+    c: Spot,
     t: u32,
-) -> Step
+) -> Judgement
     requires { ⌜ (Ready (now events) (now texts) (now notes) c) × (Right (now table)) × (t < typesIn (now table)) × (depth ≤ mostOpen) ⌝ }
     ensures { λ r. ⌜ Walks (now (events .entry)) (now (texts .entry)) (inside· (now (table .entry)) mode depth t) c (now (notes .entry)) r (now (notes .exit)) ⌝ }
 {
@@ -89,7 +89,7 @@ pub fn inside(
     let first = s.first;
     let n = s.count;
     let r = attributes::all(table, events, texts, notes, c, first, n);
-    let Step::Go(e) = r else {
+    let Judgement::Go(e) = r else {
         return r;
     };
     content(table, events, texts, notes, mode, depth, e, t)
@@ -103,27 +103,27 @@ pub fn content(
     notes: &mut [u32],
     mode: u32,
     depth: u32,
-    c: Cursor,
+    c: Spot,
     t: u32,
-) -> Step
+) -> Judgement
     requires { ⌜ (Ready (now events) (now texts) (now notes) c) × (Right (now table)) × (t < typesIn (now table)) × (depth ≤ mostOpen) ⌝ }
     ensures { λ r. ⌜ Walks (now (events .entry)) (now (texts .entry)) (content· (now (table .entry)) mode depth t) c (now (notes .entry)) r (now (notes .exit)) ⌝ }
 {
     match rows::content(table, t) {
-        Content::Empty => Step::Go(c),
+        Content::Empty => Judgement::Go(c),
         Content::Simple(simple, x, y) => values::value(events, texts, notes, c, simple, x, y),
         Content::Particles(i) => particle(table, events, texts, notes, mode, depth, c, i),
     }
 }
 
 // DEPTH, where an event is left.
-fn too_deep(events: &[u32], at: usize) -> Step
+fn too_deep(events: &[u32], at: usize) -> Judgement
     ensures { λ r. ⌜ r ≡ deepAt (now (events .entry)) at ⌝ }
 {
     if at < events.len() / 4 {
-        return Step::Refuse(refusal::DEPTH, at);
+        return Judgement::Refuse(refusal::DEPTH, at);
     }
-    Step::Refuse(refusal::NO_READING, at)
+    Judgement::Refuse(refusal::NO_READING, at)
 }
 
 // The particle row i, where one may still be opened.
@@ -134,9 +134,9 @@ pub fn particle(
     notes: &mut [u32],
     mode: u32,
     depth: u32,
-    c: Cursor,
+    c: Spot,
     i: u32,
-) -> Step
+) -> Judgement
     requires { ⌜ (Ready (now events) (now texts) (now notes) c) × (Right (now table)) × (i < particlesIn (now table)) × (depth ≤ mostOpen) ⌝ }
     ensures { λ r. ⌜ Walks (now (events .entry)) (now (texts .entry)) (particle· (now (table .entry)) mode depth i) c (now (notes .entry)) r (now (notes .exit)) ⌝ }
 {
@@ -173,17 +173,17 @@ pub fn choose(
     notes: &mut [u32],
     mode: u32,
     depth: u32,
-    c: Cursor,
+    c: Spot,
     first: u32,
     n: u32,
-) -> Step
+) -> Judgement
     requires { ⌜ (Ready (now events) (now texts) (now notes) c) × (Right (now table)) × (first + n ≤ particlesIn (now table)) × (depth ≤ mostOpen) ⌝ }
     ensures { λ r. ⌜ Walks (now (events .entry)) (now (texts .entry)) (choose· (now (table .entry)) mode depth first n) c (now (notes .entry)) r (now (notes .exit)) ⌝ }
 {
     let at = c.event;
     let v = rows::word(events, 4 * at + 1);
     let r = values::pick(events, texts, notes, c, n, v);
-    let Step::Go(e) = r else {
+    let Judgement::Go(e) = r else {
         return r;
     };
     particle(table, events, texts, notes, mode, depth, e, first + v)
@@ -197,18 +197,18 @@ pub fn occur(
     notes: &mut [u32],
     mode: u32,
     depth: u32,
-    c: Cursor,
+    c: Spot,
     child: u32,
     least: u32,
     most: u32,
-) -> Step
+) -> Judgement
     requires { ⌜ (Ready (now events) (now texts) (now notes) c) × (Right (now table)) × (child < particlesIn (now table)) × (depth ≤ mostOpen) ⌝ }
     ensures { λ r. ⌜ Walks (now (events .entry)) (now (texts .entry)) (occur· (now (table .entry)) mode depth child least most) c (now (notes .entry)) r (now (notes .exit)) ⌝ }
 {
     let at = c.event;
     let v = rows::word(events, 4 * at + 1);
     let r = values::count(events, texts, notes, c, least, most, v);
-    let Step::Go(e) = r else {
+    let Judgement::Go(e) = r else {
         return r;
     };
     rounds(table, events, texts, notes, mode, depth, e, child, 0, v)
@@ -222,11 +222,11 @@ pub fn rounds(
     notes: &mut [u32],
     mode: u32,
     depth: u32,
-    c: Cursor,
+    c: Spot,
     first: u32,
     step: u32,
     n: u32,
-) -> Step
+) -> Judgement
     requires { ⌜ (Ready (now events) (now texts) (now notes) c) × (Right (now table)) × (Within (now table) first step n) × (depth ≤ mostOpen) ⌝ }
     ensures { λ r. ⌜ Walks (now (events .entry)) (now (texts .entry)) (rounds· (now (table .entry)) mode depth first step n) c (now (notes .entry)) r (now (notes .exit)) ⌝ }
 {
@@ -235,12 +235,12 @@ pub fn rounds(
     let mut j: u32 = 0;
     while j < n {
         let r = particle(table, events, texts, notes, mode, depth, cursor, i);
-        let Step::Go(e) = r else {
+        let Judgement::Go(e) = r else {
             return r;
         };
         cursor = e;
         i += step;
         j += 1;
     }
-    Step::Go(cursor)
+    Judgement::Go(cursor)
 }

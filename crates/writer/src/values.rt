@@ -5,10 +5,10 @@ use value::Code;
 use value::Form;
 use value::Inner;
 use value::forms;
-use writer_parts::Cursor;
-use writer_parts::Step;
-use writer_parts::leaves::coded;
-use writer_parts::leaves::text_value;
+use writer_parts::Judgement;
+use writer_parts::Spot;
+use writer_parts::leaves::note_code;
+use writer_parts::leaves::note_text;
 ghost use mathlib.Core.Path.{_≡_};
 ghost use Prim.Native.Nat.{_+_, _*_};
 ghost use lib.ListN.{getD};
@@ -20,29 +20,29 @@ pub fn value(
     events: &[u32],
     texts: &[u8],
     notes: &mut [u32],
-    c: Cursor,
+    c: Spot,
     simple: u32,
     x: u32,
     y: u32,
-) -> Step
+) -> Judgement
     requires { ⌜ Ready (now events) (now texts) (now notes) c ⌝ }
     ensures { λ r. ⌜ Walks (now (events .entry)) (now (texts .entry)) (alone (valued simple x y)) c (now (notes .entry)) r (now (notes .exit)) ⌝ }
 {
     let i = c.event;
     let v = word(events, 4 * i + 1);
     match forms::simple(simple, x, y) {
-        Form::Number(code) => coded(events, texts, notes, c, kind::VALUE, v, 0, code, v),
-        Form::Text => text_value(events, texts, notes, c, v),
+        Form::Number(code) => note_code(events, texts, notes, c, kind::VALUE, v, 0, code, v),
+        Form::Text => note_text(events, texts, notes, c, v),
     }
 }
 
 // A branch v of a choice.
-pub fn pick(events: &[u32], texts: &[u8], notes: &mut [u32], c: Cursor, n: u32, v: u32) -> Step
+pub fn pick(events: &[u32], texts: &[u8], notes: &mut [u32], c: Spot, n: u32, v: u32) -> Judgement
     requires { ⌜ (Ready (now events) (now texts) (now notes) c) × (v ≡ getD (now events) (4 * c .event + 1) 0) ⌝ }
     ensures { λ r. ⌜ Walks (now (events .entry)) (now (texts .entry)) (alone (picked n)) c (now (notes .entry)) r (now (notes .exit)) ⌝ }
 {
     let code = Code::Plain(Inner::Choice(n));
-    coded(events, texts, notes, c, kind::PICK, v, 0, code, v)
+    note_code(events, texts, notes, c, kind::PICK, v, 0, code, v)
 }
 
 // A count v of an occurs row.
@@ -50,14 +50,14 @@ pub fn count(
     events: &[u32],
     texts: &[u8],
     notes: &mut [u32],
-    c: Cursor,
+    c: Spot,
     least: u32,
     most: u32,
     v: u32,
-) -> Step
+) -> Judgement
     requires { ⌜ (Ready (now events) (now texts) (now notes) c) × (v ≡ getD (now events) (4 * c .event + 1) 0) ⌝ }
     ensures { λ r. ⌜ Walks (now (events .entry)) (now (texts .entry)) (alone (counted least most)) c (now (notes .entry)) r (now (notes .exit)) ⌝ }
 {
     let code = forms::times(least, most);
-    coded(events, texts, notes, c, kind::TIMES, v, 0, code, v)
+    note_code(events, texts, notes, c, kind::TIMES, v, 0, code, v)
 }

@@ -1,8 +1,8 @@
 -- What the walk came to: a refusal, or what `finish` says of it.
 use Rattle.writer.proofs.EntryWays.{write-ways, write-on, write-bits, write-mode, write-stopped, write-done}
 use borrow.Author.Needs.{needs}
-use Rattle.writer.proofs.noted.Statement.{statement}
-use Rattle.writer.proofs.noted.Tie as tie
+use Rattle.writer.proofs.write_with_notes.Statement.{statement}
+use Rattle.writer.proofs.write_with_notes.Tie as tie
 
 element-requires : tie.Need-element-requires
 element-requires c κs = search (needs, write-ways)
@@ -47,8 +47,8 @@ returns-2 c =
     let entry = at-element .before .before .before .before .before .before .before in
     search (write-done, entry .pre .0, at-element .element .ensures, at-r2 .r2 .given .1, at-finish .finish .ensures)
 
-pub noted-spec : {M : Type 1} → statement M
-noted-spec =
+pub write-with-notes-spec : {M : Type 1} → statement M
+write-with-notes-spec =
     tie.close
     (tie.spec
     element-requires

@@ -16,8 +16,8 @@ word-requires c κs = search (needs, optional-ways)
 flag-requires : tie.Need-flag-requires
 flag-requires c κs = search (needs, optional-ways)
 
-coded-requires : tie.Need-coded-requires
-coded-requires c κs = search (needs, optional-ways)
+note-code-requires : tie.Need-note-code-requires
+note-code-requires c κs = search (needs, optional-ways)
 
 enum-known-r : tie.Need-enum-known-r
 enum-known-r c = search needs
@@ -40,7 +40,7 @@ returns-2 c =
     let at-coded = at-r .before .before .before .before in
     let at-flag = at-coded .before .before in
     let at-word = at-flag .before in
-    search (optional-absent, at-word .word .ensures, at-flag .flag .ensures, at-coded .coded .ensures, at-r .r .given .1, c .if1 .taken)
+    search (optional-absent, at-word .word .ensures, at-flag .flag .ensures, at-coded .note-code .ensures, at-r .r .given .1, c .if1 .taken)
 
 value-requires : tie.Need-value-requires
 value-requires c κs = search (needs, optional-ways)
@@ -59,7 +59,7 @@ optional-spec =
     add-word
     word-requires
     flag-requires
-    coded-requires
+    note-code-requires
     enum-known-r
     enum-told
     same-length

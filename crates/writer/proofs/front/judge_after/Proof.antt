@@ -1,8 +1,8 @@
 -- By the first thing left over, then the room.
 use Rattle.writer.proofs.FrontLaws.{settled-ways}
 use borrow.Author.Needs.{needs}
-use Rattle.writer.proofs.front.settled.Statement.{statement}
-use Rattle.writer.proofs.front.settled.Tie as tie
+use Rattle.writer.proofs.front.judge_after.Statement.{statement}
+use Rattle.writer.proofs.front.judge_after.Tie as tie
 
 mul-word : tie.Need-mul-word
 mul-word c = search (needs, settled-ways)
@@ -37,8 +37,8 @@ returns-5 c = search (needs, settled-ways)
 returns-6 : tie.Need-returns-6
 returns-6 c = search (needs, settled-ways)
 
-pub settled-spec : {M : Type 1} → statement M
-settled-spec =
+pub judge-after-spec : {M : Type 1} → statement M
+judge-after-spec =
     tie.close
     (tie.spec
     mul-word

@@ -1,8 +1,8 @@
 -- By the table's verdict.
 use Rattle.writer.proofs.FrontLaws.{asked-ways}
 use borrow.Author.Needs.{needs}
-use Rattle.writer.proofs.front.asked.Statement.{statement}
-use Rattle.writer.proofs.front.asked.Tie as tie
+use Rattle.writer.proofs.front.judge_before.Statement.{statement}
+use Rattle.writer.proofs.front.judge_before.Tie as tie
 
 check-requires : tie.Need-check-requires
 check-requires c κs = search (needs, asked-ways)
@@ -13,8 +13,8 @@ enum-known-v c = search needs
 enum-told : tie.Need-enum-told
 enum-told c = search needs
 
-checked-requires : tie.Need-checked-requires
-checked-requires c κs = search (needs, asked-ways)
+judge-checked-requires : tie.Need-judge-checked-requires
+judge-checked-requires c κs = search (needs, asked-ways)
 
 returns : tie.Need-returns
 returns c = search (needs, asked-ways)
@@ -22,6 +22,6 @@ returns c = search (needs, asked-ways)
 returns-2 : tie.Need-returns-2
 returns-2 c = search (needs, asked-ways)
 
-pub asked-spec : {M : Type 1} → statement M
-asked-spec =
-    tie.close (tie.spec check-requires enum-known-v enum-told checked-requires returns returns-2)
+pub judge-before-spec : {M : Type 1} → statement M
+judge-before-spec =
+    tie.close (tie.spec check-requires enum-known-v enum-told judge-checked-requires returns returns-2)

@@ -7,8 +7,8 @@ use Rattle.writer.proofs.values.count.Tie as tie
 times-requires : tie.Need-times-requires
 times-requires c κs = search (needs, counted-way)
 
-coded-requires : tie.Need-coded-requires
-coded-requires c κs = search (needs, counted-way)
+note-code-requires : tie.Need-note-code-requires
+note-code-requires c κs = search (needs, counted-way)
 
 same-length : tie.Need-same-length
 same-length c = search needs
@@ -17,4 +17,4 @@ returns : tie.Need-returns
 returns c = search (needs, counted-way)
 
 pub count-spec : {M : Type 1} → statement M
-count-spec = tie.close (tie.spec times-requires coded-requires same-length returns)
+count-spec = tie.close (tie.spec times-requires note-code-requires same-length returns)

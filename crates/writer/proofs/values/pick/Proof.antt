@@ -4,8 +4,8 @@ use borrow.Author.Needs.{needs}
 use Rattle.writer.proofs.values.pick.Statement.{statement}
 use Rattle.writer.proofs.values.pick.Tie as tie
 
-coded-requires : tie.Need-coded-requires
-coded-requires c κs = search (needs, picked-way)
+note-code-requires : tie.Need-note-code-requires
+note-code-requires c κs = search (needs, picked-way)
 
 same-length : tie.Need-same-length
 same-length c = search needs
@@ -14,4 +14,4 @@ returns : tie.Need-returns
 returns c = search (needs, picked-way)
 
 pub pick-spec : {M : Type 1} → statement M
-pick-spec = tie.close (tie.spec coded-requires same-length returns)
+pick-spec = tie.close (tie.spec note-code-requires same-length returns)

@@ -19,14 +19,14 @@ simple-requires c κs = search (needs, value-ways)
 enum-known-code : tie.Need-enum-known-code
 enum-known-code c = search needs
 
-coded-requires : tie.Need-coded-requires
-coded-requires c κs = search (needs, value-ways)
+note-code-requires : tie.Need-note-code-requires
+note-code-requires c κs = search (needs, value-ways)
 
 enum-told : tie.Need-enum-told
 enum-told c = search needs
 
-text-value-requires : tie.Need-text-value-requires
-text-value-requires c κs = search (needs, value-ways)
+note-text-requires : tie.Need-note-text-requires
+note-text-requires c κs = search (needs, value-ways)
 
 same-length : tie.Need-same-length
 same-length c = search needs
@@ -49,9 +49,9 @@ value-spec =
     word-requires
     simple-requires
     enum-known-code
-    coded-requires
+    note-code-requires
     enum-told
-    text-value-requires
+    note-text-requires
     same-length
     returns
     same-length-2

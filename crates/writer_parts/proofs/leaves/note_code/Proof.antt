@@ -1,8 +1,8 @@
 -- An event that is like, and its value, sized and noted.
 use Rattle.writer_parts.proofs.LeafWays.{coded-ways, coded-go}
 use borrow.Author.Needs.{needs}
-use Rattle.writer_parts.proofs.leaves.coded.Statement.{statement}
-use Rattle.writer_parts.proofs.leaves.coded.Tie as tie
+use Rattle.writer_parts.proofs.leaves.note_code.Statement.{statement}
+use Rattle.writer_parts.proofs.leaves.note_code.Tie as tie
 
 unlike-requires : tie.Need-unlike-requires
 unlike-requires c κs = search (needs, coded-ways)
@@ -48,8 +48,8 @@ returns-3 c =
     let entry = at-unlike .before .before .before .before in
     search (coded-go, entry .pre, at-unlike .unlike .ensures, at-if1 .if1 .left, at-size .size .ensures .0, at-size .size .ensures .1, at-n .n .given .1, at-number .number .ensures, at-keep .keep .ensures)
 
-pub coded-spec : {M : Type 1} → statement M
-coded-spec =
+pub note-code-spec : {M : Type 1} → statement M
+note-code-spec =
     tie.close
     (tie.spec
     unlike-requires

@@ -1,8 +1,8 @@
 -- An event that is like, and its text, tested and noted.
 use Rattle.writer_parts.proofs.LeafWays.{text-ways, text-go}
 use borrow.Author.Needs.{needs}
-use Rattle.writer_parts.proofs.leaves.text_value.Statement.{statement}
-use Rattle.writer_parts.proofs.leaves.text_value.Tie as tie
+use Rattle.writer_parts.proofs.leaves.note_text.Statement.{statement}
+use Rattle.writer_parts.proofs.leaves.note_text.Tie as tie
 
 unlike-requires : tie.Need-unlike-requires
 unlike-requires c κs = search (needs, text-ways)
@@ -58,8 +58,8 @@ returns-3 c =
     let entry = at-unlike .before .before .before .before in
     search (needs, text-go, entry .pre, at-unlike .unlike .ensures, at-if1 .if1 .left, at-text-fault .text-fault .ensures, at-if2 .if2 .left, at-size5 .size5 .ensures, at-text-note .text-note .ensures, at-keep .keep .ensures)
 
-pub text-value-spec : {M : Type 1} → statement M
-text-value-spec =
+pub note-text-spec : {M : Type 1} → statement M
+note-text-spec =
     tie.close
     (tie.spec
     unlike-requires
