@@ -37,10 +37,10 @@ use Rattle.wire.proofs.Bits as P
 use Rattle.bit_reader.proofs.BitReader as T
 use Rattle.bit_reader.proofs.BitReader.Laws as T′
 use Rattle.bit_reader.proofs.Held as held
-use Rattle.bit_reader.proofs.moved.Key.{name as #bit-reader·moved}
-use Rattle.bit_reader.proofs.moved as moved
-use Rattle.bit_reader.proofs.moved.Statement as stated
-use Rattle.bit_reader.proofs.moved.Code as code
+use Rattle.bit_reader.proofs.move_to.Key.{name as #bit-reader·moved}
+use Rattle.bit_reader.proofs.move_to as moved
+use Rattle.bit_reader.proofs.move_to.Statement as stated
+use Rattle.bit_reader.proofs.move_to.Code as code
 
 -- the struct's type, over the signature's lifetimes
 abbrev B : Lfts 1 → RattleType
@@ -92,9 +92,9 @@ moved-meets : {M : Type 1} (𝓤 : URA M) (H : Heap 𝓤) (A : Atoms 𝓤) → G
     → Meets 𝓤 H A moved.signature (WpFn 𝓤 H (𝓣 .C) (𝓣 .Λ) code.function) (moved.spec 𝓤 H A mem run)
 moved-meets 𝓤 H A W mem run 𝓣 = walk-meets 𝓤 H A moved.ended stayed W (goes-none 𝓤 H A W 1 B yes (λ κs x f. refl), (goes-none 𝓤 H A W 1 (λ _. P.the-row) yes (λ κs x f. refl), tt)) (moved.clauses 𝓤 H A mem run) (WpFn 𝓤 H (𝓣 .C) (𝓣 .Λ) code.function) (WpFn-mono 𝓤 H (W .laws) 𝓣 code.function) (moved-walks 𝓤 H A W mem run (𝓣 .C) (𝓣 .Λ))
 
-pub moved-spec : {M : Type 1} → stated.statement M
+pub move-to-spec : {M : Type 1} → stated.statement M
 unfolding code.routine tablesOf
-moved-spec 𝓤 H 𝓜 𝓖 𝓡 =
+move-to-spec 𝓤 H 𝓜 𝓖 𝓡 =
     entered 𝓤 H (tripleOf 𝓤 H (𝓖 .A) moved.signature (moved.spec 𝓤 H (𝓖 .A) (𝓜 .mem) (𝓡 .run)))
     (tables 𝓤 H 𝓜 𝓡 code.env .C) (tables 𝓤 H 𝓜 𝓡 code.env .Λ) #bit-reader·moved code.function (code.unfolded 𝓤 H 𝓜 𝓡)
     (moved-meets 𝓤 H (𝓖 .A) (givenOf 𝓤 H 𝓜 𝓖) (𝓜 .mem) (𝓡 .run) (tablesOf 𝓤 H 𝓜 (tables 𝓤 H 𝓜 𝓡 code.env)))

@@ -1,8 +1,8 @@
 -- By its three codes.
 use borrow.Author.Needs.{needs}
 use Rattle.bit_reader.proofs.Ways.{coded-ways}
-use Rattle.bit_reader.proofs.codes.coded.Statement.{statement}
-use Rattle.bit_reader.proofs.codes.coded.Tie as tie
+use Rattle.bit_reader.proofs.codes.read_code.Statement.{statement}
+use Rattle.bit_reader.proofs.codes.read_code.Tie as tie
 
 enum-known-coding : tie.Need-enum-known-coding
 enum-known-coding c = search needs
@@ -31,8 +31,8 @@ returns-2 c = search (needs, coded-ways)
 returns-3 : tie.Need-returns-3
 returns-3 c = search (needs, coded-ways)
 
-pub coded-spec : {M : Type 1} → statement M
-coded-spec =
+pub read-code-spec : {M : Type 1} → statement M
+read-code-spec =
     tie.close
     (tie.spec
     enum-known-coding
