@@ -13,7 +13,7 @@ use Rattle.wire.specs.Bits.{bitAt}
 use Rattle.table.specs.First.{Verdict}
 use Rattle.table.specs.First.Verdict.{right, wrong}
 use Rattle.model.specs.Whole.{Reply, accepted, declined, Outcome, outcome, textsLeft, Made, made, unmade, outcomeMade, payloadLeft}
-use Rattle.bit_reader.specs.Codes.{wallOf, coded, answered, codeAt}
+use Rattle.bit_reader.specs.Codes.{wallOf, coded, answered, readingAt}
 use Rattle.bit_reader.specs.declared.codes.Coding.{Coding}
 use Rattle.bim.specs.Area.{areaOf}
 use Rattle.bim.specs.Calls.{back, lent, judged, tableVerdict, checkTable, readBytes, eventsBack, readCall, writeBytes, writeCall}
@@ -73,7 +73,7 @@ write-answered t name type mode E X room area = lent-answered area (room ∷ [])
     go (unmade k p) y n = Answered.refused k p [] y (from-one k n) (omega arith) refl
 
 pub bits-answered : (s : List ℕ) (at : ℕ) (c : Coding) (area : ℕ) → AnsweredBits s at area (bits.bitsCall s at c area)
-unfolding bits.bitsCall codeAt answered
+unfolding bits.bitsCall readingAt answered
 bits-answered s at c area = elim (ℕ-discrete area limit.bitsArea) [
   | yes e ↦ rw (eq-eqb area limit.bitsArea e) (go (coded c (bitAt s) (wallOf s) at) e)
   | no n ↦ rw (ne-eqb area limit.bitsArea n) (AnsweredBits.no-area n refl)

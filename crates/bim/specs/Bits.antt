@@ -5,7 +5,7 @@ use mathlib.Core.List.{List, [], _∷_}
 use lib.Dec.{eqb}
 use Rattle.numbers.specs.Refusal.{areaSize}
 use Rattle.numbers.specs.Limit.{bitsArea}
-use Rattle.bit_reader.specs.Codes.{Told, codeAt}
+use Rattle.bit_reader.specs.Codes.{Told, readingAt}
 use Rattle.bit_reader.specs.declared.codes.Coding.{Coding}
 use Rattle.buffers.specs.Bytes.{bytesOf}
 use Rattle.bim.specs.Calls.{Back, back, zeros}
@@ -19,4 +19,4 @@ told a = back (a .number) (bytesOf (codeWords a)) []
 
 -- bytes, place, coding; bytes of the area. The size first: an area of another one is zero throughout
 unfoldable pub bitsCall : List ℕ → ℕ → Coding → ℕ → Back
-bitsCall s at c area = cond (eqb area bitsArea) (told (codeAt s at c)) (back areaSize (zeros area) [])
+bitsCall s at c area = cond (eqb area bitsArea) (told (readingAt s at c)) (back areaSize (zeros area) [])

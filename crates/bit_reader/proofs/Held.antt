@@ -34,10 +34,10 @@ use denote.Triple.Clauses.{ensured, lasts}
 use Rattle.wire.specs.declared.Bits.{Bits}
 use Rattle.wire.proofs.Bits as P
 use Rattle.wire.proofs.Bits.Laws as P′
-use Rattle.bit_reader.specs.Codes.{Told, answerIs, codeAt}
+use Rattle.bit_reader.specs.Codes.{Told, readingIs, readingAt}
 use Rattle.bit_reader.specs.declared.BitReader.{BitReader}
 use Rattle.bit_reader.specs.declared.codes.Coding.{Coding}
-use Rattle.bit_reader.specs.declared.codes.Answer.{Answer}
+use Rattle.bit_reader.specs.declared.codes.Reading.{Reading}
 use Rattle.bit_reader.proofs.BitReader as T
 use Rattle.bit_reader.proofs.BitReader.Laws as T′
 use Rattle.bit_reader.proofs.codes.Coding as K
@@ -91,7 +91,7 @@ module _ {M : Type 1} (𝓤 : URA M) (H : Heap 𝓤) (A : Atoms 𝓤) (mem : Mem
 
 module _ {M : Type 1} (𝓤 : URA M) (H : Heap 𝓤) (A : Atoms 𝓤) (W : Given 𝓤 H A) (mem : Memory → SProp 𝓤) (run : Routine → Fun 𝓤) (α : NamedLft) (q : Share) (d : BitReader) (c : Coding) where
   abbrev pub found : Told
-  found = codeAt (now (d .src)) (d .at .0) c
+  found = readingAt (now (d .src)) (d .at .0) c
 
   abbrev pub Own : Fml
   Own = T.the-row α .own d (T′.lowered d ∷ [])
@@ -127,5 +127,5 @@ module _ {M : Type 1} (𝓤 : URA M) (H : Heap 𝓤) (A : Atoms 𝓤) (W : Given
       move ! (2 ∷ 0 ∷ []) $ use2 W (raw (CodeAt 𝓤 H A mem run .pre to)) asked $ frame ! $ done !)
 
   -- of the callee's `ensured`, the clause alone: it has no `&mut`, so what is said of last values is dropped
-  pub said : (a : Answer) → ent 𝓤 (ensured 𝓤 H A code-at.ended (code-at.clauses 𝓤 H A mem run) (α .lft, tt) (d .src, (d .at, (c, tt))) tt a) (fact 𝓤 (answerIs a ≡ found))
-  said a = exE 𝓤 _ (λ ws. snd∗ 𝓤 (sem 𝓤 H A (lasts code-at.ended (α .lft, tt) (d .src, (d .at, (c, tt))) ws)) (fact 𝓤 (answerIs a ≡ found)))
+  pub said : (a : Reading) → ent 𝓤 (ensured 𝓤 H A code-at.ended (code-at.clauses 𝓤 H A mem run) (α .lft, tt) (d .src, (d .at, (c, tt))) tt a) (fact 𝓤 (readingIs a ≡ found))
+  said a = exE 𝓤 _ (λ ws. snd∗ 𝓤 (sem 𝓤 H A (lasts code-at.ended (α .lft, tt) (d .src, (d .at, (c, tt))) ws)) (fact 𝓤 (readingIs a ≡ found)))

@@ -17,18 +17,18 @@ use Rattle.wire.specs.Answer.{fixed32}
 use Rattle.wire.proofs.ReadWays.{wide}
 use Rattle.wire.specs.Lawful.{Lawful}
 use Rattle.wire.proofs.Lawful.{fixed-lawful, five-lawful, eight-lawful}
-use Rattle.bit_reader.specs.Codes.{wallOf, leftAt, coded, answered, answerIs, codeAt}
+use Rattle.bit_reader.specs.Codes.{wallOf, leftAt, coded, answered, readingIs, readingAt}
 use Rattle.bit_reader.specs.declared.codes.Coding.{Coding}
 use Rattle.bit_reader.specs.declared.codes.Coding.the-variants.{Fixed, Five, Eight}
-use Rattle.bit_reader.specs.declared.codes.Answer.{Answer}
-use Rattle.bit_reader.specs.Accepts.{Fits, bitsOf, Accepts}
+use Rattle.bit_reader.specs.declared.codes.Reading.{Reading}
+use Rattle.bit_reader.specs.Accepts.{IsValue, codingBits, Accepts}
 
 -- a width that no word holds has no values
 too-wide : (b : ℕ → ℕ) (wall at w : ℕ) → 32 < w → fixed32 b wall at w ≡ fault 13
 unfolding fixed32
 too-wide b wall at w h = rw (lt-leb _ _ h)
 
-pub coded-lawful : (c : Coding) → Lawful (coded c) (Fits c) (bitsOf c)
+pub coded-lawful : (c : Coding) → Lawful (coded c) (IsValue c) (codingBits c)
 unfolding coded
 coded-lawful (Fixed w) = elim (decLe w 32) [
   | yes h ↦ record {
@@ -92,8 +92,8 @@ coded-named (Fixed w) b end at = either (leb w 32) (fixed-named b end at w) (num
 coded-named Five b end at = strict-named _ (five-named b end at)
 coded-named Eight b end at = strict-named _ (eight-named b end at)
 
-pub accepted : (s : List ℕ) (at : ℕ) (c : Coding) → codeAt s at c .number ≡ 0 → Accepts s at c (codeAt s at c)
-unfolding codeAt answered
+pub accepted : (s : List ℕ) (at : ℕ) (c : Coding) → readingAt s at c .number ≡ 0 → Accepts s at c (readingAt s at c)
+unfolding readingAt answered
 accepted s at c = go (coded c (bitAt s) (wallOf s) at) refl (coded-named c (bitAt s) (wallOf s) at)
   where
     go : (m : Res (ℕ × ℕ)) → coded c (bitAt s) (wallOf s) at ≡ m → Named m → answered s at m .number ≡ 0 → Accepts s at c (answered s at m)
@@ -103,13 +103,13 @@ accepted s at c = go (coded c (bitAt s) (wallOf s) at) refl (coded-named c (bitA
     go (fault k) e (number n) z = absurd (omega arith)
 
 -- every code that stands so is accepted
-pub accepts : (s : List ℕ) (at : ℕ) (c : Coding) (v p : ℕ) → Fits c v → At (bitAt s) at (bitsOf c v) p → p ≤ wallOf s → codeAt s at c ≡ record { number = 0; value = v; place = p; left = leftAt s p }
-unfolding codeAt answered
+pub accepts : (s : List ℕ) (at : ℕ) (c : Coding) (v p : ℕ) → IsValue c v → At (bitAt s) at (codingBits c v) p → p ≤ wallOf s → readingAt s at c ≡ record { number = 0; value = v; place = p; left = leftAt s p }
+unfolding readingAt answered
 accepts s at c v p f h k = rw (coded-lawful c .reads (bitAt s) (wallOf s) at v p f h k)
 
 -- ANY OTHER NUMBER: the value is 0, and the place is as it was
-pub refused : (s : List ℕ) (at : ℕ) (c : Coding) → (codeAt s at c .number ≡ 0 → ⊥) → (codeAt s at c .value ≡ 0) × (codeAt s at c .place ≡ at)
-unfolding codeAt answered
+pub refused : (s : List ℕ) (at : ℕ) (c : Coding) → (readingAt s at c .number ≡ 0 → ⊥) → (readingAt s at c .value ≡ 0) × (readingAt s at c .place ≡ at)
+unfolding readingAt answered
 refused s at c = go (coded c (bitAt s) (wallOf s) at)
   where
     go : (m : Res (ℕ × ℕ)) → (answered s at m .number ≡ 0 → ⊥) → (answered s at m .value ≡ 0) × (answered s at m .place ≡ at)
@@ -117,7 +117,7 @@ refused s at c = go (coded c (bitAt s) (wallOf s) at)
     go (fault k) z = (refl, refl)
 
 -- two answers that the promise allows are equal
-pub determined : (s : List ℕ) (at : ℕ) (c : Coding) (a b : Answer) → answerIs a ≡ codeAt s at c → answerIs b ≡ codeAt s at c → a ≡ b
+pub determined : (s : List ℕ) (at : ℕ) (c : Coding) (a b : Reading) → readingIs a ≡ readingAt s at c → readingIs b ≡ readingAt s at c → a ≡ b
 determined s at c a b x y =
     let e = x ∙ sym y in
     λ i. record { number = e i .number; value = e i .value; place = record { 0 = e i .place }; left = record { 0 = e i .left } }

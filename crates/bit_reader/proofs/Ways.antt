@@ -9,7 +9,7 @@ use Rattle.wire.specs.Bits.{bitAt}
 use Rattle.wire.specs.Number.{read5, read8}
 use Rattle.wire.specs.Answer.{readIs, fixed32}
 use Rattle.wire.proofs.ReadWays.{read-value, read-refuse}
-use Rattle.bit_reader.specs.Codes.{wallOf, leftAt, coded, answered, answerIs, codeAt}
+use Rattle.bit_reader.specs.Codes.{wallOf, leftAt, coded, answered, readingIs, readingAt}
 use Rattle.bit_reader.specs.declared.codes.Coding.{Coding}
 use Rattle.bit_reader.specs.declared.codes.Coding.the-variants.{Fixed, Five, Eight}
 
@@ -32,12 +32,12 @@ module _ (s : List ℕ) (at : Bits) (c : Coding) (end : Bits) (w : end .0 ≡ wa
   below : readIs r ≡ coded c (bitAt s) (wallOf s) (at .0)
   below = e ∙ ap (λ (n : ℕ). coded c (bitAt s) n (at .0)) w
 
-  pub way-refused : (n : ℕ) (l : Bits) → r ≡ read.Refuse n → l .0 ≡ leftAt s (at .0) → answerIs (record { number = n; value = 0; place = at; left = l }) ≡ codeAt s (at .0) c
-  unfolding codeAt answered
+  pub way-refused : (n : ℕ) (l : Bits) → r ≡ read.Refuse n → l .0 ≡ leftAt s (at .0) → readingIs (record { number = n; value = 0; place = at; left = l }) ≡ readingAt s (at .0) c
+  unfolding readingAt answered
   way-refused n l f g = rw (read-refuse below f, g)
 
-  pub way-taken : (v : ℕ) (p l : Bits) → r ≡ read.Value v p → l .0 ≡ leftAt s (p .0) → answerIs (record { number = 0; value = v; place = p; left = l }) ≡ codeAt s (at .0) c
-  unfolding codeAt answered
+  pub way-taken : (v : ℕ) (p l : Bits) → r ≡ read.Value v p → l .0 ≡ leftAt s (p .0) → readingIs (record { number = 0; value = v; place = p; left = l }) ≡ readingAt s (at .0) c
+  unfolding readingAt answered
   way-taken v p l f g = rw (read-value below f, g)
 
 pub ruleset code-ways = (way-refused, way-taken)

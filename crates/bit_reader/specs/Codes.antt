@@ -9,7 +9,7 @@ use Rattle.wire.specs.Number.{read5, read8}
 use Rattle.wire.specs.Answer.{fixed32}
 use Rattle.bit_reader.specs.declared.codes.Coding.{Coding}
 use Rattle.bit_reader.specs.declared.codes.Coding.the-variants.{Fixed, Five, Eight}
-use Rattle.bit_reader.specs.declared.codes.Answer.{Answer}
+use Rattle.bit_reader.specs.declared.codes.Reading.{Reading}
 
 -- the first bit that is not fetched: the end of the slice, or 2^32 - 1, where places stop
 abbrev pub wallOf : List ℕ → ℕ
@@ -26,19 +26,19 @@ pub record Told : Type 0 where
   pub place : ℕ
   pub left : ℕ
 
-abbrev pub answerIs : Answer → Told
-answerIs a = record { number = a .number; value = a .value; place = a .place .0; left = a .left .0 }
+abbrev pub readingIs : Reading → Told
+readingIs a = record { number = a .number; value = a .value; place = a .place .0; left = a .left .0 }
 
 -- a code's value and the place past it, or a refusal
 unfoldable pub coded : Coding → (ℕ → ℕ) → ℕ → ℕ → Res (ℕ × ℕ)
-coded (Fixed w) b end at = fixed32 b end at w
-coded Five b end at = read5 b end at
-coded Eight b end at = read8 b end at
+coded (Fixed w) b wall at = fixed32 b wall at w
+coded Five b wall at = read5 b wall at
+coded Eight b wall at = read8 b wall at
 
 -- past the code, or where it was on a refusal; and the bits left there
 unfoldable pub answered : List ℕ → ℕ → Res (ℕ × ℕ) → Told
 answered s at (got r) = record { number = 0; value = r .0; place = r .1; left = leftAt s (r .1) }
 answered s at (fault n) = record { number = n; value = 0; place = at; left = leftAt s at }
 
-unfoldable pub codeAt : List ℕ → ℕ → Coding → Told
-codeAt s at c = answered s at (coded c (bitAt s) (wallOf s) at)
+unfoldable pub readingAt : List ℕ → ℕ → Coding → Told
+readingAt s at c = answered s at (coded c (bitAt s) (wallOf s) at)

@@ -21,7 +21,7 @@ pub enum Coding {
 }
 
 // 0 or the number of a refusal; the value, 0 on a refusal; the place past the code, or that of the refused one; the bits left from there.
-pub struct Answer {
+pub struct Reading {
     pub number: u32,
     pub value: u32,
     pub place: Bits,
@@ -43,35 +43,35 @@ pub fn wall(src: &[u8]) -> Bits
 pub fn left_at(src: &[u8], at: Bits) -> Bits
     ensures { λ r. ⌜ r .0 ≡ meaning.leftAt (now (src .entry)) (at .0) ⌝ }
 {
-    let end = wall(src).0;
+    let wall = wall(src).0;
     let a = at.0;
-    if a < end {
-        return Bits(end - a);
+    if a < wall {
+        return Bits(wall - a);
     }
     Bits(0)
 }
 
 // The code as the wire has it.
-fn coded(src: &[u8], end: Bits, at: Bits, coding: Coding) -> Read
-    requires { ⌜ end .0 ≤ 8 * length (now src) ⌝ }
-    ensures { λ r. ⌜ readIs r ≡ meaning.coded coding (bitAt (now (src .entry))) (end .0) (at .0) ⌝ }
+fn read_code(src: &[u8], wall: Bits, at: Bits, coding: Coding) -> Read
+    requires { ⌜ wall .0 ≤ 8 * length (now src) ⌝ }
+    ensures { λ r. ⌜ readIs r ≡ meaning.coded coding (bitAt (now (src .entry))) (wall .0) (at .0) ⌝ }
 {
     match coding {
-        Coding::Fixed(w) => fixed(src, end, at, w),
-        Coding::Five => vlu5(src, end, at),
-        Coding::Eight => vlu8(src, end, at),
+        Coding::Fixed(w) => fixed(src, wall, at, w),
+        Coding::Five => vlu5(src, wall, at),
+        Coding::Eight => vlu8(src, wall, at),
     }
 }
 
 // The code at a place, and the place past it.
-pub fn code_at(src: &[u8], at: Bits, coding: Coding) -> Answer
-    ensures { λ r. ⌜ meaning.answerIs r ≡ meaning.codeAt (now (src .entry)) (at .0) coding ⌝ }
+pub fn code_at(src: &[u8], at: Bits, coding: Coding) -> Reading
+    ensures { λ r. ⌜ meaning.readingIs r ≡ meaning.readingAt (now (src .entry)) (at .0) coding ⌝ }
 {
-    let end = wall(src);
-    match coded(src, end, at, coding) {
+    let wall = wall(src);
+    match read_code(src, wall, at, coding) {
         Read::Refuse(number) => {
             let left = left_at(src, at);
-            Answer {
+            Reading {
                 number,
                 value: 0,
                 place: at,
@@ -80,7 +80,7 @@ pub fn code_at(src: &[u8], at: Bits, coding: Coding) -> Answer
         }
         Read::Value(value, place) => {
             let left = left_at(src, place);
-            Answer {
+            Reading {
                 number: refusal::ACCEPTED,
                 value,
                 place,

@@ -46,15 +46,15 @@ module _ (t s : List ℕ) (wall n d : ℕ) (h : Ready t s wall n d) where
 
   -- an element's own end is the wall of what is inside it
   pub ready-end : (mode : Mode) (b : ℕ → ℕ) (at : ℕ) (x : code·head.Head) (w : Bits) (r : Reach) (y : Extent) → Heads mode b wall at x → w .0 ≡ wall → r ≡ reachOf x w → r ≡ To y
-      → Ready t s (y .end .0) n d
+      → Ready t s (y .wall .0) n d
   ready-end mode b at x w r y e g f i = go x (e .within) (sym i ∙ f)
     where
-      go : (a : code·head.Head) → Within wall a → To y ≡ reachOf a w → Ready t s (y .end .0) n d
+      go : (a : code·head.Head) → Within wall a → To y ≡ reachOf a w → Ready t s (y .wall .0) n d
       go (Bare body) k j =
-          let z : y ≡ record { coded = false; body = body; end = w } = cc in
+          let z : y ≡ record { coded = false; body = body; wall = w } = cc in
           rw (z, g) h
       go (Sized body end) k j =
-          let z : y ≡ record { coded = true; body = body; end = end } = cc in
+          let z : y ≡ record { coded = true; body = body; wall = end } = cc in
           rw z (record { valid = h .valid; walls = omega (arith, h .walls); places = h .places })
       go (Wrong m) k j = let z : _≡_ {A = ℕ} 0 1 = cc in absurd (omega arith)
 

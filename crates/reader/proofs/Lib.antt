@@ -4,6 +4,6 @@ mod FrontLaws
 mod RestLaws
 mod RootLaws
 mod Strides
-mod ToldLaws
+mod RefusalPathLaws
 mod TwoTables
 mod Ways

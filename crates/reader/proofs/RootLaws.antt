@@ -48,9 +48,9 @@ use Rattle.reader.specs.declared.front.Found.the-variants as found
 use Rattle.reader.specs.Answers.{pathIs, answerIs, Replies, told}
 use Rattle.reader.proofs.Answers.{path-outward, no-path, declined-replies}
 use Rattle.reader.specs.Front.{foundIs}
-use Rattle.reader.specs.Told.{view}
-use Rattle.reader.specs.declared.told.Walk.{Walk}
-use Rattle.reader.specs.declared.told.Walk.the-variants.{Go, Refuse, Told}
+use Rattle.reader.specs.RefusalPath.{view}
+use Rattle.reader.specs.declared.refusal_path.Walk.{Walk}
+use Rattle.reader.specs.declared.refusal_path.Walk.the-variants.{Go, Refuse, Told}
 use Rattle.reader.specs.Meaning.{Ready, Walks, particle·}
 use Rattle.reader.specs.Cleared.{Zeros}
 

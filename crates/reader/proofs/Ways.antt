@@ -52,14 +52,14 @@ use Rattle.reader_parts.specs.declared.Step.{Step}
 use Rattle.reader_parts.specs.declared.Step.the-variants as step
 use Rattle.reader_parts.proofs.Laws.{after-stop, after-go, after-next, outcome-none}
 use Rattle.reader.proofs.Strides.{stride-one, stride-none}
-use Rattle.reader.specs.Told.{walks, stepOf, pathOf, view, Named}
-use Rattle.reader.proofs.ToldLaws.{Stopped, leaf-view}
+use Rattle.reader.specs.RefusalPath.{walks, stepOf, pathOf, view, Named}
+use Rattle.reader.proofs.RefusalPathLaws.{Stopped, leaf-view}
 use Rattle.reader.specs.Meaning.{Walks, reachOf, stride, particle·, rounds·, content·, inside·, whole·, enter·, element·, choose·, occur·}
 use Rattle.reader.specs.declared.cycle.Extent.{Extent}
 use Rattle.reader.specs.declared.cycle.Reach.{Reach}
 use Rattle.reader.specs.declared.cycle.Reach.the-variants as reach
-use Rattle.reader.specs.declared.told.Walk.{Walk}
-use Rattle.reader.specs.declared.told.Walk.the-variants.{Go, Refuse}
+use Rattle.reader.specs.declared.refusal_path.Walk.{Walk}
+use Rattle.reader.specs.declared.refusal_path.Walk.the-variants.{Go, Refuse}
 
 -- a refusal that a function makes itself; nothing more to read; a leaf's own answer
 module _ (c : Cursor) (π : List ℕ) (o : Answer) (N E T : List ℕ) where
@@ -92,10 +92,10 @@ module _ (h : code·head.Head) (wall : Bits) where
   pub reached-wrong : (n : ℕ) → h ≡ Wrong n → reach.Wrong n ≡ reachOf h wall
   reached-wrong n g = rw g
 
-  pub reached-bare : (body : Bits) → h ≡ Bare body → reach.To record { coded = false; body = body; end = wall } ≡ reachOf h wall
+  pub reached-bare : (body : Bits) → h ≡ Bare body → reach.To record { coded = false; body = body; wall = wall } ≡ reachOf h wall
   reached-bare body g = rw g
 
-  pub reached-sized : (body end : Bits) → h ≡ Sized body end → reach.To record { coded = true; body = body; end = end } ≡ reachOf h wall
+  pub reached-sized : (body end : Bits) → h ≡ Sized body end → reach.To record { coded = true; body = body; wall = end } ≡ reachOf h wall
   reached-sized body end g = rw g
 
 pub ruleset reached-ways = (reached-wrong, reached-bare, reached-sized)
@@ -250,26 +250,26 @@ module _ (t s : List ℕ) (mode : Mode) (d wall : ℕ) (c : Cursor) (Π N E T : 
       -- a length is coded, or not
       abbrev Known : Type 0
       Known = (element· t s mode d name ty R Π wall at
-          ≡ bare held (inside· t s mode d) (mark name ty false at (y .body .0)) R Π wall (y .body .0)) × (y .coded ≡ false) × (y .end .0 ≡ wall)
+          ≡ bare held (inside· t s mode d) (mark name ty false at (y .body .0)) R Π wall (y .body .0)) × (y .coded ≡ false) × (y .wall .0 ≡ wall)
 
       abbrev Coded : Type 0
       Coded = (element· t s mode d name ty R Π wall at
-          ≡ sized held (inside· t s mode d) (mark name ty true at (y .body .0)) R Π (y .end .0) (y .body .0)) × (y .coded ≡ true)
+          ≡ sized held (inside· t s mode d) (mark name ty true at (y .body .0)) R Π (y .wall .0) (y .body .0)) × (y .coded ≡ true)
 
       here : Known ⊎ Coded
       here = go x refl (sym g ∙ f)
         where
           go : (a : code·head.Head) → x ≡ a → reach.To y ≡ reachOf a outer → Known ⊎ Coded
           go (Bare body) i h =
-              let b : y ≡ record { coded = false; body = body; end = outer } = cc in
+              let b : y ≡ record { coded = false; body = body; wall = outer } = cc in
               inl (rw b (bare-here body i), rw b, rw b u)
           go (Sized body end) i h =
-              let b : y ≡ record { coded = true; body = body; end = end } = cc in
+              let b : y ≡ record { coded = true; body = body; wall = end } = cc in
               inr (rw b (sized-here body end i), rw b)
           go (Wrong n) i h = let b : _≡_ {A = ℕ} 0 1 = cc in absurd (omega arith)
 
       -- the wall of what is inside is the element's own end
-      pub element-held : (w : Walk) (N′ E′ T′ : List ℕ) → held ≡ true → Walks (enter· t s mode d name ty (y .coded) (y .body .0)) (y .end .0) c Π E T w N′ E′ T′ → Elem w N′ E′ T′
+      pub element-held : (w : Walk) (N′ E′ T′ : List ℕ) → held ≡ true → Walks (enter· t s mode d name ty (y .coded) (y .body .0)) (y .wall .0) c Π E T w N′ E′ T′ → Elem w N′ E′ T′
       unfolding bare sized enter·
       element-held w N′ E′ T′ n h =
           elim here [
@@ -277,7 +277,7 @@ module _ (t s : List ℕ) (mode : Mode) (d wall : ℕ) (c : Cursor) (Π N E T : 
             | inr b ↦ from w N′ E′ T′ _ _ (b .0 ∙ rw n) (rw (b .1) at h)
           ]
 
-      pub element-blank : (o : Step) (w : Walk) (E′ : List ℕ) → held ≡ false → y .coded ≡ true → Stores kinds.blank name ty (y .end .0) c E o E′ → w ≡ walks o → Elem w N E′ T
+      pub element-blank : (o : Step) (w : Walk) (E′ : List ℕ) → held ≡ false → y .coded ≡ true → Stores kinds.blank name ty (y .wall .0) c E o E′ → w ≡ walks o → Elem w N E′ T
       unfolding sized
       element-blank o w E′ n p h i =
           elim here [

@@ -1,5 +1,5 @@
 pub mod Front
-pub mod Told
+pub mod RefusalPath
 pub mod Meaning
 pub mod Answers
 pub mod Cleared

@@ -24,10 +24,10 @@ use Rattle.reader_parts.specs.declared.Cursor.{Cursor}
 use Rattle.reader_parts.specs.declared.Head.{Head}
 use Rattle.reader_parts.specs.declared.Head.the-variants.{Bare, Sized, Wrong}
 use Rattle.reader_parts.specs.declared.Mode.{Mode}
-use Rattle.reader.specs.Told.{view}
+use Rattle.reader.specs.RefusalPath.{view}
 use Rattle.reader.specs.declared.cycle.Reach.{Reach}
 use Rattle.reader.specs.declared.cycle.Reach.the-variants as reach
-use Rattle.reader.specs.declared.told.Walk.{Walk}
+use Rattle.reader.specs.declared.refusal_path.Walk.{Walk}
 
 -- by the room that is left, the path, the wall and the place
 abbrev pub Meaning : Type 0
@@ -39,8 +39,8 @@ Walks f wall c π E T w N E′ T′ = view w π N E′ T′ ≡ outcome (f (room
 
 -- what a head says of an element below a wall
 abbrev pub reachOf : Head → Bits → Reach
-reachOf (Bare body) wall = reach.To record { coded = false; body = body; end = wall }
-reachOf (Sized body end) wall = reach.To record { coded = true; body = body; end = end }
+reachOf (Bare body) wall = reach.To record { coded = false; body = body; wall = wall }
+reachOf (Sized body inner) wall = reach.To record { coded = true; body = body; wall = inner }
 reachOf (Wrong n) wall = reach.Wrong n
 
 -- what is asked: the table is right, the wall is in the payload, and the path has a place for each row that may still be opened

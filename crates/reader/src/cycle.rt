@@ -1,9 +1,9 @@
 // The cycle: an element reads what is inside it, that reads particle rows, and a particle row reads elements. `depth` rows may still be
 // opened; it falls at each row, so the cycle ends. The path goes down by value, copied where a row is entered and pushed where what is inside
 // holds rows; a success hands none back, as who called has its own. Each function but `particle` and `rounds` is called at one place.
-use crate::told::Walk;
-use crate::told::named;
-use crate::told::walked;
+use crate::refusal_path::Walk;
+use crate::refusal_path::from_step;
+use crate::refusal_path::name_refusal;
 use numbers::kind;
 use numbers::refusal;
 use reader_parts::Cursor;
@@ -46,7 +46,7 @@ fn flag(coded: bool) -> u32
 pub struct Extent {
     pub coded: bool,
     pub body: Bits,
-    pub end: Bits,
+    pub wall: Bits,
 }
 
 // The number of a wrong head; or what a head says of an element.
@@ -56,7 +56,7 @@ pub enum Reach {
 }
 
 // A head below a wall.
-fn reached(h: Head, wall: Bits) -> Reach
+fn extent_of(h: Head, wall: Bits) -> Reach
     ensures { λ r. ⌜ r ≡ reachOf h wall ⌝ }
 {
     match h {
@@ -65,15 +65,15 @@ fn reached(h: Head, wall: Bits) -> Reach
             let x = Extent {
                 coded: false,
                 body,
-                end: wall,
+                wall,
             };
             Reach::To(x)
         }
-        Head::Sized(body, end) => {
+        Head::Sized(body, wall) => {
             let x = Extent {
                 coded: true,
                 body,
-                end,
+                wall,
             };
             Reach::To(x)
         }
@@ -102,7 +102,7 @@ fn enter(
 {
     let s = store(events, c, kind::START, name, flag(coded), body);
     let Step::Go(d) = s else {
-        return walked(s);
+        return from_step(s);
     };
     let w = whole(
         table,
@@ -120,7 +120,7 @@ fn enter(
         coded,
         body,
     );
-    named(told, path, name, w)
+    name_refusal(told, path, name, w)
 }
 
 // What is inside an element of a name, below the wall, and its End.
@@ -160,7 +160,7 @@ fn whole(
     let Walk::Go(e) = v else {
         return v;
     };
-    walked(close(events, coded, body, wall, e))
+    from_step(close(events, coded, body, wall, e))
 }
 
 // An element of a name and a type: its head, then Start, a Blank or a refusal.
@@ -184,13 +184,13 @@ fn element(
     let at = c.at;
     let held = rows::held(table, t);
     let h = head(payload, mode, wall, at);
-    let r = reached(h, wall);
+    let r = extent_of(h, wall);
     match r {
         Reach::Wrong(n) => Walk::Refuse(n, at),
         Reach::To(x) => {
             let coded = x.coded;
             let body = x.body;
-            let end = x.end;
+            let inner = x.wall;
             if held {
                 return enter(
                     table,
@@ -200,7 +200,7 @@ fn element(
                     told,
                     mode,
                     depth,
-                    end,
+                    inner,
                     c,
                     path,
                     name,
@@ -210,7 +210,7 @@ fn element(
                 );
             }
             if coded {
-                return walked(store(events, c, kind::BLANK, name, t, end));
+                return from_step(store(events, c, kind::BLANK, name, t, inner));
             }
             Walk::Refuse(refusal::NOT_HELD, at)
         }
@@ -237,7 +237,7 @@ fn inside(
 {
     let s = all(table, payload, events, texts, wall, c, t);
     let Step::Go(d) = s else {
-        return walked(s);
+        return from_step(s);
     };
     content(
         table,
@@ -276,7 +276,16 @@ fn content(
     let k = rows::content(table, t);
     match k {
         Content::Empty => Walk::Go(c),
-        Content::Simple(kind, x, y) => walked(value(payload, events, texts, wall, c, kind, x, y)),
+        Content::Simple(simple, x, y) => from_step(value(
+            payload,
+            events,
+            texts,
+            wall,
+            c,
+            simple,
+            x,
+            y,
+        )),
         Content::Particles(i) => {
             particle(
                 table,
@@ -404,7 +413,7 @@ fn choose(
         Read::Value(v, next) => {
             let s = store(events, c, kind::PICK, v, 0, next);
             let Step::Go(d) = s else {
-                return walked(s);
+                return from_step(s);
             };
             let row = rows::particle(table, first + v);
             particle(
@@ -450,7 +459,7 @@ fn occur(
         Read::Value(v, next) => {
             let s = store(events, c, kind::TIMES, v, 0, next);
             let Step::Go(d) = s else {
-                return walked(s);
+                return from_step(s);
             };
             rounds(
                 table,

@@ -3,7 +3,7 @@ mod clear; // clear.rt: lent buffers made zero
 mod cycle; // cycle.rt: elements, what is inside them, particle rows
 mod front; // front.rt: the mode byte
 mod rest; // rest.rt: what is left after the root
-mod told; // told.rt: what a walk answers, and the path of a refusal
+mod refusal_path; // refusal_path.rt: what a walk answers, and the path of a refusal
 
 use clear::both;
 use cycle::particle;
@@ -14,13 +14,13 @@ use numbers::refusal;
 use reader_parts::Cursor;
 use reader_parts::Mode;
 use reader_parts::Path;
+use refusal_path::Walk;
+use refusal_path::copy_names;
 use rest::padding;
 use table::Particle;
 use table::Verdict;
 use table::check;
 use table::rows::types;
-use told::Walk;
-use told::copied;
 use wire::Bits;
 use wire::Bytes;
 ghost use mathlib.Core.Path.{_≡_};
@@ -59,12 +59,12 @@ fn nowhere() -> Path
 }
 
 // The path that was told.
-fn heard(told: &[u16], count: usize) -> Path
+fn path_from(told: &[u16], count: usize) -> Path
     requires { ⌜ length (now told) ≡ mostNames ⌝ }
     ensures { λ r. ⌜ namesOf r ≡ back (now (told .entry)) count ⌝ }
 {
     let mut names = [0u16; limit::MOST_NAMES];
-    copied(&mut names, told);
+    copy_names(&mut names, told);
     Path { names, count }
 }
 
@@ -156,7 +156,7 @@ fn root(
         Walk::Told(n, at, count) => {
             let place = at.0 as usize;
             both(events, texts);
-            refused(n, place, heard(&told, count))
+            refused(n, place, path_from(&told, count))
         }
         Walk::Go(d) => {
             let at = d.at;
@@ -172,7 +172,7 @@ fn root(
 }
 
 // A payload by a table that is right, into buffers that are zero.
-fn checked(
+fn read_checked(
     table: &[u32],
     root_name: u32,
     root_type: u32,
@@ -212,6 +212,6 @@ pub fn read(
     let v = check(table);
     match v {
         Verdict::Wrong(i) => refused(refusal::TABLE, i, nowhere()),
-        Verdict::Right => checked(table, root_name, root_type, payload, events, texts),
+        Verdict::Right => read_checked(table, root_name, root_type, payload, events, texts),
     }
 }

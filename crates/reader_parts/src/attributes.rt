@@ -19,7 +19,7 @@ ghost use Rattle.model.specs.Model.Plan.{done};
 ghost use Rattle.reader_parts.specs.Out.{Reads, Notes};
 
 // The event of an attribute, with 1 where it is present, and then its value if it is.
-fn noted(
+fn store_attribute(
     payload: &[u8],
     events: &mut [u32],
     texts: &mut [u8],
@@ -57,11 +57,11 @@ pub fn one(
     let at = c.at;
     let must = a.must;
     if must {
-        return noted(payload, events, texts, wall, c, a, 1, at);
+        return store_attribute(payload, events, texts, wall, c, a, 1, at);
     }
     match choice(payload, wall, at, 2) {
         Read::Refuse(n) => Step::Refuse(n, at),
-        Read::Value(flag, next) => noted(payload, events, texts, wall, c, a, flag, next),
+        Read::Value(flag, next) => store_attribute(payload, events, texts, wall, c, a, flag, next),
     }
 }
 

@@ -13,7 +13,7 @@ ghost use Rattle.wire.specs.Bits.{bitAt};
 ghost use Rattle.reader_parts.specs.Heads.{Measured, Heads};
 
 // TheLength and the end that it says, which is not past the wall.
-fn measured(payload: &[u8], wall: Bits, at: Bits) -> Head
+fn read_length(payload: &[u8], wall: Bits, at: Bits) -> Head
     requires { ⌜ wall .0 ≤ 8 * length (now payload) ⌝ }
     ensures { λ r. ⌜ Measured (bitAt (now (payload .entry))) (wall .0) (at .0) r ⌝ }
 {
@@ -34,7 +34,7 @@ fn measured(payload: &[u8], wall: Bits, at: Bits) -> Head
 }
 
 // By a flag: none, or a length.
-fn flagged(payload: &[u8], wall: Bits, at: Bits) -> Head
+fn read_flag(payload: &[u8], wall: Bits, at: Bits) -> Head
     requires { ⌜ wall .0 ≤ 8 * length (now payload) ⌝ }
     ensures { λ r. ⌜ Heads Mode.Optional (bitAt (now (payload .entry))) (wall .0) (at .0) r ⌝ }
 {
@@ -44,7 +44,7 @@ fn flagged(payload: &[u8], wall: Bits, at: Bits) -> Head
             if flag == 0 {
                 return Head::Bare(next);
             }
-            measured(payload, wall, next)
+            read_length(payload, wall, next)
         }
     }
 }
@@ -56,7 +56,7 @@ pub fn head(payload: &[u8], mode: Mode, wall: Bits, at: Bits) -> Head
 {
     match mode {
         Mode::Never => Head::Bare(at),
-        Mode::Optional => flagged(payload, wall, at),
-        Mode::Always => measured(payload, wall, at),
+        Mode::Optional => read_flag(payload, wall, at),
+        Mode::Always => read_length(payload, wall, at),
     }
 }

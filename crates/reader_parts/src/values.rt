@@ -37,7 +37,7 @@ fn copy(payload: &[u8], texts: &mut [u8], from: Bits, n: Bytes, used: usize)
 }
 
 // The bytes that are left of so many.
-fn left(have: usize, used: usize) -> usize
+fn room_left(have: usize, used: usize) -> usize
     ensures { λ r. ⌜ r ≡ have - used ⌝ }
 {
     if have < used { 0 } else { have - used }
@@ -60,7 +60,7 @@ fn keep(
     let count = c.count;
     let used = c.used;
     let m = n.0;
-    let room = left(texts.len(), used);
+    let room = room_left(texts.len(), used);
     if room < m as usize {
         return Step::Refuse(refusal::TEXT_ROOM, at);
     }
@@ -81,15 +81,15 @@ pub fn value(
     texts: &mut [u8],
     wall: Bits,
     c: Cursor,
-    kind: u32,
+    simple: u32,
     x: u32,
     y: u32,
 ) -> Step
     requires { ⌜ wall .0 ≤ 8 * length (now payload) ⌝ }
-    ensures { λ r. ⌜ Reads (model.value kind x y done) (bitAt (now (payload .entry))) (wall .0) c (now (events .entry)) (now (texts .entry)) r (now (events .exit)) (now (texts .exit)) ⌝ }
+    ensures { λ r. ⌜ Reads (model.value simple x y done) (bitAt (now (payload .entry))) (wall .0) c (now (events .entry)) (now (texts .entry)) r (now (events .exit)) (now (texts .exit)) ⌝ }
 {
     let at = c.at;
-    match of_kind(payload, wall, at, kind, x, y) {
+    match of_kind(payload, wall, at, simple, x, y) {
         Value::Refuse(n) => Step::Refuse(n, at),
         Value::Read { word, text, next } => keep(payload, events, texts, c, word, text, next),
     }

@@ -14,9 +14,9 @@ use value::forms::simple;
 use value::forms::times;
 use value::writing::size;
 use wire::Bits;
-use writer_parts::Cursor;
-use writer_parts::Step;
-use writer_parts::leaves::coded;
+use writer_parts::Judgement;
+use writer_parts::Spot;
+use writer_parts::leaves::note_code;
 use writer_parts::pen::put_notes;
 ghost use mathlib.Core.Path.{_≡_};
 ghost use lib.ListN.{length};
@@ -102,15 +102,15 @@ pub extern "C" fn probe_size_simple(kind: u32, b: u32, c: u32, v: u32, out: &mut
 // A value as the writer puts it: judged, sized and noted as the one event of a list, and put down by the pen.
 fn put_in_room(buf: &mut [u8], at: u32, c: Code, v: u32, out: &mut [u32; 4]) -> u32 {
     let list = [3, v, 0, 0];
-    let start = Cursor {
+    let start = Spot {
         event: 0,
         used: 0,
         bits: 0,
     };
     let mut notes = [0u32; 4];
-    match coded(&list, b"", &mut notes, start, 3, v, 0, c, v) {
-        Step::Refuse(e, _) => refused(e, out),
-        Step::Go(end) => {
+    match note_code(&list, b"", &mut notes, start, 3, v, 0, c, v) {
+        Judgement::Refuse(e, _) => refused(e, out),
+        Judgement::Go(end) => {
             let most = reach(buf.len());
             if most < at {
                 return refused(OUTSIDE, out);

@@ -23,7 +23,7 @@ use Rattle.table.specs.declared.answers.Verdict.the-variants as vv
 use Rattle.model.specs.Items.{Mode}
 use Rattle.model.proofs.Entries.{asked-then}
 use Rattle.model.specs.Whole.{unmade, asked, modeAsked, roomed, spent, shaped, orUnmade, verdictMade, writing}
-use Rattle.writer_parts.specs.declared.Cursor.{Cursor}
+use Rattle.writer_parts.specs.declared.Spot.{Spot}
 use Rattle.writer_parts.specs.Notes.{modeIs}
 use Rattle.writer_parts.specs.Walk.{eventsIn, eventsAt, textsAt}
 use Rattle.writer_parts.proofs.WalkLaws.{events-next, events-none, events-count}
@@ -53,8 +53,8 @@ mode-unknown (suc zero) h = absurd (omega arith)
 mode-unknown (suc (suc zero)) h = absurd (omega arith)
 mode-unknown (suc (suc (suc k))) h = refl
 
-module _ (t : List ℕ) (name kind mode : ℕ) (L : List ℕ) where
-  pub front-wrong : (v : verdictT.Verdict) → verdictIs v ≡ verdict t → (i : ℕ) → v ≡ vv.Wrong i → Fronted t name kind mode L (fv.At refusal.table i)
+module _ (t : List ℕ) (name ty mode : ℕ) (L : List ℕ) where
+  pub front-wrong : (v : verdictT.Verdict) → verdictIs v ≡ verdict t → (i : ℕ) → v ≡ vv.Wrong i → Fronted t name ty mode L (fv.At refusal.table i)
   unfolding writing verdictMade
   front-wrong v e i w = record { is = λ X room. let z : verdict t ≡ wrong i = sym e ∙ rw w in rw z }
 
@@ -62,41 +62,41 @@ module _ (t : List ℕ) (name kind mode : ℕ) (L : List ℕ) where
   front-right v e w = sym e ∙ rw w
 
   module _ (v : verdict t ≡ right) (k : ℕ) (e : k ≡ tableOf t .types) where
-    pub front-type : k ≤ kind → Fronted t name kind mode L (fv.At refusal.root 0)
+    pub front-type : k ≤ ty → Fronted t name ty mode L (fv.At refusal.root 0)
     unfolding writing verdictMade orUnmade
-    front-type h = record { is = λ X room. rw (v, asked-type (tableOf t .types) name kind (rw e at h)) }
+    front-type h = record { is = λ X room. rw (v, asked-type (tableOf t .types) name ty (rw e at h)) }
 
-    module _ (h : kind < k) where
-      pub front-name : mostName < name → Fronted t name kind mode L (fv.At refusal.root 0)
+    module _ (h : ty < k) where
+      pub front-name : mostName < name → Fronted t name ty mode L (fv.At refusal.root 0)
       unfolding writing verdictMade orUnmade
-      front-name g = record { is = λ X room. rw (v, asked-name (tableOf t .types) name kind (rw e at h) g) }
+      front-name g = record { is = λ X room. rw (v, asked-name (tableOf t .types) name ty (rw e at h) g) }
 
       module _ (g : name ≤ mostName) where
-        ok : asked (tableOf t .types) name kind ≡ got tt
-        ok = asked-then (tableOf t .types) name kind (rw e at h) g
+        ok : asked (tableOf t .types) name ty ≡ got tt
+        ok = asked-then (tableOf t .types) name ty (rw e at h) g
 
-        pub front-mode : 2 < mode → Fronted t name kind mode L (fv.At writeMode 0)
+        pub front-mode : 2 < mode → Fronted t name ty mode L (fv.At writeMode 0)
         unfolding writing verdictMade orUnmade
         front-mode m = record { is = λ X room. rw (v, ok, mode-unknown mode m) }
 
         module _ (m : mode ≤ 2) where
-          pub front-parts : (n : ℕ) → n ≡ length L / 4 → 0 < length L % 4 → Fronted t name kind mode L (fv.At noReading n)
+          pub front-parts : (n : ℕ) → n ≡ length L / 4 → 0 < length L % 4 → Fronted t name ty mode L (fv.At noReading n)
           unfolding writing verdictMade orUnmade shaped
           front-parts n z p = record { is = λ X room. rw (v, ok, mode-known mode m, ne-eqb (length L % 4) 0 (λ q. omega arith), z) }
 
           module _ (p : length L % 4 ≤ 0) where
-            pub front-many : (n : ℕ) → n ≡ length L / 4 → mostEvents < n → Fronted t name kind mode L (fv.At noReading n)
+            pub front-many : (n : ℕ) → n ≡ length L / 4 → mostEvents < n → Fronted t name ty mode L (fv.At noReading n)
             unfolding writing verdictMade orUnmade shaped
             front-many n z q = record { is = λ X room. rw (v, ok, mode-known mode m, eq-eqb (length L % 4) 0 (omega arith), lt-leb (length L / 4) mostEvents (omega arith), z) }
 
-            pub front-fine : (n : ℕ) → n ≡ length L / 4 → n ≤ mostEvents → Fronted t name kind mode L fv.No
+            pub front-fine : (n : ℕ) → n ≡ length L / 4 → n ≤ mostEvents → Fronted t name ty mode L fv.No
             front-fine n z q = record { is = record { enters = record { table-right = v; type-known = rw e at h; name-small = g }; mode-is = mode-known mode m; mode-small = m; shape = record { whole = omega arith; few = omega arith } } }
 
 pub ruleset checked-ways = (front-type, front-name, front-mode, front-parts, front-many, front-fine)
 
 pub ruleset asked-ways = (front-wrong, front-right)
 
-module _ (L X : List ℕ) (c : Cursor) (room : ℕ) where
+module _ (L X : List ℕ) (c : Spot) (room : ℕ) where
   module _ (h : c .event < eventsIn L) (k : ℕ) (e : k ≡ getD L (4 * c .event) 0) where
     left-one : (w : List ℕ) (m : Mode) → ends L X c room m w ≡ unmade (cond (eqb k 7) 19 18) (c .event)
     unfolding spent

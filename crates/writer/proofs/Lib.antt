@@ -4,4 +4,4 @@ mod FrontLaws
 mod InkLaws
 mod Leads
 mod SimpleWays
-mod WalkWays
+mod CycleWays

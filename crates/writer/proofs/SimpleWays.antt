@@ -24,19 +24,19 @@ use Rattle.model.specs.Write.{Bare, Out, wrote, along, wordOf, asItem, simpleOu
 use Rattle.model.specs.WriteSteps.{itemThen}
 use Rattle.model.proofs.WriteSteps.{out-required, out-optional, out-valued, out-picked, out-counted}
 use Rattle.model.specs.Whole.{eventAt}
-use Rattle.writer_parts.specs.declared.Cursor.{Cursor}
-use Rattle.writer_parts.specs.declared.Step.{Step}
-use Rattle.writer_parts.specs.declared.Step.the-variants.{Go, Refuse}
+use Rattle.writer_parts.specs.declared.Spot.{Spot}
+use Rattle.writer_parts.specs.declared.Judgement.{Judgement}
+use Rattle.writer_parts.specs.declared.Judgement.the-variants.{Go, Refuse}
 use Rattle.writer_parts.specs.Walk.{eventsIn, eventsAt, textsAt, Ready, Walked, Walks, wanted, noted, alone}
 use Rattle.writer_parts.proofs.WalkLaws.{went, walked-as, stays, along-stop, along-go, alone-noted, item-rest}
 use Rattle.writer.specs.Meaning.{present, required·, optional·, attribute·, attributes·}
 use Rattle.writer.proofs.Leads.{Leads, leads-start, leads-end, leads-stop, leads-go}
 
 -- after a step, the cursor is ready
-pub ready-on : (L X : List ℕ) (o : Out) (c : Cursor) (N : List ℕ) (r : Step) (M : List ℕ) → Walked L X o c N r M → (e : Cursor) → r ≡ Go e → Ready L X M e
+pub ready-on : (L X : List ℕ) (o : Out) (c : Spot) (N : List ℕ) (r : Judgement) (M : List ℕ) → Walked L X o c N r M → (e : Spot) → r ≡ Go e → Ready L X M e
 ready-on L X o c N r M h e w = went h e w .ready
 
-module _ (L X : List ℕ) (c : Cursor) (N : List ℕ) (s : Step) (M : List ℕ) where
+module _ (L X : List ℕ) (c : Spot) (N : List ℕ) (s : Judgement) (M : List ℕ) where
   abbrev T : List ℕ
   T = textsAt X (c .used)
 
@@ -49,18 +49,18 @@ module _ (L X : List ℕ) (c : Cursor) (N : List ℕ) (s : Step) (M : List ℕ) 
   item-as i f m e g h = walked-as s (alone-noted L (c .event) i T ∙ rw (e, g)) h
 
   module _ (v : ℕ) (z : v ≡ getD L (4 * c .event + 1) 0) where
-    module _ (kind b d : ℕ) (f : formT.Form) (e : formIs f ≡ simpleOf kind b d) where
-      value-as : (sm : Simple) → formIs f ≡ sm → Walked L X (noted (wanted 3 v 0) (simpleOut sm v T) (eventsAt L (c .event))) c N s M → Walks L X (alone (valued kind b d)) c N s M
+    module _ (simple b d : ℕ) (f : formT.Form) (e : formIs f ≡ simpleOf simple b d) where
+      value-as : (sm : Simple) → formIs f ≡ sm → Walked L X (noted (wanted 3 v 0) (simpleOut sm v T) (eventsAt L (c .event))) c N s M → Walks L X (alone (valued simple b d)) c N s M
       unfolding eventOf wordOf
       value-as sm g h =
-          let same : simpleOut (simpleOf kind b d) v T ≡ simpleOut sm v T = ap (λ (x : Simple). simpleOut x v T) (sym e ∙ g) in
-          item-as (valued kind b d) (wanted 3 v 0) (simpleOut sm v T) (rw z) (out-valued (wordOf (valued kind b d) Event) T kind b d ∙ rw (← z) same) h
+          let same : simpleOut (simpleOf simple b d) v T ≡ simpleOut sm v T = ap (λ (x : Simple). simpleOut x v T) (sym e ∙ g) in
+          item-as (valued simple b d) (wanted 3 v 0) (simpleOut sm v T) (rw z) (out-valued (wordOf (valued simple b d) Event) T simple b d ∙ rw (← z) same) h
 
-      pub value-number : (code : codeT.Code) → f ≡ fv.Number code → Walked L X (noted (wanted 3 v 0) (simpleOut (plain (codeIs code)) v T) (eventsAt L (c .event))) c N s M → Walks L X (alone (valued kind b d)) c N s M
+      pub value-number : (code : codeT.Code) → f ≡ fv.Number code → Walked L X (noted (wanted 3 v 0) (simpleOut (plain (codeIs code)) v T) (eventsAt L (c .event))) c N s M → Walks L X (alone (valued simple b d)) c N s M
       unfolding formIs
       value-number code w h = value-as (plain (codeIs code)) (rw w) h
 
-      pub value-text : f ≡ fv.Text → Walked L X (noted (wanted 3 v 0) (simpleOut text v T) (eventsAt L (c .event))) c N s M → Walks L X (alone (valued kind b d)) c N s M
+      pub value-text : f ≡ fv.Text → Walked L X (noted (wanted 3 v 0) (simpleOut text v T) (eventsAt L (c .event))) c N s M → Walks L X (alone (valued simple b d)) c N s M
       unfolding formIs
       value-text w h = value-as text (rw w) h
 
@@ -85,54 +85,54 @@ module _ (L X : List ℕ) (c : Cursor) (N : List ℕ) (s : Step) (M : List ℕ) 
 pub ruleset value-ways = (value-number, value-text)
 
 -- an item and then the rest
-module _ (L X : List ℕ) (c : Cursor) (N : List ℕ) (r : Step) (M : List ℕ) (i : Item) (k : ℕ → List Bare → List ℕ → Out) (h : Walks L X (alone i) c N r M) where
+module _ (L X : List ℕ) (c : Spot) (N : List ℕ) (r : Judgement) (M : List ℕ) (i : Item) (k : ℕ → List Bare → List ℕ → Out) (h : Walks L X (alone i) c N r M) where
   pub item-stop : (n at : ℕ) → r ≡ Refuse n at → Walked L X (itemThen i (eventsAt L (c .event)) (textsAt X (c .used)) k) c N r M
   item-stop n at w = walked-as r (item-rest L (c .event) i (textsAt X (c .used)) k) (along-stop L X (alone i (eventsAt L (c .event)) (textsAt X (c .used))) (λ A U. k (wordOf i (eventAt L (c .event))) A U) c N r M h n at w)
 
-  pub item-go : (v : ℕ) → v ≡ wordOf i (eventAt L (c .event)) → (e : Cursor) → r ≡ Go e → (s : Step) (K : List ℕ) → Walked L X (k v (eventsAt L (e .event)) (textsAt X (e .used))) e M s K
+  pub item-go : (v : ℕ) → v ≡ wordOf i (eventAt L (c .event)) → (e : Spot) → r ≡ Go e → (s : Judgement) (K : List ℕ) → Walked L X (k v (eventsAt L (e .event)) (textsAt X (e .used))) e M s K
       → Walked L X (itemThen i (eventsAt L (c .event)) (textsAt X (c .used)) k) c N s K
   item-go v z e w s K y =
       walked-as s (item-rest L (c .event) i (textsAt X (c .used)) k)
       (along-go L X (alone i (eventsAt L (c .event)) (textsAt X (c .used))) (λ A U. k (wordOf i (eventAt L (c .event))) A U) c N r M h e w s K (rw (← z) y))
 
-module _ (L X : List ℕ) (c : Cursor) (N : List ℕ) (r : Step) (M : List ℕ) (name kind b d : ℕ) where
+module _ (L X : List ℕ) (c : Spot) (N : List ℕ) (r : Judgement) (M : List ℕ) (name simple b d : ℕ) where
   module _ (h : Walked L X (noted (wanted 2 name 1) (got ([], textsAt X (c .used))) (eventsAt L (c .event))) c N r M) where
-    pub required-stop : (n at : ℕ) → r ≡ Refuse n at → Walks L X (required· name kind b d) c N r M
+    pub required-stop : (n at : ℕ) → r ≡ Refuse n at → Walks L X (required· name simple b d) c N r M
     unfolding required·
-    required-stop n at w = item-stop L X c N r M (required name) (λ v A U. alone (valued kind b d) A U) (required-as L X c N r M name h) n at w
+    required-stop n at w = item-stop L X c N r M (required name) (λ v A U. alone (valued simple b d) A U) (required-as L X c N r M name h) n at w
 
-    pub required-go : (e : Cursor) → r ≡ Go e → (s : Step) (K : List ℕ) → Walks L X (alone (valued kind b d)) e M s K → Walks L X (required· name kind b d) c N s K
+    pub required-go : (e : Spot) → r ≡ Go e → (s : Judgement) (K : List ℕ) → Walks L X (alone (valued simple b d)) e M s K → Walks L X (required· name simple b d) c N s K
     unfolding required· wordOf
-    required-go e w s K y = item-go L X c N r M (required name) (λ v A U. alone (valued kind b d) A U) (required-as L X c N r M name h) 1 refl e w s K y
+    required-go e w s K y = item-go L X c N r M (required name) (λ v A U. alone (valued simple b d) A U) (required-as L X c N r M name h) 1 refl e w s K y
 
   module _ (x q : ℕ) (a : x ≡ getD L (4 * c .event + 2) 0) (z : q ≡ min x 1)
       (h : Walked L X (noted (wanted 2 name q) (simpleOut (plain (codeIs (cv.Plain (iv.Choice 2)))) q (textsAt X (c .used))) (eventsAt L (c .event))) c N r M) where
     by : q ≡ min (getD L (4 * c .event + 2) 0) 1
     by = z ∙ ap (λ (n : ℕ). min n 1) a
 
-    pub optional-stop : (n at : ℕ) → r ≡ Refuse n at → Walks L X (optional· name kind b d) c N r M
+    pub optional-stop : (n at : ℕ) → r ≡ Refuse n at → Walks L X (optional· name simple b d) c N r M
     unfolding optional·
-    optional-stop n at w = item-stop L X c N r M (optional name) (λ v A U. present v kind b d A U) (optional-as L X c N r M name q by h) n at w
+    optional-stop n at w = item-stop L X c N r M (optional name) (λ v A U. present v simple b d A U) (optional-as L X c N r M name q by h) n at w
 
-    module _ (e : Cursor) (w : r ≡ Go e) where
-      pub optional-absent : q ≡ 0 → Walks L X (optional· name kind b d) c N (Go e) M
+    module _ (e : Spot) (w : r ≡ Go e) where
+      pub optional-absent : q ≡ 0 → Walks L X (optional· name simple b d) c N (Go e) M
       unfolding optional· wordOf present
       optional-absent y =
           let on = ready-on L X _ c N r M h e w in
-          item-go L X c N r M (optional name) (λ v A U. present v kind b d A U) (optional-as L X c N r M name q by h) 0 (sym y ∙ by) e w (Go e) M (stays L X e M on)
+          item-go L X c N r M (optional name) (λ v A U. present v simple b d A U) (optional-as L X c N r M name q by h) 0 (sym y ∙ by) e w (Go e) M (stays L X e M on)
 
-      pub optional-go : (q ≡ 0 → ⊥) → (s : Step) (K : List ℕ) → Walks L X (alone (valued kind b d)) e M s K → Walks L X (optional· name kind b d) c N s K
+      pub optional-go : (q ≡ 0 → ⊥) → (s : Judgement) (K : List ℕ) → Walks L X (alone (valued simple b d)) e M s K → Walks L X (optional· name simple b d) c N s K
       unfolding optional· wordOf present
       optional-go y s K g =
           let one : suc (q - 1) ≡ q = omega arith in
-          item-go L X c N r M (optional name) (λ v A U. present v kind b d A U) (optional-as L X c N r M name q by h) (suc (q - 1)) (one ∙ by) e w s K g
+          item-go L X c N r M (optional name) (λ v A U. present v simple b d A U) (optional-as L X c N r M name q by h) (suc (q - 1)) (one ∙ by) e w s K g
 
 pub ruleset required-ways = (required-stop, required-go, ready-on)
 
 pub ruleset optional-ways = (optional-stop, optional-absent, optional-go, ready-on)
 
 -- an attribute row
-module _ (L X : List ℕ) (c : Cursor) (N : List ℕ) (r : Step) (M : List ℕ) (A : Attribute) (a : attributeT.Attribute) (e : attributeIs a ≡ A) where
+module _ (L X : List ℕ) (c : Spot) (N : List ℕ) (r : Judgement) (M : List ℕ) (A : Attribute) (a : attributeT.Attribute) (e : attributeIs a ≡ A) where
   pub one-required : a .must ≡ true → Walks L X (required· (a .name) (a .kind) (a .b) (a .c)) c N r M → Walks L X (attribute· A) c N r M
   unfolding attribute·
   one-required m h = rw (← e, m) h
@@ -145,29 +145,29 @@ pub ruleset one-ways = (one-required, one-optional)
 
 -- attribute rows: what is left
 module _ (L X t : List ℕ) (first n : ℕ) where
-  abbrev pub left : ℕ → Cursor → Out
+  abbrev pub left : ℕ → Spot → Out
   left i c = attributes· (attributesFrom t (n - i) (first + i)) (eventsAt L (c .event)) (textsAt X (c .used))
 
-  pub all-start : (c : Cursor) (N : List ℕ) → Leads L X (attributes· (attributesFrom t n first) (eventsAt L (c .event)) (textsAt X (c .used))) c N (left 0 c) c N
+  pub all-start : (c : Spot) (N : List ℕ) → Leads L X (attributes· (attributesFrom t n first) (eventsAt L (c .event)) (textsAt X (c .used))) c N (left 0 c) c N
   all-start c N = leads-start L X _ _ c N (let a : n - 0 ≡ n = omega arith in let b : first + 0 ≡ first = omega arith in rw (a, b))
 
-  left-none : (i : ℕ) (c : Cursor) → n ≤ i → left i c ≡ wrote [] (eventsAt L (c .event)) (textsAt X (c .used))
+  left-none : (i : ℕ) (c : Spot) → n ≤ i → left i c ≡ wrote [] (eventsAt L (c .event)) (textsAt X (c .used))
   unfolding attributes·
   left-none i c h = rw (attributes-done t n i (first + i) h)
 
-  left-more : (i : ℕ) (c : Cursor) → i < n → left i c ≡ along (attribute· (attributeOf t (first + i)) (eventsAt L (c .event)) (textsAt X (c .used))) (λ M U. attributes· (attributesFrom t (n - (i + 1)) (first + (i + 1))) M U)
+  left-more : (i : ℕ) (c : Spot) → i < n → left i c ≡ along (attribute· (attributeOf t (first + i)) (eventsAt L (c .event)) (textsAt X (c .used))) (λ M U. attributes· (attributesFrom t (n - (i + 1)) (first + (i + 1))) M U)
   unfolding attributes·
   left-more i c h = rw (attributes-turn t n i first h)
 
-  module _ (o₀ : Out) (c₀ : Cursor) (N₀ : List ℕ) (i : ℕ) (c : Cursor) (N : List ℕ) (l : Leads L X o₀ c₀ N₀ (left i c) c N) where
+  module _ (o₀ : Out) (c₀ : Spot) (N₀ : List ℕ) (i : ℕ) (c : Spot) (N : List ℕ) (l : Leads L X o₀ c₀ N₀ (left i c) c N) where
     pub all-end : n ≤ i → Ready L X N c → Walked L X o₀ c₀ N₀ (Go c) N
     all-end h r = leads-end L X o₀ c₀ N₀ (left i c) c N l (left-none i c h) r
 
-    module _ (h : i < n) (r : Step) (M : List ℕ) (g : Walks L X (attribute· (attributeOf t (first + i))) c N r M) where
+    module _ (h : i < n) (r : Judgement) (M : List ℕ) (g : Walks L X (attribute· (attributeOf t (first + i))) c N r M) where
       pub all-stop : (m at : ℕ) → r ≡ Refuse m at → Walked L X o₀ c₀ N₀ r M
       all-stop m at w = leads-stop L X o₀ c₀ N₀ (left i c) c N l _ _ (left-more i c h) r M g m at w
 
-      pub all-again : (e : Cursor) → r ≡ Go e → Leads L X o₀ c₀ N₀ (left (i + 1) e) e M
+      pub all-again : (e : Spot) → r ≡ Go e → Leads L X o₀ c₀ N₀ (left (i + 1) e) e M
       all-again e w = leads-go L X o₀ c₀ N₀ (left i c) c N l _ _ (left-more i c h) r M g e w _ refl
 
 pub ruleset all-ways = (all-start, all-end, all-stop, all-again, ready-on)

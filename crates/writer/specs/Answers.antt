@@ -3,14 +3,14 @@ use Prim.Native.Nat.{ℕ}
 use mathlib.Core.Path.{_≡_}
 use mathlib.Core.List.{List, []}
 use Rattle.model.specs.Whole.{Made, made, Outcome, outcomeMade, payloadLeft}
-use Rattle.writer_parts.specs.declared.Cursor.{Cursor}
+use Rattle.writer_parts.specs.declared.Spot.{Spot}
 use Rattle.writer.specs.declared.Answer as code
 
 abbrev pub answerIs : code.Answer → Outcome
 answerIs r = record { number = r .number; place = r .place; mode = r .mode; events = r .events; text = r .text .0; bits = r .bits .0; path = [] }
 
 -- where the walk begins
-abbrev pub origin : Cursor
+abbrev pub origin : Spot
 origin = record { event = 0; used = 0; bits = 0 }
 
 -- what is said of a payload that was made

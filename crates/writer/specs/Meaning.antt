@@ -13,20 +13,20 @@ use Rattle.table.specs.Rows.{Attribute, tableOf, heldOf}
 use Rattle.model.specs.Model.Item.{required, optional, valued, picked, counted}
 use Rattle.model.specs.Write.{Bare, Out, wrote, along, flagIn, elementOut}
 use Rattle.model.specs.WriteSteps.{itemThen, particleOut, roundsOut, contentOut, insideOut}
-use Rattle.writer_parts.specs.declared.Step.{Step}
-use Rattle.writer_parts.specs.declared.Step.the-variants.{Refuse}
+use Rattle.writer_parts.specs.declared.Judgement.{Judgement}
+use Rattle.writer_parts.specs.declared.Judgement.the-variants.{Refuse}
 use Rattle.writer_parts.specs.Notes.{modeIs}
 use Rattle.writer_parts.specs.Walk.{eventsIn, alone}
 
 -- the value of an attribute that is there, or nothing
-unfoldable pub present : ℕ → (kind b c : ℕ) → List Bare → List ℕ → Out
+unfoldable pub present : ℕ → (simple b c : ℕ) → List Bare → List ℕ → Out
 present zero k b c N U = wrote [] N U
 present (suc v) k b c N U = alone (valued k b c) N U
 
-unfoldable pub required· : (name kind b c : ℕ) → List Bare → List ℕ → Out
+unfoldable pub required· : (name simple b c : ℕ) → List Bare → List ℕ → Out
 required· name k b c M X = itemThen (required name) M X (λ v N U. alone (valued k b c) N U)
 
-unfoldable pub optional· : (name kind b c : ℕ) → List Bare → List ℕ → Out
+unfoldable pub optional· : (name simple b c : ℕ) → List Bare → List ℕ → Out
 optional· name k b c M X = itemThen (optional name) M X (λ v N U. present v k b c N U)
 
 unfoldable pub attribute· : Attribute → List Bare → List ℕ → Out
@@ -48,7 +48,7 @@ unfoldable pub flagFor : ℕ → ℕ → ℕ
 flagFor mode q = flagIn (modeIs mode) q
 
 -- too deep, or no reading where no event is left
-unfoldable pub deepAt : List ℕ → ℕ → Step
+unfoldable pub deepAt : List ℕ → ℕ → Judgement
 deepAt L i = cond (ltb i (eventsIn L)) (Refuse refusal.depth i) (Refuse noReading i)
 
 module _ (t : List ℕ) (mode d : ℕ) where
@@ -56,19 +56,19 @@ module _ (t : List ℕ) (mode d : ℕ) where
   particle· i M X = particleOut (modeIs mode) (heldOf t) (tableOf t) d (tableOf t .row i) M X
 
   unfoldable pub inside· : ℕ → List Bare → List ℕ → Out
-  inside· kind M X = insideOut (modeIs mode) (heldOf t) (tableOf t) d kind M X
+  inside· ty M X = insideOut (modeIs mode) (heldOf t) (tableOf t) d ty M X
 
   unfoldable pub content· : ℕ → List Bare → List ℕ → Out
-  content· kind M X = contentOut (modeIs mode) (heldOf t) (tableOf t) d (tableOf t .content kind) M X
+  content· ty M X = contentOut (modeIs mode) (heldOf t) (tableOf t) d (tableOf t .content ty) M X
 
-  unfoldable pub element· : (name kind : ℕ) → List Bare → List ℕ → Out
-  element· name kind M X = elementOut (modeIs mode) (heldOf t) (λ N U. inside· kind N U) name kind M X
+  unfoldable pub element· : (name ty : ℕ) → List Bare → List ℕ → Out
+  element· name ty M X = elementOut (modeIs mode) (heldOf t) (λ N U. inside· ty N U) name ty M X
 
   unfoldable pub choose· : (first count : ℕ) → List Bare → List ℕ → Out
   choose· first count M X = itemThen (picked count) M X (λ v N U. particle· (first + v) N U)
 
-  unfoldable pub rounds· : (n first step : ℕ) → List Bare → List ℕ → Out
-  rounds· n first step M X = roundsOut (modeIs mode) (heldOf t) (tableOf t) d n (λ a. tableOf t .row (first + step * a)) M X
+  unfoldable pub rounds· : (first step n : ℕ) → List Bare → List ℕ → Out
+  rounds· first step n M X = roundsOut (modeIs mode) (heldOf t) (tableOf t) d n (λ a. tableOf t .row (first + step * a)) M X
 
   unfoldable pub occur· : (child least most : ℕ) → List Bare → List ℕ → Out
-  occur· child least most M X = itemThen (counted least most) M X (λ v N U. rounds· v child 0 N U)
+  occur· child least most M X = itemThen (counted least most) M X (λ v N U. rounds· child 0 v N U)

@@ -6,7 +6,7 @@ use table::Verdict;
 use table::check;
 use table::rows::types;
 use table::rows::word;
-use writer_parts::Cursor;
+use writer_parts::Spot;
 ghost use mathlib.Core.Path.{_≡_};
 ghost use Prim.Native.Nat.{_≤_, _*_};
 ghost use lib.ListN.{length};
@@ -23,12 +23,12 @@ pub enum Fault {
 }
 
 // By a table that is right: root, mode, the list's shape.
-fn checked(table: &[u32], name: u32, kind: u32, mode: u32, events: &[u32]) -> Fault
+fn judge_checked(table: &[u32], name: u32, t: u32, mode: u32, events: &[u32]) -> Fault
     requires { ⌜ verdict (now table) ≡ right ⌝ }
-    ensures { λ r. ⌜ Fronted (now (table .entry)) name kind mode (now (events .entry)) r ⌝ }
+    ensures { λ r. ⌜ Fronted (now (table .entry)) name t mode (now (events .entry)) r ⌝ }
 {
     let known = types(table);
-    if known <= kind {
+    if known <= t {
         return Fault::At(refusal::ROOT, 0);
     }
     if limit::MOST_NAME < name {
@@ -48,18 +48,18 @@ fn checked(table: &[u32], name: u32, kind: u32, mode: u32, events: &[u32]) -> Fa
 }
 
 // The table, then the rest.
-pub fn asked(table: &[u32], name: u32, kind: u32, mode: u32, events: &[u32]) -> Fault
-    ensures { λ r. ⌜ Fronted (now (table .entry)) name kind mode (now (events .entry)) r ⌝ }
+pub fn judge_before(table: &[u32], name: u32, t: u32, mode: u32, events: &[u32]) -> Fault
+    ensures { λ r. ⌜ Fronted (now (table .entry)) name t mode (now (events .entry)) r ⌝ }
 {
     let v = check(table);
     match v {
         Verdict::Wrong(i) => Fault::At(refusal::TABLE, i),
-        Verdict::Right => checked(table, name, kind, mode, events),
+        Verdict::Right => judge_checked(table, name, t, mode, events),
     }
 }
 
 // No event may be left over, then no text; then the room.
-pub fn settled(events: &[u32], texts: &[u8], c: Cursor, room: usize) -> Fault
+pub fn judge_after(events: &[u32], texts: &[u8], c: Spot, room: usize) -> Fault
     requires { ⌜ (c .event ≤ eventsIn (now events)) × (c .used ≤ length (now texts)) × (c .event ≤ mostEvents) × (c .bits ≤ 40000 * c .event) ⌝ }
     ensures { λ r. ⌜ Settled (now (events .entry)) (now (texts .entry)) c room r ⌝ }
 {

@@ -1,21 +1,22 @@
 // The writer: a walk over the list of events that judges each and notes its bits, then the pen.
+mod attributes; // attributes.rt: one attribute, and all of a type
+mod cycle; // cycle.rt: elements, what is inside them, particle rows
 mod front; // front.rt: what is judged before the walk, and after it
 mod ink; // ink.rt: the mode byte and the notes, into the payload
-pub mod simple; // simple.rt: values and attributes
-pub mod walk; // walk.rt: the cycle element, content, particle, rounds
+mod values; // values.rt: a simple value, a branch, a count
 
 use buffers::clear;
+use cycle::element;
 use front::Fault;
-use front::asked;
-use front::settled;
+use front::judge_after;
+use front::judge_before;
 use ink::draw;
 use numbers::limit;
 use numbers::refusal;
-use walk::element;
 use wire::Bits;
 use wire::Bytes;
-use writer_parts::Cursor;
-use writer_parts::Step;
+use writer_parts::Judgement;
+use writer_parts::Spot;
 ghost use mathlib.Core.Path.{_≡_};
 ghost use mathlib.Core.List.{[]};
 ghost use Prim.Native.Nat.{_*_, _≤_};
@@ -70,13 +71,13 @@ fn finish(
     texts: &[u8],
     notes: &[u32],
     mode: u32,
-    c: Cursor,
+    c: Spot,
     payload: &mut [u8],
 ) -> Answer
     requires { ⌜ (Ready (now events) (now texts) (now notes) c) × (c .bits ≡ length (between (now texts) (now notes) origin c)) × (Zeros (now payload)) × (mode ≤ 2) ⌝ }
     ensures { λ r. ⌜ Writes (spent (eventsIn (now (events .entry))) (wrote (between (now (texts .entry)) (now (notes .entry)) origin c) (eventsAt (now (events .entry)) (c .event)) (textsAt (now (texts .entry)) (c .used))) (roomed (length (now (payload .entry))) (modeIs mode))) mode (eventsIn (now (events .entry))) (length (now (texts .entry))) (length (now (payload .entry))) r (now (payload .exit)) ⌝ }
 {
-    let f = settled(events, texts, c, payload.len());
+    let f = judge_after(events, texts, c, payload.len());
     if let Fault::At(n, p) = f {
         return refused(n, p);
     }
@@ -86,13 +87,13 @@ fn finish(
 }
 
 // Rows that may still be opened below the root.
-const BELOW_ROOT: usize = limit::MOST_OPEN as usize - 1;
+const BELOW_ROOT: u32 = limit::MOST_OPEN - 1;
 
 // Words of a list that is short: its notes are lent less room, as room is zeroed whole before it is used.
 const FEW_WORDS: usize = 512;
 
 // The walk, with room for every event's note, then what it came to, into a payload that is zero.
-fn noted(
+fn write_with_notes(
     table: &[u32],
     root_name: u32,
     root_type: u32,
@@ -105,7 +106,7 @@ fn noted(
     requires { ⌜ (Fine (now table) «root_name» «root_type» mode (now events)) × (Zeros (now payload)) × (4 * eventsIn (now events) ≤ length (now notes)) ⌝ }
     ensures { λ r. ⌜ Writes (writing (now (table .entry)) «root_name» «root_type» mode (now (events .entry)) (now (texts .entry)) (length (now (payload .entry)))) mode (eventsIn (now (events .entry))) (length (now (texts .entry))) (length (now (payload .entry))) r (now (payload .exit)) ⌝ }
 {
-    let start = Cursor {
+    let start = Spot {
         event: 0,
         used: 0,
         bits: 0,
@@ -116,14 +117,14 @@ fn noted(
         texts,
         notes,
         mode,
-        root_name,
-        root_type,
         BELOW_ROOT,
         start,
+        root_name,
+        root_type,
     );
     match r {
-        Step::Refuse(n, p) => refused(n, p),
-        Step::Go(c) => finish(events, texts, notes, mode, c, payload),
+        Judgement::Refuse(n, p) => refused(n, p),
+        Judgement::Go(c) => finish(events, texts, notes, mode, c, payload),
     }
 }
 
@@ -140,13 +141,13 @@ pub fn write(
     ensures { λ r. ⌜ Writes (writing (now (table .entry)) «root_name» «root_type» mode (now (events .entry)) (now (texts .entry)) (length (now (payload .entry)))) mode (eventsIn (now (events .entry))) (length (now (texts .entry))) (length (now (payload .entry))) r (now (payload .exit)) ⌝ }
 {
     clear(payload);
-    let f = asked(table, root_name, root_type, mode, events);
+    let f = judge_before(table, root_name, root_type, mode, events);
     if let Fault::At(n, p) = f {
         return refused(n, p);
     }
     if events.len() <= FEW_WORDS {
         let mut few = [0u32; FEW_WORDS];
-        return noted(
+        return write_with_notes(
             table,
             root_name,
             root_type,
@@ -158,7 +159,7 @@ pub fn write(
         );
     }
     let mut all = [0u32; limit::MOST_EVENT_WORDS];
-    noted(
+    write_with_notes(
         table,
         root_name,
         root_type,

@@ -26,7 +26,7 @@ use Rattle.model.specs.Items.{Mode, flag, lengths}
 use Rattle.model.specs.Write.{headOut, lengthOf}
 use Rattle.writer_parts.specs.declared.Piece.{Piece}
 use Rattle.writer_parts.specs.declared.Note.{Note}
-use Rattle.writer_parts.specs.declared.Head.{Head}
+use Rattle.writer_parts.specs.declared.SizedNote.{SizedNote}
 use Rattle.writer_parts.specs.Notes.{piece, fixedPiece, fivePiece, both, only, Spelt, Noted, HeadNote, modeIs}
 use Rattle.writer_parts.proofs.NoteLaws.{piece-fixed, piece-five, piece-none}
 
@@ -125,7 +125,7 @@ module _ (c : codeT.Code) (v : ℕ) (n : Note) where
 pub ruleset number-ways = (number-plain, number-word, number-signed, number-some, number-shifted)
 
 -- head
-head-as : (h : Head) (n : Note) (b : ℕ) (w : List ℕ) → h ≡ record { note = n; bits = b } → Noted n w → b ≡ length w → b ≤ 41 → HeadNote h w
+head-as : (h : SizedNote) (n : Note) (b : ℕ) (w : List ℕ) → h ≡ record { note = n; bits = b } → Noted n w → b ≡ length w → b ≤ 41 → HeadNote h w
 head-as h n b w e f g s = rw e (record { note = f; long = g; short = s })
 
 module _ (mode q n : ℕ) (note : Note) where

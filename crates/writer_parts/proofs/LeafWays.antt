@@ -35,10 +35,10 @@ use Rattle.model.specs.Items.{Mode}
 use Rattle.model.specs.Whole.{eventAt}
 use Rattle.writer_parts.specs.declared.Piece.{Piece}
 use Rattle.writer_parts.specs.declared.Note.{Note}
-use Rattle.writer_parts.specs.declared.Head.{Head}
-use Rattle.writer_parts.specs.declared.Cursor.{Cursor}
-use Rattle.writer_parts.specs.declared.Step.{Step}
-use Rattle.writer_parts.specs.declared.Step.the-variants.{Go, Refuse}
+use Rattle.writer_parts.specs.declared.SizedNote.{SizedNote}
+use Rattle.writer_parts.specs.declared.Spot.{Spot}
+use Rattle.writer_parts.specs.declared.Judgement.{Judgement}
+use Rattle.writer_parts.specs.declared.Judgement.the-variants.{Go, Refuse}
 use Rattle.writer_parts.specs.Notes.{piece, noteBits, noteAt, spells, keeps, fixedPiece, only, textNote, Noted, HeadNote, modeIs}
 use Rattle.writer_parts.proofs.NoteLaws.{piece-five, piece-bytes, piece-none, spells-none, spells-one, spells-by, spells-same, kept-other, kept-note, kept-length}
 use Rattle.writer_parts.specs.Walk.{eventsIn, eventsAt, textsAt, Ready, between, past, Sealing, Went, Stopped, Walked, wanted, judged, noted, textWrong}
@@ -83,15 +83,15 @@ none : {b : ℕ} → b ≤ 0 → b ≡ 0
 none h = omega arith
 
 -- an event that was judged is one of the list
-pub judged-few : (L X N : List ℕ) (c : Cursor) (f : Bare) (b : ℕ) → Ready L X N c → b ≡ judged L (c .event) f → b ≤ 0 → c .event < mostEvents
+pub judged-few : (L X N : List ℕ) (c : Spot) (f : Bare) (b : ℕ) → Ready L X N c → b ≡ judged L (c .event) f → b ≤ 0 → c .event < mostEvents
 judged-few L X N c f b r e z = let h = judged-in L (c .event) f (sym e ∙ none z) in let g = r .few in omega arith
 
 -- and has room for its note
-pub judged-room : (L X N : List ℕ) (c : Cursor) (f : Bare) (b : ℕ) → Ready L X N c → b ≡ judged L (c .event) f → b ≤ 0 → 4 * c .event + 4 ≤ length N
+pub judged-room : (L X N : List ℕ) (c : Spot) (f : Bare) (b : ℕ) → Ready L X N c → b ≡ judged L (c .event) f → b ≤ 0 → 4 * c .event + 4 ≤ length N
 judged-room L X N c f b r e z = let h = judged-in L (c .event) f (sym e ∙ none z) in let g = r .sized in omega arith
 
 -- one event noted
-module _ (L X : List ℕ) (c : Cursor) (N : List ℕ) (f : Bare) (m : Res (List ℕ × List ℕ)) (r : Ready L X N c) (b : ℕ) (j : b ≡ judged L (c .event) f) where
+module _ (L X : List ℕ) (c : Spot) (N : List ℕ) (f : Bare) (m : Res (List ℕ × List ℕ)) (r : Ready L X N c) (b : ℕ) (j : b ≡ judged L (c .event) f) where
   pub noted-unlike : 0 < b → Walked L X (noted f m (eventsAt L (c .event))) c N (Refuse b (c .event)) N
   unfolding noted
   noted-unlike p = record { is = record { out = taken-unlike L (c .event) f (λ e. f) _ refl b j p (r .inside); inside = r .inside } }
@@ -111,7 +111,7 @@ module _ (L X : List ℕ) (c : Cursor) (N : List ℕ) (f : Bare) (m : Res (List 
         let k : suc (length (eventsAt L (c .event + 1))) ≡ eventsIn L - c .event = omega (arith, events-count L (c .event + 1)) in
         record { is = record { out = rw (noted-like, e, k); inside = r .inside } }
 
-    pub noted-got : (w : List ℕ) (n : Note) (M : List ℕ) (e : Cursor) → m ≡ got (w, textsAt X (e .used)) → noteBits X n ≡ w → M ≡ keeps N (c .event) n
+    pub noted-got : (w : List ℕ) (n : Note) (M : List ℕ) (e : Spot) → m ≡ got (w, textsAt X (e .used)) → noteBits X n ≡ w → M ≡ keeps N (c .event) n
         → e .event ≡ c .event + 1 → e .bits ≡ c .bits + length w → length w ≤ 40000 → e .used ≤ length X → e .used ≤ c .used + mostText → Walked L X (noted f m (eventsAt L (c .event))) c N (Go e) M
     unfolding coded
     noted-got w n M e g is k next bits small used short =
@@ -131,7 +131,7 @@ module _ (L X : List ℕ) (c : Cursor) (N : List ℕ) (f : Bare) (m : Res (List 
         }
 
 -- mark
-pub mark-go : (L X : List ℕ) (c : Cursor) (N : List ℕ) (f : Bare) → Ready L X N c → (b : ℕ) → b ≡ judged L (c .event) f → b ≤ 0 → (n : Note) → n ≡ only (fixedPiece 0 0) → (M : List ℕ) → M ≡ keeps N (c .event) n
+pub mark-go : (L X : List ℕ) (c : Spot) (N : List ℕ) (f : Bare) → Ready L X N c → (b : ℕ) → b ≡ judged L (c .event) f → b ≤ 0 → (n : Note) → n ≡ only (fixedPiece 0 0) → (M : List ℕ) → M ≡ keeps N (c .event) n
     → Walked L X (noted f (got ([], textsAt X (c .used))) (eventsAt L (c .event))) c N (Go (past c)) M
 mark-go L X c N f r b j z n e M k =
     noted-got L X c N f _ r b j z [] n M (past c) refl (rw e (empty X)) k refl (omega arith) (omega arith) (r .used) (omega arith)
@@ -168,7 +168,7 @@ module _ (k : codeT.Code) (v : ℕ) (s : sizeT.Size) (e : sizeIs s ≡ sizeOut (
   unfolding sizeIs
   unsized n w = sym e ∙ rw w
 
-module _ (L X : List ℕ) (c : Cursor) (N : List ℕ) (f : Bare) (r : Ready L X N c) (b : ℕ) (j : b ≡ judged L (c .event) f) (z : b ≤ 0)
+module _ (L X : List ℕ) (c : Spot) (N : List ℕ) (f : Bare) (r : Ready L X N c) (b : ℕ) (j : b ≡ judged L (c .event) f) (z : b ≤ 0)
     (k : codeT.Code) (v : ℕ) (s : sizeT.Size) (e : sizeIs s ≡ sizeOut (codeIs k) v) where
   pub coded-fault : (n : ℕ) → s ≡ sv.Refuse n → Walked L X (noted f (simpleOut (plain (codeIs k)) v (textsAt X (c .used))) (eventsAt L (c .event))) c N (Refuse n (c .event)) N
   unfolding simpleOut
@@ -236,7 +236,7 @@ drop-drop zero b l = let e : 0 + b ≡ b = omega arith in rw e
 drop-drop (suc a) b [] = drop-nil b ∙ sym (drop-nil (suc a + b))
 drop-drop (suc a) b (x ∷ l) = drop-drop a b l ∙ let e : suc a + b ≡ suc (a + b) = omega arith in rw e
 
-module _ (L X : List ℕ) (c : Cursor) (N : List ℕ) (v : ℕ) (r : Ready L X N c) (b : ℕ) (j : b ≡ judged L (c .event) (wanted kinds.value v 0)) (z : b ≤ 0) (w : ℕ) (e : w ≡ textWrong X (c .used) v) where
+module _ (L X : List ℕ) (c : Spot) (N : List ℕ) (v : ℕ) (r : Ready L X N c) (b : ℕ) (j : b ≡ judged L (c .event) (wanted kinds.value v 0)) (z : b ≤ 0) (w : ℕ) (e : w ≡ textWrong X (c .used) v) where
   tested : (0 < w → simpleOut text v (textsAt X (c .used)) ≡ fault w)
       × (w ≡ 0 → (simpleOut text v (textsAt X (c .used)) ≡ got (code5 v ++ bytes (take v (textsAt X (c .used))), drop v (textsAt X (c .used)))) × (v ≤ mostText) × (v ≤ length (textsAt X (c .used))))
   unfolding textWrong
@@ -291,7 +291,7 @@ module _ (L X : List ℕ) (c : Cursor) (N : List ℕ) (v : ℕ) (r : Ready L X N
 pub ruleset text-ways = (noted-unlike, judged-few, judged-room, text-refused, text-small, text-place, text-end, text-eight, text-part, text-bits, text-go)
 
 -- close
-module _ (L X : List ℕ) (c e : Cursor) (N : List ℕ) (mode q : ℕ) (r : Ready L X N c) (s : Sealing L X N c e) (b : ℕ) (j : b ≡ judged L (e .event) (wanted kinds.end 0 0)) where
+module _ (L X : List ℕ) (c e : Spot) (N : List ℕ) (mode q : ℕ) (r : Ready L X N c) (s : Sealing L X N c e) (b : ℕ) (j : b ≡ judged L (e .event) (wanted kinds.end 0 0)) where
   abbrev inner : List ℕ
   inner = between X N (past c) e
 
@@ -315,10 +315,10 @@ module _ (L X : List ℕ) (c e : Cursor) (N : List ℕ) (mode q : ℕ) (r : Read
     pub close-next : FitsIn w64 (e .event + 1)
     close-next = let h = close-in in record { fits = omega arith }
 
-    pub close-fits : (h : Head) (w : List ℕ) → HeadNote h w → FitsIn w32 (e .bits + h .bits)
+    pub close-fits : (h : SizedNote) (w : List ℕ) → HeadNote h w → FitsIn w32 (e .bits + h .bits)
     close-fits h w g = let a = s .ready .small in let d = s .ready .few in let i = s .ready .inside in let k = g .short in record { fits = omega arith }
 
-    pub close-go : (n : Note) (M : List ℕ) → n ≡ only (fixedPiece 0 0) → M ≡ keeps N (e .event) n → (h : Head) → HeadNote h (headOut (modeIs mode) (lengthOf q (e .bits - c .bits))) → (K : List ℕ) → K ≡ keeps M (c .event) (h .note)
+    pub close-go : (n : Note) (M : List ℕ) → n ≡ only (fixedPiece 0 0) → M ≡ keeps N (e .event) n → (h : SizedNote) → HeadNote h (headOut (modeIs mode) (lengthOf q (e .bits - c .bits))) → (K : List ℕ) → K ≡ keeps M (c .event) (h .note)
         → Walked L X (sealed (modeIs mode) q (wrote inner (eventsAt L (e .event)) (textsAt X (e .used)))) c N (Go (record { event = e .event + 1; used = e .used; bits = e .bits + h .bits })) K
     unfolding sealed
     close-go n M nothing k h g K y =
@@ -329,7 +329,7 @@ module _ (L X : List ℕ) (c e : Cursor) (N : List ℕ) (mode q : ℕ) (r : Read
         let cn = s .counts in
         let bound : e .bits - c .bits ≡ length inner = omega arith in
         let lenM : length M ≡ length N = ap length k ∙ kept-length N (e .event) n in
-        let f : Cursor = record { event = e .event + 1; used = e .used; bits = e .bits + h .bits } in
+        let f : Spot = record { event = e .event + 1; used = e .used; bits = e .bits + h .bits } in
         let head : noteAt X K (c .event) ≡ headOut (modeIs mode) (lengthOf q (e .bits - c .bits)) =
         ap (λ (l : List ℕ). noteAt X l (c .event)) y ∙ kept-note M (c .event) (h .note) X (omega arith) ∙ g .note .is X in
         let mid : spells X K (c .event + 1) (e .event - (c .event + 1)) ≡ inner =

@@ -14,39 +14,39 @@ use Rattle.model.specs.Write.{Bare, Out, wrote, refused, put, along, unlike, ma
 use Rattle.model.proofs.OutLaws.{along-then, put-then}
 use Rattle.model.specs.WriteSteps.{itemThen}
 use Rattle.model.specs.Whole.{eventAt, eventsFrom}
-use Rattle.writer_parts.specs.declared.Cursor.{Cursor}
-use Rattle.writer_parts.specs.declared.Step.{Step}
-use Rattle.writer_parts.specs.declared.Step.the-variants.{Go, Refuse}
+use Rattle.writer_parts.specs.declared.Spot.{Spot}
+use Rattle.writer_parts.specs.declared.Judgement.{Judgement}
+use Rattle.writer_parts.specs.declared.Judgement.the-variants.{Go, Refuse}
 use Rattle.writer_parts.specs.Notes.{spells}
 use Rattle.writer_parts.proofs.NoteLaws.{spells-none, spells-by, spells-same}
 use Rattle.writer_parts.specs.Walk.{eventsIn, eventsAt, textsAt, Ready, between, Went, Stopped, Walked, Walks, judged, noted, alone}
 
 -- an answer that goes on, or stops
-module _ {L X : List ℕ} {o : Out} {c : Cursor} {N : List ℕ} {r : Step} {M : List ℕ} (h : Walked L X o c N r M) where
-  pub went : (e : Cursor) → r ≡ Go e → Went L X o c N e M
+module _ {L X : List ℕ} {o : Out} {c : Spot} {N : List ℕ} {r : Judgement} {M : List ℕ} (h : Walked L X o c N r M) where
+  pub went : (e : Spot) → r ≡ Go e → Went L X o c N e M
   went e w = rw w at (h .is)
 
   pub stopped : (n at : ℕ) → r ≡ Refuse n at → Stopped L o n at
   stopped n at w = rw w at (h .is)
 
 -- the same meaning in other words
-pub walked-as : {L X : List ℕ} {o p : Out} {c : Cursor} {N : List ℕ} (r : Step) {M : List ℕ} → o ≡ p → Walked L X p c N r M → Walked L X o c N r M
+pub walked-as : {L X : List ℕ} {o p : Out} {c : Spot} {N : List ℕ} (r : Judgement) {M : List ℕ} → o ≡ p → Walked L X p c N r M → Walked L X o c N r M
 walked-as r e h = rw e h
 
 -- nothing is walked
-pub stays : (L X : List ℕ) (c : Cursor) (N : List ℕ) → Ready L X N c → Walked L X (wrote [] (eventsAt L (c .event)) (textsAt X (c .used))) c N (Go c) N
+pub stays : (L X : List ℕ) (c : Spot) (N : List ℕ) → Ready L X N c → Walked L X (wrote [] (eventsAt L (c .event)) (textsAt X (c .used))) c N (Go c) N
 stays L X c N r =
     let z : c .event - c .event ≡ 0 = omega arith in
     let e : between X N c c ≡ [] = rw z (spells-none X N (c .event)) in
     record { is = record { out = rw e; counts = rw e (omega arith); onward = omega arith; ready = r; before = λ j h. refl } }
 
 -- one part after another
-module _ (L X : List ℕ) (o : Out) (k : List Bare → List ℕ → Out) (c : Cursor) (N : List ℕ) (r : Step) (M : List ℕ) (h : Walked L X o c N r M) where
+module _ (L X : List ℕ) (o : Out) (k : List Bare → List ℕ → Out) (c : Spot) (N : List ℕ) (r : Judgement) (M : List ℕ) (h : Walked L X o c N r M) where
   pub along-stop : (n at : ℕ) → r ≡ Refuse n at → Walked L X (along o k) c N r M
   unfolding along
   along-stop n at w = let s = stopped h n at w in rw w (record { is = record { out = rw (s .out); inside = s .inside } })
 
-  pub along-go : (e : Cursor) → r ≡ Go e → (s : Step) (K : List ℕ) → Walked L X (k (eventsAt L (e .event)) (textsAt X (e .used))) e M s K → Walked L X (along o k) c N s K
+  pub along-go : (e : Spot) → r ≡ Go e → (s : Judgement) (K : List ℕ) → Walked L X (k (eventsAt L (e .event)) (textsAt X (e .used))) e M s K → Walked L X (along o k) c N s K
   unfolding put
   along-go e w (Go f) K y =
       let b = y .is in

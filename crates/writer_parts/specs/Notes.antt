@@ -11,7 +11,7 @@ use Rattle.value.specs.Simple.{bytes}
 use Rattle.model.specs.Items.{Mode}
 use Rattle.writer_parts.specs.declared.Piece.{Piece}
 use Rattle.writer_parts.specs.declared.Note.{Note}
-use Rattle.writer_parts.specs.declared.Head.{Head}
+use Rattle.writer_parts.specs.declared.SizedNote.{SizedNote}
 
 -- up to 32 bits of x; 33: the vluimsbf5 of x; 34 + n: n bytes of the texts from byte x on
 unfoldable pub piece : List ℕ → ℕ → ℕ → List ℕ
@@ -66,7 +66,7 @@ pub record Noted (n : Note) (w : List ℕ) : Type 0 where
   pub is : (X : List ℕ) → noteBits X n ≡ w
 
 -- a head that is these bits, few of them
-pub record HeadNote (h : Head) (w : List ℕ) : Type 0 where
+pub record HeadNote (h : SizedNote) (w : List ℕ) : Type 0 where
   pub note : Noted (h .note) w
   pub long : h .bits ≡ length w
   pub short : h .bits ≤ 41

@@ -14,9 +14,9 @@ use Rattle.model.specs.Model.{Item}
 use Rattle.model.specs.Write.{Bare, Out, wrote, refused, unlike, taken, coded}
 use Rattle.model.specs.WriteSteps.{itemThen}
 use Rattle.model.specs.Whole.{eventAt, eventsFrom}
-use Rattle.writer_parts.specs.declared.Cursor.{Cursor}
-use Rattle.writer_parts.specs.declared.Step.{Step}
-use Rattle.writer_parts.specs.declared.Step.the-variants.{Go, Refuse}
+use Rattle.writer_parts.specs.declared.Spot.{Spot}
+use Rattle.writer_parts.specs.declared.Judgement.{Judgement}
+use Rattle.writer_parts.specs.declared.Judgement.the-variants.{Go, Refuse}
 use Rattle.writer_parts.specs.Notes.{spells}
 
 -- how many events the words L are; events and texts from a cursor on
@@ -30,7 +30,7 @@ unfoldable pub textsAt : List ℕ → ℕ → List ℕ
 textsAt X used = drop used X
 
 -- room for every event's note; a cursor within the list, its counts small
-pub record Ready (L X N : List ℕ) (c : Cursor) : Type 0 where
+pub record Ready (L X N : List ℕ) (c : Spot) : Type 0 where
   pub sized : 4 * eventsIn L ≤ length N
   pub few : eventsIn L ≤ mostEvents
   pub inside : c .event ≤ eventsIn L
@@ -39,10 +39,10 @@ pub record Ready (L X N : List ℕ) (c : Cursor) : Type 0 where
   pub small : c .bits ≤ 40000 * c .event
 
 -- the notes of the events between two cursors
-abbrev pub between : List ℕ → List ℕ → Cursor → Cursor → List ℕ
+abbrev pub between : List ℕ → List ℕ → Spot → Spot → List ℕ
 between X N c e = spells X N (c .event) (e .event - c .event)
 
-pub record Went (L X : List ℕ) (o : Out) (c : Cursor) (N : List ℕ) (e : Cursor) (M : List ℕ) : Type 0 where
+pub record Went (L X : List ℕ) (o : Out) (c : Spot) (N : List ℕ) (e : Spot) (M : List ℕ) : Type 0 where
   pub out : o ≡ wrote (between X M c e) (eventsAt L (e .event)) (textsAt X (e .used))
   pub counts : e .bits ≡ c .bits + length (between X M c e)
   pub onward : c .event ≤ e .event
@@ -53,24 +53,24 @@ pub record Stopped (L : List ℕ) (o : Out) (number at : ℕ) : Type 0 where
   pub out : o ≡ refused number (eventsIn L - at)
   pub inside : at ≤ eventsIn L
 
-abbrev pub Ended : List ℕ → List ℕ → Out → Cursor → List ℕ → Step → List ℕ → Type 0
+abbrev pub Ended : List ℕ → List ℕ → Out → Spot → List ℕ → Judgement → List ℕ → Type 0
 Ended L X o c N (Go e) M = Went L X o c N e M
 Ended L X o c N (Refuse n at) M = Stopped L o n at
 
 -- words, texts, what was to be written, cursor and notes before, answer, notes after
-pub record Walked (L X : List ℕ) (o : Out) (c : Cursor) (N : List ℕ) (r : Step) (M : List ℕ) : Type 0 where
+pub record Walked (L X : List ℕ) (o : Out) (c : Spot) (N : List ℕ) (r : Judgement) (M : List ℕ) : Type 0 where
   pub is : Ended L X o c N r M
 
 -- a meaning from a cursor on
-abbrev pub Walks : List ℕ → List ℕ → (List Bare → List ℕ → Out) → Cursor → List ℕ → Step → List ℕ → Type 0
+abbrev pub Walks : List ℕ → List ℕ → (List Bare → List ℕ → Out) → Spot → List ℕ → Judgement → List ℕ → Type 0
 Walks L X f c N r M = Walked L X (f (eventsAt L (c .event)) (textsAt X (c .used))) c N r M
 
 -- a cursor past one event, with nothing counted
-abbrev pub past : Cursor → Cursor
+abbrev pub past : Spot → Spot
 past c = record { event = c .event + 1; used = c .used; bits = c .bits }
 
 -- the walk went on from past c to e, and its bits were counted along
-pub record Sealing (L X N : List ℕ) (c e : Cursor) : Type 0 where
+pub record Sealing (L X N : List ℕ) (c e : Spot) : Type 0 where
   pub started : c .event < e .event
   pub ready : Ready L X N e
   pub counts : e .bits ≡ c .bits + length (between X N (past c) e)

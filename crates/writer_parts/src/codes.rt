@@ -1,7 +1,7 @@
 // The note of a code's value, and of an element's head.
-use super::Head;
-use super::Note;
-use super::Piece;
+use crate::Note;
+use crate::Piece;
+use crate::SizedNote;
 use signed::lowered;
 use signed::magnitude;
 use value::Code;
@@ -88,30 +88,30 @@ pub fn number(c: Code, v: u32) -> Note
 }
 
 // An element's flag and TheLength, over n bits inside it; q is its Start's second word.
-pub fn head(mode: u32, q: u32, n: u32) -> Head
+pub fn head(mode: u32, q: u32, n: u32) -> SizedNote
     ensures { λ r. ⌜ HeadNote r (headOut (modeIs mode) (lengthOf q n)) ⌝ }
 {
     if mode == numbers::mode::NEVER {
         let note = just(fixed(0, 0));
-        return Head { note, bits: 0 };
+        return SizedNote { note, bits: 0 };
     }
     if q == 0 {
         if mode == numbers::mode::OPTIONAL {
             let note = just(fixed(1, 0));
-            return Head { note, bits: 1 };
+            return SizedNote { note, bits: 1 };
         }
         let note = just(fixed(0, 0));
-        return Head { note, bits: 0 };
+        return SizedNote { note, bits: 0 };
     }
     let length = size5(n);
     let long = length.0;
     if mode == numbers::mode::OPTIONAL {
         let note = pair(fixed(1, 1), five(n));
-        return Head {
+        return SizedNote {
             note,
             bits: 1 + long,
         };
     }
     let note = just(five(n));
-    Head { note, bits: long }
+    SizedNote { note, bits: long }
 }

@@ -1,11 +1,11 @@
 // One event judged against what is wanted, and its note kept.
-use super::Cursor;
-use super::Note;
-use super::Piece;
-use super::Step;
-use super::codes::head;
-use super::codes::just;
-use super::codes::number;
+use crate::Judgement;
+use crate::Note;
+use crate::Piece;
+use crate::Spot;
+use crate::codes::head;
+use crate::codes::just;
+use crate::codes::number;
 use numbers::kind;
 use numbers::limit;
 use numbers::refusal;
@@ -77,62 +77,62 @@ pub fn mark(
     events: &[u32],
     texts: &[u8],
     notes: &mut [u32],
-    c: Cursor,
+    c: Spot,
     kind: u32,
     p: u32,
     q: u32,
-) -> Step
+) -> Judgement
     requires { ⌜ Ready (now events) (now texts) (now notes) c ⌝ }
     ensures { λ r. ⌜ Walked (now (events .entry)) (now (texts .entry)) (noted (wanted kind p q) (got ([], textsAt (now (texts .entry)) (c .used))) (eventsAt (now (events .entry)) (c .event))) c (now (notes .entry)) r (now (notes .exit)) ⌝ }
 {
     let at = c.event;
     let bad = unlike(events, at, kind, p, q);
     if 0 < bad {
-        return Step::Refuse(bad, at);
+        return Judgement::Refuse(bad, at);
     }
     let nothing = Piece { width: 0, x: 0 };
     let note = just(nothing);
     keep(notes, at, note);
-    let next = Cursor {
+    let next = Spot {
         event: at + 1,
         used: c.used,
         bits: c.bits,
     };
-    Step::Go(next)
+    Judgement::Go(next)
 }
 
 // An event whose value v is written in a code, which may have no such value.
-pub fn coded(
+pub fn note_code(
     events: &[u32],
     texts: &[u8],
     notes: &mut [u32],
-    c: Cursor,
+    c: Spot,
     kind: u32,
     p: u32,
     q: u32,
     code: Code,
     v: u32,
-) -> Step
+) -> Judgement
     requires { ⌜ Ready (now events) (now texts) (now notes) c ⌝ }
     ensures { λ r. ⌜ Walked (now (events .entry)) (now (texts .entry)) (noted (wanted kind p q) (simpleOut (plain (codeIs code)) v (textsAt (now (texts .entry)) (c .used))) (eventsAt (now (events .entry)) (c .event))) c (now (notes .entry)) r (now (notes .exit)) ⌝ }
 {
     let at = c.event;
     let bad = unlike(events, at, kind, p, q);
     if 0 < bad {
-        return Step::Refuse(bad, at);
+        return Judgement::Refuse(bad, at);
     }
     match size(code, v) {
-        Size::Refuse(e) => Step::Refuse(e, at),
+        Size::Refuse(e) => Judgement::Refuse(e, at),
         Size::Takes(n) => {
             let note = number(code, v);
             keep(notes, at, note);
             let bits = c.bits + n.0;
-            let next = Cursor {
+            let next = Spot {
                 event: at + 1,
                 used: c.used,
                 bits,
             };
-            Step::Go(next)
+            Judgement::Go(next)
         }
     }
 }
@@ -167,7 +167,7 @@ fn text_note(v: u32, from: u32) -> Note
 }
 
 // A text's event, of v bytes.
-pub fn text_value(events: &[u32], texts: &[u8], notes: &mut [u32], c: Cursor, v: u32) -> Step
+pub fn note_text(events: &[u32], texts: &[u8], notes: &mut [u32], c: Spot, v: u32) -> Judgement
     requires { ⌜ Ready (now events) (now texts) (now notes) c ⌝ }
     ensures { λ r. ⌜ Walked (now (events .entry)) (now (texts .entry)) (noted (wanted kinds.value v 0) (simpleOut text v (textsAt (now (texts .entry)) (c .used))) (eventsAt (now (events .entry)) (c .event))) c (now (notes .entry)) r (now (notes .exit)) ⌝ }
 {
@@ -175,22 +175,22 @@ pub fn text_value(events: &[u32], texts: &[u8], notes: &mut [u32], c: Cursor, v:
     let used = c.used;
     let bad = unlike(events, at, kind::VALUE, v, 0);
     if 0 < bad {
-        return Step::Refuse(bad, at);
+        return Judgement::Refuse(bad, at);
     }
     let wrong = text_fault(texts, used, v);
     if 0 < wrong {
-        return Step::Refuse(wrong, at);
+        return Judgement::Refuse(wrong, at);
     }
     let note = text_note(v, used as u32);
     keep(notes, at, note);
     let count = size5(v);
     let bits = c.bits + count.0 + 8 * v;
-    let next = Cursor {
+    let next = Spot {
         event: at + 1,
         used: used + (v as usize),
         bits,
     };
-    Step::Go(next)
+    Judgement::Go(next)
 }
 
 // The end of an element whose Start, with the second word q, is at c, and inside which the walk went on to e: End, then the head noted at Start.
@@ -200,9 +200,9 @@ pub fn close(
     notes: &mut [u32],
     mode: u32,
     q: u32,
-    c: Cursor,
-    e: Cursor,
-) -> Step
+    c: Spot,
+    e: Spot,
+) -> Judgement
     requires { ⌜ (Ready (now events) (now texts) (now notes) c) × Sealing (now events) (now texts) (now notes) c e ⌝ }
     ensures { λ r. ⌜ Walked (now (events .entry)) (now (texts .entry)) (sealed (modeIs mode) q (wrote (between (now (texts .entry)) (now (notes .entry)) (record { event = c .event + 1; used = c .used; bits = c .bits }) e) (eventsAt (now (events .entry)) (e .event)) (textsAt (now (texts .entry)) (e .used)))) c (now (notes .entry)) r (now (notes .exit)) ⌝ }
 {
@@ -210,7 +210,7 @@ pub fn close(
     let to = e.event;
     let bad = unlike(events, to, kind::END, 0, 0);
     if 0 < bad {
-        return Step::Refuse(bad, to);
+        return Judgement::Refuse(bad, to);
     }
     let nothing = Piece { width: 0, x: 0 };
     let none = just(nothing);
@@ -219,10 +219,10 @@ pub fn close(
     let note = h.note;
     keep(notes, at, note);
     let bits = e.bits + h.bits;
-    let next = Cursor {
+    let next = Spot {
         event: to + 1,
         used: e.used,
         bits,
     };
-    Step::Go(next)
+    Judgement::Go(next)
 }

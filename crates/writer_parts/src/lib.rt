@@ -15,21 +15,21 @@ pub struct Note {
     pub two: Piece,
 }
 
-// An element's head, and how many bits that is.
-pub struct Head {
+// An element's head as a note, and how many bits that is.
+pub struct SizedNote {
     pub note: Note,
     pub bits: u32,
 }
 
-// Where a walk over the list is: the next event, the text bytes used, the bits of what was noted.
-pub struct Cursor {
+// Where a walk over the list of events is: the next event, the text bytes used, the bits of what was noted.
+pub struct Spot {
     pub event: usize,
     pub used: usize,
     pub bits: u32,
 }
 
-// Where the walk goes on; or number and event of a refusal.
-pub enum Step {
-    Go(Cursor),
+// One event judged, or several: where the walk goes on; or number and event of a refusal.
+pub enum Judgement {
+    Go(Spot),
     Refuse(u32, usize),
 }

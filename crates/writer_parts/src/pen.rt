@@ -1,6 +1,6 @@
 // Notes into a lent buffer, one after another.
-use super::Note;
-use super::Piece;
+use crate::Note;
+use crate::Piece;
 use value::writing::put_bytes;
 use wire::Bits;
 use wire::writing::put;
@@ -18,7 +18,7 @@ fn least(a: usize, b: usize) -> usize
     if a < b { a } else { b }
 }
 
-// A piece, by its kind, and the place past it.
+// A piece, by its width, and the place past it.
 fn put_piece(payload: &mut [u8], at: Bits, texts: &[u8], p: Piece) -> Bits
     requires { ⌜ Room (now payload) (at .0) (length (pieceBits (now texts) p)) ⌝ }
     ensures { λ r. ⌜ Wrote (now (payload .entry)) (now (payload .exit)) (at .0) (pieceBits (now (texts .entry)) p) (r .0) ⌝ }

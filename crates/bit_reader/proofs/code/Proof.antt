@@ -36,17 +36,17 @@ use denote.Triple.Table.{entered, cited}
 use denote.Triple.Walked.{says, Stays, stay-none, stay-none-slice, walkOf, goes-none, goes-none-slice, Walks, ends-at, walked, walk-meets}
 use denote.Exit.{yes}
 use denote.Triple.Clauses.{ensured, lasts}
-use Rattle.bit_reader.specs.Codes.{Told, answerIs, codeAt}
+use Rattle.bit_reader.specs.Codes.{Told, readingIs, readingAt}
 use Rattle.wire.specs.declared.Bits.{Bits}
 use Rattle.bit_reader.specs.declared.BitReader.{BitReader}
 use Rattle.bit_reader.specs.declared.codes.Coding.{Coding}
-use Rattle.bit_reader.specs.declared.codes.Answer.{Answer}
+use Rattle.bit_reader.specs.declared.codes.Reading.{Reading}
 use Rattle.wire.proofs.Bits as P
 use Rattle.bit_reader.proofs.BitReader as T
 use Rattle.bit_reader.proofs.BitReader.Laws as T′
 use Rattle.bit_reader.proofs.codes.Coding as K
-use Rattle.bit_reader.proofs.codes.Answer as S
-use Rattle.bit_reader.proofs.codes.Answer.Laws as S′
+use Rattle.bit_reader.proofs.codes.Reading as S
+use Rattle.bit_reader.proofs.codes.Reading.Laws as S′
 use Rattle.bit_reader.proofs.Held as held
 use Rattle.bit_reader.proofs.over as over
 use Rattle.bit_reader.proofs.over.Symbol as over-def
@@ -85,7 +85,7 @@ module _ {M : Type 1} (𝓤 : URA M) (H : Heap 𝓤) (A : Atoms 𝓤) (W : Given
   k = held.codingVal c
 
   abbrev found : Told
-  found = codeAt (now s) (n .0) c
+  found = readingAt (now s) (n .0) c
 
   -- the struct's type as a local of a body has it
   abbrev αᵉ : NamedLft
@@ -125,10 +125,10 @@ module _ {M : Type 1} (𝓤 : URA M) (H : Heap 𝓤) (A : Atoms 𝓤) (W : Given
   goes-read r u =
       qed W (‵ (B (κ, tt) .own r (u ∷ [])) ∷ (‵ (flft κ q) ⊛ ‵ ftrue) ∷ []) ∵ nothing ! $ owned ! K.the-row (Is K.the-row) (held.coding-makes 𝓤 H A) c _ is-c $ fjoin ! $ move ! (1 ∷ 0 ∷ []) $ fjoin ! $ move ! (1 ∷ 0 ∷ []) $ join ! $ frame ! $ done !
 
-  read-said : (r : BitReader) (t : Answer) → ent 𝓤 (ensured 𝓤 H A read.ended (read.clauses 𝓤 H A mem run) (κ, tt) (r, (c, tt)) tt t) (fact 𝓤 (answerIs t ≡ codeAt (now (r .src)) (r .at .0) c))
-  read-said r t = exE 𝓤 _ (λ ws. snd∗ 𝓤 (sem 𝓤 H A (lasts read.ended (κ, tt) (r, (c, tt)) ws)) (fact 𝓤 (answerIs t ≡ codeAt (now (r .src)) (r .at .0) c)))
+  read-said : (r : BitReader) (t : Reading) → ent 𝓤 (ensured 𝓤 H A read.ended (read.clauses 𝓤 H A mem run) (κ, tt) (r, (c, tt)) tt t) (fact 𝓤 (readingIs t ≡ readingAt (now (r .src)) (r .at .0) c))
+  read-said r t = exE 𝓤 _ (λ ws. snd∗ 𝓤 (sem 𝓤 H A (lasts read.ended (κ, tt) (r, (c, tt)) ws)) (fact 𝓤 (readingIs t ≡ readingAt (now (r .src)) (r .at .0) c)))
 
-  exits : (t : Answer) (u : Val) → answerIs t ≡ found → ent 𝓤 (⋆ 𝓤 H A (‵ (S.the-row .own t (u ∷ [])) ∷ (‵ (flft κ q) ⊛ ‵ ftrue) ∷ ‵ Own ∷ [])) (Post u)
+  exits : (t : Reading) (u : Val) → readingIs t ≡ found → ent 𝓤 (⋆ 𝓤 H A (‵ (S.the-row .own t (u ∷ [])) ∷ (‵ (flft κ q) ⊛ ‵ ftrue) ∷ ‵ Own ∷ [])) (Post u)
   exits t u e =
       qed W (‵ (S.the-row .own t (u ∷ [])) ∷ (‵ (flft κ q) ⊛ ‵ ftrue) ∷ ‵ Own ∷ []) ∵
       suffices ! _ (ends-at 𝓤 H A the-code.ended stayed (the-code.clauses 𝓤 H A mem run) W (((κ, tt), (q, tt), tt, (s, (n, (c, tt))), at), tt) u t (tt, (tt, (tt, tt))) (tt, (tt, (tt, tt)))) $ says ! e $
@@ -150,14 +150,14 @@ module _ {M : Type 1} (𝓤 : URA M) (H : Heap 𝓤) (A : Atoms 𝓤) (W : Given
         land ! (from ! (stop !)) (init ! 3 refl (LL.lawful (T.the-type αᵉ) (T′.the-laws αᵉ) 𝓤 H A W .typed r _ is .0)) $
         use2 W (raw (Read 𝓤 H A mem run .pre (to-read r u))) (goes-read r u) $
         calls-at ! fm (Read 𝓤 H A mem run) known-read (to-read r u) (and-then ! (load ! (from ! (stop !)) (look ! 2 refl)) (and-then ! (load ! (from ! (stop !)) (look ! 4 refl)) (no-more !))) (λ u′.
-        use1 W (later (some (λ (t : Answer). ((‵ (flft κ q) ⊛ ‵ ftrue) ⊛ ‵ (S.the-row .own t (u′ ∷ []))) ⊛ raw (ensured 𝓤 H A read.ended (read.clauses 𝓤 H A mem run) (κ, tt) (r, (c, tt)) tt t)))) (id⊢ 𝓤 _) $ await ! tt $ pick ! (λ t.
-        split ! $ move ! (1 ∷ []) $ use1 W (raw (fact 𝓤 (answerIs t ≡ codeAt (now (r .src)) (r .at .0) c))) (read-said r t) $ heard ! (answerIs t ≡ codeAt (now (r .src)) (r .at .0) c) (λ e′. split ! $ move ! (1 ∷ []) $
+        use1 W (later (some (λ (t : Reading). ((‵ (flft κ q) ⊛ ‵ ftrue) ⊛ ‵ (S.the-row .own t (u′ ∷ []))) ⊛ raw (ensured 𝓤 H A read.ended (read.clauses 𝓤 H A mem run) (κ, tt) (r, (c, tt)) tt t)))) (id⊢ 𝓤 _) $ await ! tt $ pick ! (λ t.
+        split ! $ move ! (1 ∷ []) $ use1 W (raw (fact 𝓤 (readingIs t ≡ readingAt (now (r .src)) (r .at .0) c))) (read-said r t) $ heard ! (readingIs t ≡ readingAt (now (r .src)) (r .at .0) c) (λ e′. split ! $ move ! (1 ∷ []) $
         -- [the result; the token; what s owns; _4; …; _3; …; _2; …; _1; …; room for _0; …]
         peeks ! S.the-row (Is S.the-row) (shows 𝓤 H A S.the-row) t (u′ ∷ []) (λ is′.
         land ! (from ! (stop !)) (init ! 11 refl (LL.lawful S.the-type S′.the-laws 𝓤 H A W .typed t _ is′ .0)) $
         returns ! (look ! 11 refl) $ forget ! 3 refl $ forget ! 5 refl $ forget ! 7 refl $ forget ! 9 refl $ forget ! 11 refl $
         move ! (11 ∷ 12 ∷ []) $ free1 ! $ move ! (9 ∷ 10 ∷ []) $ free1 ! $ move ! (7 ∷ 8 ∷ []) $ free1 ! $ move ! (5 ∷ 6 ∷ []) $ free1 ! $ move ! (3 ∷ 4 ∷ []) $ free1 ! $ free0 ! $
-        by ! (exits t u′ (e′ ∙ (ap (λ (x : RefT (List ℕ)). codeAt (now x) (r .at .0) c) (e .0) ∙ ap (λ (m : Bits). codeAt (now s) (m .0) c) (e .1)))))))))))))))))
+        by ! (exits t u′ (e′ ∙ (ap (λ (x : RefT (List ℕ)). readingAt (now x) (r .at .0) c) (e .0) ∙ ap (λ (m : Bits). readingAt (now s) (m .0) c) (e .1)))))))))))))))))
 
 module _ {M : Type 1} (𝓤 : URA M) (H : Heap 𝓤) (A : Atoms 𝓤) (W : Given 𝓤 H A) (mem : Memory → SProp 𝓤) (run : Routine → Fun 𝓤) where
   code-walks : (C : Calls 𝓤 H) (Λ : Loops 𝓤 H) → FmC 𝓤 H (W .laws) C → Triple 𝓤 (C #bit-reader·over) (Over 𝓤 H A mem run) → Triple 𝓤 (C #bit-reader·read) (Read 𝓤 H A mem run)

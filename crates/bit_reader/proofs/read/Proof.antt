@@ -33,15 +33,15 @@ use denote.Triple.Table.{entered, cited}
 use denote.Triple.Walked.{says, Stays, stay-none, walkOf, goes-none, Walks, ends-at, walked, walk-meets}
 use denote.Exit.{yes}
 use denote.Triple.Clauses.{ensured}
-use Rattle.bit_reader.specs.Codes.{Told, answerIs, codeAt}
+use Rattle.bit_reader.specs.Codes.{Told, readingIs, readingAt}
 use Rattle.bit_reader.specs.declared.BitReader.{BitReader}
 use Rattle.bit_reader.specs.declared.codes.Coding.{Coding}
-use Rattle.bit_reader.specs.declared.codes.Answer.{Answer}
+use Rattle.bit_reader.specs.declared.codes.Reading.{Reading}
 use Rattle.bit_reader.proofs.BitReader as T
 use Rattle.bit_reader.proofs.BitReader.Laws as T′
 use Rattle.bit_reader.proofs.codes.Coding as K
-use Rattle.bit_reader.proofs.codes.Answer as S
-use Rattle.bit_reader.proofs.codes.Answer.Laws as S′
+use Rattle.bit_reader.proofs.codes.Reading as S
+use Rattle.bit_reader.proofs.codes.Reading.Laws as S′
 use Rattle.bit_reader.proofs.Held as held
 use Rattle.bit_reader.proofs.codes.code_at as code-at
 use Rattle.bit_reader.proofs.codes.code_at.Symbol as code-at-def
@@ -81,7 +81,7 @@ module _ {M : Type 1} (𝓤 : URA M) (H : Heap 𝓤) (A : Atoms 𝓤) (W : Given
   Own = B (κ, tt) .own d (mach ∷ [])
 
   abbrev found : Told
-  found = codeAt (now (d .src)) (d .at .0) c
+  found = readingAt (now (d .src)) (d .at .0) c
 
   abbrev to : held.CodeAt 𝓤 H A mem run .Ghost
   to = held.to 𝓤 H A W mem run α q d c
@@ -91,7 +91,7 @@ module _ {M : Type 1} (𝓤 : URA M) (H : Heap 𝓤) (A : Atoms 𝓤) (W : Given
       qed W ((‵ (flft κ q) ⊛ ‵ ftrue) ∷ ‵ (owns (B (κ, tt) ∷ K.the-row ∷ []) (d, (c, tt)) at) ∷ []) ∵
       move ! (1 ∷ []) $ fsplit ! $ move ! (1 ∷ []) $ drop ! $ move ! (1 ∷ 0 ∷ []) $ by ! (held.apart 𝓤 H A W mem run α q d c is-at is-c)
 
-  exits : (r : Answer) (u : Val) → answerIs r ≡ found → ent 𝓤 (⋆ 𝓤 H A (‵ (S.the-row .own r (u ∷ [])) ∷ (‵ (flft κ q) ⊛ ‵ ftrue) ∷ ‵ Own ∷ [])) (Post u)
+  exits : (r : Reading) (u : Val) → readingIs r ≡ found → ent 𝓤 (⋆ 𝓤 H A (‵ (S.the-row .own r (u ∷ [])) ∷ (‵ (flft κ q) ⊛ ‵ ftrue) ∷ ‵ Own ∷ [])) (Post u)
   exits r u e =
       qed W (‵ (S.the-row .own r (u ∷ [])) ∷ (‵ (flft κ q) ⊛ ‵ ftrue) ∷ ‵ Own ∷ []) ∵
       suffices ! _ (ends-at 𝓤 H A read.ended stayed (read.clauses 𝓤 H A mem run) W (((κ, tt), (q, tt), tt, (d, (c, tt)), at), tt) u r (tt, (tt, tt)) (tt, (tt, tt))) $ says ! e $
@@ -106,8 +106,8 @@ module _ {M : Type 1} (𝓤 : URA M) (H : Heap 𝓤) (A : Atoms 𝓤) (W : Given
         assigns ! (of-opd ! (load ! (from ! (fld ! refl (stop !))) (look-in ! 6 (sub ! 1 refl (whole !))))) (from ! (stop !)) (init ! 0 refl (tt, wt .1 .1 .0)) $
         move ! (10 ∷ []) $ use1 W (raw (held.CodeAt 𝓤 H A mem run .pre to) ⊛ ‵ Own) (apart is-at) $ split ! $
         calls-at ! fm (held.CodeAt 𝓤 H A mem run) known to (and-then ! (load ! (from ! (stop !)) (look ! 4 refl)) (and-then ! (load ! (from ! (stop !)) (look ! 2 refl)) (and-then ! (load ! (from ! (stop !)) (look ! 6 refl)) (no-more !)))) (λ u.
-        use1 W (later (some (λ (r : Answer). ((‵ (flft κ q) ⊛ ‵ ftrue) ⊛ ‵ (S.the-row .own r (u ∷ []))) ⊛ raw (ensured 𝓤 H A code-at.ended (code-at.clauses 𝓤 H A mem run) (κ, tt) (d .src, (d .at, (c, tt))) tt r)))) (id⊢ 𝓤 _) $ await ! tt $ pick ! (λ r.
-        split ! $ move ! (1 ∷ []) $ use1 W (raw (fact 𝓤 (answerIs r ≡ found))) (held.said 𝓤 H A W mem run α q d c r) $ heard ! (answerIs r ≡ found) (λ e. split ! $ move ! (1 ∷ []) $
+        use1 W (later (some (λ (r : Reading). ((‵ (flft κ q) ⊛ ‵ ftrue) ⊛ ‵ (S.the-row .own r (u ∷ []))) ⊛ raw (ensured 𝓤 H A code-at.ended (code-at.clauses 𝓤 H A mem run) (κ, tt) (d .src, (d .at, (c, tt))) tt r)))) (id⊢ 𝓤 _) $ await ! tt $ pick ! (λ r.
+        split ! $ move ! (1 ∷ []) $ use1 W (raw (fact 𝓤 (readingIs r ≡ found))) (held.said 𝓤 H A W mem run α q d c r) $ heard ! (readingIs r ≡ found) (λ e. split ! $ move ! (1 ∷ []) $
         -- [the result; the token; what the struct owns; _4; …; _3; …; _2; …; _1; …; room for _0; …]
         peeks ! S.the-row (Is S.the-row) (shows 𝓤 H A S.the-row) r (u ∷ []) (λ is.
         land ! (from ! (stop !)) (init ! 11 refl (LL.lawful S.the-type S′.the-laws 𝓤 H A W .typed r _ is .0)) $

@@ -42,16 +42,16 @@ use denote.Triple.Table.{entered, cited}
 use denote.Triple.Walked.{says, Stays, stay-ref, stay-none, walkOf, goes-none, goes-ref, Walks, ends-at, walked, walk-meets}
 use denote.Exit.{yes}
 use denote.Triple.Clauses.{ensured}
-use Rattle.bit_reader.specs.Codes.{Told, answerIs, codeAt}
+use Rattle.bit_reader.specs.Codes.{Told, readingIs, readingAt}
 use Rattle.bit_reader.specs.declared.BitReader.{BitReader}
 use Rattle.bit_reader.specs.declared.codes.Coding.{Coding}
-use Rattle.bit_reader.specs.declared.codes.Answer.{Answer}
+use Rattle.bit_reader.specs.declared.codes.Reading.{Reading}
 use Rattle.wire.proofs.Bits as P
 use Rattle.bit_reader.proofs.BitReader as T
 use Rattle.bit_reader.proofs.BitReader.Laws as T′
 use Rattle.bit_reader.proofs.codes.Coding as K
-use Rattle.bit_reader.proofs.codes.Answer as S
-use Rattle.bit_reader.proofs.codes.Answer.Laws as S′
+use Rattle.bit_reader.proofs.codes.Reading as S
+use Rattle.bit_reader.proofs.codes.Reading.Laws as S′
 use Rattle.bit_reader.proofs.Held as held
 use Rattle.bit_reader.proofs.codes.code_at as code-at
 use Rattle.bit_reader.proofs.codes.code_at.Symbol as code-at-def
@@ -87,13 +87,13 @@ module _ {M : Type 1} (𝓤 : URA M) (H : Heap 𝓤) (A : Atoms 𝓤) (W : Given
   at = (vptr b o ∷ [], (k ∷ [], tt))
 
   abbrev found : Told
-  found = codeAt (now (h .src)) (h .at .0) c
+  found = readingAt (now (h .src)) (h .at .0) c
 
   -- the struct past the answer a, and a's machine value
-  abbrev past : Answer → BitReader
+  abbrev past : Reading → BitReader
   past a = record { src = h .src; at = a .place }
 
-  abbrev mach : Answer → Val
+  abbrev mach : Reading → Val
   mach a = S′.lowered a
 
   abbrev Post : Val → SProp 𝓤
@@ -116,10 +116,10 @@ module _ {M : Type 1} (𝓤 : URA M) (H : Heap 𝓤) (A : Atoms 𝓤) (W : Given
   to = held.to 𝓤 H A W at-mem run (α κ′) q′ h c
 
   -- what src owns is kept, and the new place's facts are made
-  again : (a : Answer) → held.IsPlace (a .place) → ent 𝓤 (sem 𝓤 H A Own) (sem 𝓤 H A (B κ′ .own (past a) (T′.lowered (past a) ∷ [])))
+  again : (a : Reading) → held.IsPlace (a .place) → ent 𝓤 (sem 𝓤 H A Own) (sem 𝓤 H A (B κ′ .own (past a) (T′.lowered (past a) ∷ [])))
   again a is-p = qed W (‵ Own ∷ []) ∵ owned ! P.the-row (Is P.the-row) (held.place-makes 𝓤 H A) (a .place) _ is-p $ move ! (1 ∷ 0 ∷ []) $ by ! (own-put 𝓤 H A W D L 1 vh (a .place) (T′.lowered h))
 
-  exits : (a : Answer) → answerIs a ≡ found → Is S.the-row a (LL.vals S.the-type S′.the-laws a)
+  exits : (a : Reading) → readingIs a ≡ found → Is S.the-row a (LL.vals S.the-type S′.the-laws a)
       → ent 𝓤 (⋆ 𝓤 H A (‵ (fobs γ (B κ′ .coded .code (past a))) ∷ ‵ (fbor κ (Body (mem (B κ′)) b o γ)) ∷ ‵ (flft κ q) ∷ (‵ (flft κ′ q′) ⊛ ‵ ftrue) ∷ [])) (Post (mach a))
   exits a e is-a =
       qed W (‵ (fobs γ (B κ′ .coded .code (past a))) ∷ ‵ (fbor κ (Body (mem (B κ′)) b o γ)) ∷ ‵ (flft κ q) ∷ (‵ (flft κ′ q′) ⊛ ‵ ftrue) ∷ []) ∵
@@ -132,10 +132,10 @@ module _ {M : Type 1} (𝓤 : URA M) (H : Heap 𝓤) (A : Atoms 𝓤) (W : Given
   typed : Is (B κ′) h (T′.lowered h ∷ []) → Holds (hasTy (T′.mir (named 1)) (T′.lowered h)) × WT (T′.lowered h)
   typed was = LL.lawful D L 𝓤 H A W .typed h _ was .0
 
-  is-place : (a : Answer) (u : Val) → Is S.the-row a (u ∷ []) → held.IsPlace (a .place)
+  is-place : (a : Reading) (u : Val) → Is S.the-row a (u ∷ []) → held.IsPlace (a .place)
   is-place a u is = LL.owed S.the-type S′.the-laws a _ is .1 .1 .0
 
-  is-answer : (a : Answer) (u : Val) → Is S.the-row a (u ∷ []) → Is S.the-row a (LL.vals S.the-type S′.the-laws a)
+  is-answer : (a : Reading) (u : Val) → Is S.the-row a (u ∷ []) → Is S.the-row a (LL.vals S.the-type S′.the-laws a)
   is-answer a u is = LL.owes S.the-type S′.the-laws a (LL.owed S.the-type S′.the-laws a _ is)
 
   module _ (C : Calls 𝓤 H) (Λ : Loops 𝓤 H) (fm : FmC 𝓤 H (W .laws) C) (known : Triple 𝓤 (C #bit-reader·codes·code-at) (held.CodeAt 𝓤 H A at-mem run)) where
@@ -152,8 +152,8 @@ module _ {M : Type 1} (𝓤 : URA M) (H : Heap 𝓤) (A : Atoms 𝓤) (W : Given
         assigns ! (of-opd ! (load ! (from ! (hop ! (look ! 15 refl) (fld ! refl (stop !)))) (look-in ! 0 (sub ! 1 refl (whole !))))) (from ! (stop !)) (init ! 7 refl (tt, typed was .1 .1 .0)) $
         move ! (5 ∷ 1 ∷ []) $ use2 W (raw (held.CodeAt 𝓤 H A at-mem run .pre to) ⊛ ‵ Own) (held.apart 𝓤 H A W at-mem run (α κ′) q′ h c (LL.owed D L h _ was .1 .0) is-c) $ split ! $
         calls-at ! fm (held.CodeAt 𝓤 H A at-mem run) known to (and-then ! (load ! (from ! (stop !)) (look ! 9 refl)) (and-then ! (load ! (from ! (stop !)) (look ! 7 refl)) (and-then ! (load ! (from ! (stop !)) (look ! 13 refl)) (no-more !)))) (λ u.
-        use1 W (later (some (λ (a : Answer). ((‵ (flft κ′ q′) ⊛ ‵ ftrue) ⊛ ‵ (S.the-row .own a (u ∷ []))) ⊛ raw (ensured 𝓤 H A code-at.ended (code-at.clauses 𝓤 H A at-mem run) (κ′, tt) (h .src, (h .at, (c, tt))) tt a)))) (id⊢ 𝓤 _) $ await ! tt $ pick ! (λ a.
-        split ! $ move ! (1 ∷ []) $ use1 W (raw (fact 𝓤 (answerIs a ≡ found))) (held.said 𝓤 H A W at-mem run (α κ′) q′ h c a) $ heard ! (answerIs a ≡ found) (λ e. split ! $ move ! (1 ∷ []) $
+        use1 W (later (some (λ (a : Reading). ((‵ (flft κ′ q′) ⊛ ‵ ftrue) ⊛ ‵ (S.the-row .own a (u ∷ []))) ⊛ raw (ensured 𝓤 H A code-at.ended (code-at.clauses 𝓤 H A at-mem run) (κ′, tt) (h .src, (h .at, (c, tt))) tt a)))) (id⊢ 𝓤 _) $ await ! tt $ pick ! (λ a.
+        split ! $ move ! (1 ∷ []) $ use1 W (raw (fact 𝓤 (readingIs a ≡ found))) (held.said 𝓤 H A W at-mem run (α κ′) q′ h c a) $ heard ! (readingIs a ≡ found) (λ e. split ! $ move ! (1 ∷ []) $
         peeks ! S.the-row (Is S.the-row) (shows 𝓤 H A S.the-row) a (u ∷ []) (λ is.
         land ! (from ! (stop !)) (init ! 12 refl (LL.lawful S.the-type S′.the-laws 𝓤 H A W .typed a _ is .0)) $ rewrite ! 12 (λ (w : Val). ‵ (fat fullShare S′.mir l₃ 0 w)) {x = mach a} (ap only (LL.tells S.the-type S′.the-laws a _ is)) refl $
         -- [the answer's; 'a's token; what the struct owns; its cell; the open borrow; obs; auth; the coding's; _5; …; _4; …; _3; …; _2; …; _1; …; room for _0; …]

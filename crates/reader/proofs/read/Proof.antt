@@ -22,8 +22,8 @@ refused-requires c κs = search needs
 enum-told : tie.Need-enum-told
 enum-told c = search needs
 
-checked-requires : tie.Need-checked-requires
-checked-requires c κs =
+read-checked-requires : tie.Need-read-checked-requires
+read-checked-requires c κs =
     let at-enum-told = c .before .before in
     let at-check = at-enum-told .before .before in
     let at-both = at-check .before .before .before .before .before in
@@ -58,7 +58,7 @@ read-spec =
     nowhere-requires
     refused-requires
     enum-told
-    checked-requires
+    read-checked-requires
     same-length
     same-length-2
     returns

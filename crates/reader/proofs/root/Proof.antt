@@ -42,11 +42,11 @@ cast-place-2 c = search needs
 both-requires-2 : tie.Need-both-requires-2
 both-requires-2 c κs = search needs
 
-slice-aggregate-heard : tie.Need-slice-aggregate-heard
-slice-aggregate-heard c = search needs
+slice-aggregate-path-from : tie.Need-slice-aggregate-path-from
+slice-aggregate-path-from c = search needs
 
-heard-requires : tie.Need-heard-requires
-heard-requires c κs = search needs
+path-from-requires : tie.Need-path-from-requires
+path-from-requires c κs = search needs
 
 refused-requires-2 : tie.Need-refused-requires-2
 refused-requires-2 c κs = search needs
@@ -117,7 +117,7 @@ returns-3 c =
     let at-particle = at-w2 .before .before .before .before .before .before .before in
     let at-nowhere = at-particle .before .before .before .before in
     let entry = at-nowhere .before .before .before .before .before in
-    search (root-told, entry .pre .0, entry .pre .1, entry .pre .2, entry .pre .3, at-nowhere .nowhere .ensures, at-particle .particle .ensures, at-particle .particle .kept .1 .1 .0, at-particle .particle .kept .1 .1 .1 .0, at-w2 .w2 .given .1, at-both2 .both2 .ensures .0, at-both2 .both2 .ensures .1, at-heard .heard .ensures, c .refused2 .ensures)
+    search (root-told, entry .pre .0, entry .pre .1, entry .pre .2, entry .pre .3, at-nowhere .nowhere .ensures, at-particle .particle .ensures, at-particle .particle .kept .1 .1 .0, at-particle .particle .kept .1 .1 .1 .0, at-w2 .w2 .given .1, at-both2 .both2 .ensures .0, at-both2 .both2 .ensures .1, at-heard .path-from .ensures, c .refused2 .ensures)
 
 same-length-7 : tie.Need-same-length-7
 same-length-7 c = search needs
@@ -152,8 +152,8 @@ root-spec =
     enum-known-w-2
     cast-place-2
     both-requires-2
-    slice-aggregate-heard
-    heard-requires
+    slice-aggregate-path-from
+    path-from-requires
     refused-requires-2
     enum-known-w-3
     padding-requires

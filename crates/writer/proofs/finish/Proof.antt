@@ -4,8 +4,8 @@ use borrow.Author.Needs.{needs}
 use Rattle.writer.proofs.finish.Statement.{statement}
 use Rattle.writer.proofs.finish.Tie as tie
 
-settled-requires : tie.Need-settled-requires
-settled-requires c κs = search (needs, finish-ways)
+judge-after-requires : tie.Need-judge-after-requires
+judge-after-requires c κs = search (needs, finish-ways)
 
 enum-known-f : tie.Need-enum-known-f
 enum-known-f c = search needs
@@ -44,7 +44,7 @@ pub finish-spec : {M : Type 1} → statement M
 finish-spec =
     tie.close
     (tie.spec
-    settled-requires
+    judge-after-requires
     enum-known-f
     refused-requires
     returns

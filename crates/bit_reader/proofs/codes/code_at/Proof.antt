@@ -7,8 +7,8 @@ use Rattle.bit_reader.proofs.codes.code_at.Tie as tie
 wall-requires : tie.Need-wall-requires
 wall-requires c κs = search needs
 
-coded-requires : tie.Need-coded-requires
-coded-requires c κs = search needs
+read-code-requires : tie.Need-read-code-requires
+read-code-requires c κs = search needs
 
 enum-known-number : tie.Need-enum-known-number
 enum-known-number c = search needs
@@ -33,7 +33,7 @@ code-at-spec =
     tie.close
     (tie.spec
     wall-requires
-    coded-requires
+    read-code-requires
     enum-known-number
     left-at-requires
     enum-known-value

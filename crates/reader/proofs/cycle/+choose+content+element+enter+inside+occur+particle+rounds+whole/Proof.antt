@@ -11,10 +11,10 @@ use Rattle.table.specs.Words.{particlesIn}
 use Rattle.reader_parts.specs.Paths.{namesOf}
 use Rattle.reader.specs.Meaning.{Reaches}
 use Rattle.reader.proofs.Asked.{asked-ways, branch-row, occurs-rows, path-open, round-fits, round-row, row-fits}
-use Rattle.reader.proofs.ToldLaws.{stopped}
+use Rattle.reader.proofs.RefusalPathLaws.{stopped}
 use Rattle.reader.proofs.Ways.{Left, rounds-again, rounds-stop, whole-stop, choose-ways, content-ways, element-ways, enter-ways, inside-ways, occur-ways, particle-ways, rounds-ways, whole-ways}
-use Rattle.reader.specs.declared.told.Walk as walk
-use Rattle.reader.proofs.told.Walk as code
+use Rattle.reader.specs.declared.refusal_path.Walk as walk
+use Rattle.reader.proofs.refusal_path.Walk as code
 use borrow.Fn.Kinds.{In}
 use borrow.Fn.PlainCycle.{Measures, is, falls, and}
 use Rattle.reader.proofs.cycle.choose.Reads as choose
@@ -51,9 +51,9 @@ use Rattle.reader_parts.proofs.heads.head.Reads as head-reads
 use Rattle.reader_parts.proofs.storing.store.Reads as store-reads
 use Rattle.reader_parts.proofs.values.value.Reads as value-reads
 use Rattle.reader.proofs.cycle.flag.Reads as flag-reads
-use Rattle.reader.proofs.cycle.reached.Reads as reached-reads
-use Rattle.reader.proofs.told.named.Reads as named-reads
-use Rattle.reader.proofs.told.walked.Reads as walked-reads
+use Rattle.reader.proofs.cycle.extent_of.Reads as extent-of-reads
+use Rattle.reader.proofs.refusal_path.name_refusal.Reads as name-refusal-reads
+use Rattle.reader.proofs.refusal_path.from_step.Reads as from-step-reads
 use Rattle.table.proofs.rows.content.Reads as content-reads
 use Rattle.table.proofs.rows.held.Reads as held-reads
 use Rattle.table.proofs.rows.particle.Reads as particle-reads
@@ -150,7 +150,7 @@ abbrev whole-below : ℕ → In 5 whole-kinds.ps
 whole-below t = and 5 whole-kinds.ps (falls 5 whole-kinds.ps _<_ μ-whole t) whole.Pre
 
 abbrev whole-env : ℕ → whole-lts.Claims
-whole-env t = (inside-below t, inside.Post, close-reads.Asked, close-reads.Learnt, walked-reads.Asked, walked-reads.Learnt)
+whole-env t = (inside-below t, inside.Post, close-reads.Asked, close-reads.Learnt, from-step-reads.Asked, from-step-reads.Learnt)
 
 abbrev rounds-env : ℕ → rounds-lts.Claims
 rounds-env t = (particle-reads.Asked, particle-reads.Learnt, particle-below t, particle.Post)
@@ -159,22 +159,22 @@ abbrev particle-env : ℕ → particle-lts.Claims
 particle-env t = (element-below t, element.Post, rounds-below t, rounds.Post, choose-below t, choose.Post, occur-below t, occur.Post)
 
 abbrev occur-env : ℕ → occur-lts.Claims
-occur-env t = (times-reads.Asked, times-reads.Learnt, code-reads.Asked, code-reads.Learnt, store-reads.Asked, store-reads.Learnt, walked-reads.Asked, walked-reads.Learnt, rounds-below t, rounds.Post)
+occur-env t = (times-reads.Asked, times-reads.Learnt, code-reads.Asked, code-reads.Learnt, store-reads.Asked, store-reads.Learnt, from-step-reads.Asked, from-step-reads.Learnt, rounds-below t, rounds.Post)
 
 abbrev inside-env : ℕ → inside-lts.Claims
-inside-env t = (all-reads.Asked, all-reads.Learnt, walked-reads.Asked, walked-reads.Learnt, content-below t, content.Post)
+inside-env t = (all-reads.Asked, all-reads.Learnt, from-step-reads.Asked, from-step-reads.Learnt, content-below t, content.Post)
 
 abbrev enter-env : ℕ → enter-lts.Claims
-enter-env t = (flag-reads.Asked, flag-reads.Learnt, store-reads.Asked, store-reads.Learnt, walked-reads.Asked, walked-reads.Learnt, whole-below t, whole.Post, named-reads.Asked, named-reads.Learnt)
+enter-env t = (flag-reads.Asked, flag-reads.Learnt, store-reads.Asked, store-reads.Learnt, from-step-reads.Asked, from-step-reads.Learnt, whole-below t, whole.Post, name-refusal-reads.Asked, name-refusal-reads.Learnt)
 
 abbrev element-env : ℕ → element-lts.Claims
-element-env t = (held-reads.Asked, held-reads.Learnt, head-reads.Asked, head-reads.Learnt, reached-reads.Asked, reached-reads.Learnt, enter-below t, enter.Post, store-reads.Asked, store-reads.Learnt, walked-reads.Asked, walked-reads.Learnt)
+element-env t = (held-reads.Asked, held-reads.Learnt, head-reads.Asked, head-reads.Learnt, extent-of-reads.Asked, extent-of-reads.Learnt, enter-below t, enter.Post, store-reads.Asked, store-reads.Learnt, from-step-reads.Asked, from-step-reads.Learnt)
 
 abbrev content-env : ℕ → content-lts.Claims
-content-env t = (content-reads.Asked, content-reads.Learnt, value-reads.Asked, value-reads.Learnt, walked-reads.Asked, walked-reads.Learnt, push-reads.Asked, push-reads.Learnt, particle-reads.Asked, particle-reads.Learnt, particle-below t, particle.Post)
+content-env t = (content-reads.Asked, content-reads.Learnt, value-reads.Asked, value-reads.Learnt, from-step-reads.Asked, from-step-reads.Learnt, push-reads.Asked, push-reads.Learnt, particle-reads.Asked, particle-reads.Learnt, particle-below t, particle.Post)
 
 abbrev choose-env : ℕ → choose-lts.Claims
-choose-env t = (choice-reads.Asked, choice-reads.Learnt, store-reads.Asked, store-reads.Learnt, walked-reads.Asked, walked-reads.Learnt, particle-reads.Asked, particle-reads.Learnt, particle-below t, particle.Post)
+choose-env t = (choice-reads.Asked, choice-reads.Learnt, store-reads.Asked, store-reads.Learnt, from-step-reads.Asked, from-step-reads.Learnt, particle-reads.Asked, particle-reads.Learnt, particle-below t, particle.Post)
 
 choose-choice-requires : (t : ℕ) → choose-lts.Need-choice-requires (choose-env t) (choose-at t) choose.Post
 choose-choice-requires t c κs = search (needs, asked-ways)
@@ -194,8 +194,8 @@ choose-enum-known-s t c = search needs
 choose-enum-told : (t : ℕ) → choose-lts.Need-enum-told (choose-env t) (choose-at t) choose.Post
 choose-enum-told t c = search needs
 
-choose-walked-requires : (t : ℕ) → choose-lts.Need-walked-requires (choose-env t) (choose-at t) choose.Post
-choose-walked-requires t c κs = search needs
+choose-from-step-requires : (t : ℕ) → choose-lts.Need-from-step-requires (choose-env t) (choose-at t) choose.Post
+choose-from-step-requires t c κs = search needs
 
 choose-same-length : (t : ℕ) → choose-lts.Need-same-length (choose-env t) (choose-at t) choose.Post
 choose-same-length t c = search needs
@@ -244,8 +244,8 @@ content-enum-known-k t c = search needs
 content-value-requires : (t : ℕ) → content-lts.Need-value-requires (content-env t) (content-at t) content.Post
 content-value-requires t c κs = search (needs, asked-ways)
 
-content-walked-requires : (t : ℕ) → content-lts.Need-walked-requires (content-env t) (content-at t) content.Post
-content-walked-requires t c κs = search needs
+content-from-step-requires : (t : ℕ) → content-lts.Need-from-step-requires (content-env t) (content-at t) content.Post
+content-from-step-requires t c κs = search needs
 
 content-enum-known-k-2 : (t : ℕ) → content-lts.Need-enum-known-k-2 (content-env t) (content-at t) content.Post
 content-enum-known-k-2 t c = search needs
@@ -292,8 +292,8 @@ element-held-requires t c κs = search needs
 element-head-requires : (t : ℕ) → element-lts.Need-head-requires (element-env t) (element-at t) element.Post
 element-head-requires t c κs = search (needs, asked-ways)
 
-element-reached-requires : (t : ℕ) → element-lts.Need-reached-requires (element-env t) (element-at t) element.Post
-element-reached-requires t c κs = search needs
+element-extent-of-requires : (t : ℕ) → element-lts.Need-extent-of-requires (element-env t) (element-at t) element.Post
+element-extent-of-requires t c κs = search needs
 
 element-enum-known-r : (t : ℕ) → element-lts.Need-enum-known-r (element-env t) (element-at t) element.Post
 element-enum-known-r t c = search needs
@@ -319,8 +319,8 @@ element-returns t c = search (needs, element-ways)
 element-store-requires : (t : ℕ) → element-lts.Need-store-requires (element-env t) (element-at t) element.Post
 element-store-requires t c κs = search needs
 
-element-walked-requires : (t : ℕ) → element-lts.Need-walked-requires (element-env t) (element-at t) element.Post
-element-walked-requires t c κs = search needs
+element-from-step-requires : (t : ℕ) → element-lts.Need-from-step-requires (element-env t) (element-at t) element.Post
+element-from-step-requires t c κs = search needs
 
 element-same-length-4 : (t : ℕ) → element-lts.Need-same-length-4 (element-env t) (element-at t) element.Post
 element-same-length-4 t c = search needs
@@ -346,8 +346,8 @@ enter-enum-known-s t c = search needs
 enter-enum-told : (t : ℕ) → enter-lts.Need-enum-told (enter-env t) (enter-at t) enter.Post
 enter-enum-told t c = search needs
 
-enter-walked-requires : (t : ℕ) → enter-lts.Need-walked-requires (enter-env t) (enter-at t) enter.Post
-enter-walked-requires t c κs = search needs
+enter-from-step-requires : (t : ℕ) → enter-lts.Need-from-step-requires (enter-env t) (enter-at t) enter.Post
+enter-from-step-requires t c κs = search needs
 
 enter-same-length : (t : ℕ) → enter-lts.Need-same-length (enter-env t) (enter-at t) enter.Post
 enter-same-length t c = search needs
@@ -358,8 +358,8 @@ enter-returns t c = search (needs, enter-ways)
 enter-whole-requires : (t : ℕ) → enter-lts.Need-whole-requires (enter-env t) (enter-at t) enter.Post
 enter-whole-requires t c κs = search (needs, asked-ways)
 
-enter-named-requires : (t : ℕ) → enter-lts.Need-named-requires (enter-env t) (enter-at t) enter.Post
-enter-named-requires t c κs =
+enter-name-refusal-requires : (t : ℕ) → enter-lts.Need-name-refusal-requires (enter-env t) (enter-at t) enter.Post
+enter-name-refusal-requires t c κs =
     let at-whole = c .before .before .before .before .before .before .before in
     let entry = at-whole .before .before .before .before .before .before .before .before .before .before .before .before .before .before .before .before .before in
     (at-whole .whole .kept .1 .1 .1 .1 .0 ∙ entry .pre .1 .1, path-open _ _ _ _ _ (entry .pre .1 .0), entry .pre .1 .2)
@@ -385,8 +385,8 @@ inside-enum-known-s t c = search needs
 inside-enum-told : (t : ℕ) → inside-lts.Need-enum-told (inside-env t) (inside-at t) inside.Post
 inside-enum-told t c = search needs
 
-inside-walked-requires : (t : ℕ) → inside-lts.Need-walked-requires (inside-env t) (inside-at t) inside.Post
-inside-walked-requires t c κs = search needs
+inside-from-step-requires : (t : ℕ) → inside-lts.Need-from-step-requires (inside-env t) (inside-at t) inside.Post
+inside-from-step-requires t c κs = search needs
 
 inside-same-length : (t : ℕ) → inside-lts.Need-same-length (inside-env t) (inside-at t) inside.Post
 inside-same-length t c = search needs
@@ -433,8 +433,8 @@ occur-enum-known-s t c = search needs
 occur-enum-told : (t : ℕ) → occur-lts.Need-enum-told (occur-env t) (occur-at t) occur.Post
 occur-enum-told t c = search needs
 
-occur-walked-requires : (t : ℕ) → occur-lts.Need-walked-requires (occur-env t) (occur-at t) occur.Post
-occur-walked-requires t c κs = search needs
+occur-from-step-requires : (t : ℕ) → occur-lts.Need-from-step-requires (occur-env t) (occur-at t) occur.Post
+occur-from-step-requires t c κs = search needs
 
 occur-same-length : (t : ℕ) → occur-lts.Need-same-length (occur-env t) (occur-at t) occur.Post
 occur-same-length t c = search needs
@@ -648,8 +648,8 @@ whole-returns t c =
 whole-close-requires : (t : ℕ) → whole-lts.Need-close-requires (whole-env t) (whole-at t) whole.Post
 whole-close-requires t c κs = search needs
 
-whole-walked-requires : (t : ℕ) → whole-lts.Need-walked-requires (whole-env t) (whole-at t) whole.Post
-whole-walked-requires t c κs = search needs
+whole-from-step-requires : (t : ℕ) → whole-lts.Need-from-step-requires (whole-env t) (whole-at t) whole.Post
+whole-from-step-requires t c κs = search needs
 
 whole-same-length-4 : (t : ℕ) → whole-lts.Need-same-length-4 (whole-env t) (whole-at t) whole.Post
 whole-same-length-4 t c = search needs
@@ -681,8 +681,8 @@ pub +choose+content+element+enter+inside+occur+particle+rounds+whole-spec :
       choice-reads.Learnt,
       store-reads.Asked,
       store-reads.Learnt,
-      walked-reads.Asked,
-      walked-reads.Learnt,
+      from-step-reads.Asked,
+      from-step-reads.Learnt,
       particle-reads.Asked,
       particle-reads.Learnt,
       particle-below t,
@@ -696,7 +696,7 @@ pub +choose+content+element+enter+inside+occur+particle+rounds+whole-spec :
     (choose-store-requires t)
     (choose-enum-known-s t)
     (choose-enum-told t)
-    (choose-walked-requires t)
+    (choose-from-step-requires t)
     (choose-same-length t)
     (choose-returns t)
     (choose-add-particle t)
@@ -712,8 +712,8 @@ pub +choose+content+element+enter+inside+occur+particle+rounds+whole-spec :
       content-reads.Learnt,
       value-reads.Asked,
       value-reads.Learnt,
-      walked-reads.Asked,
-      walked-reads.Learnt,
+      from-step-reads.Asked,
+      from-step-reads.Learnt,
       push-reads.Asked,
       push-reads.Learnt,
       particle-reads.Asked,
@@ -727,7 +727,7 @@ pub +choose+content+element+enter+inside+occur+particle+rounds+whole-spec :
     (content-enum-told t)
     (content-enum-known-k t)
     (content-value-requires t)
-    (content-walked-requires t)
+    (content-from-step-requires t)
     (content-enum-known-k-2 t)
     (content-cast-push t)
     (content-push-requires t)
@@ -746,20 +746,20 @@ pub +choose+content+element+enter+inside+occur+particle+rounds+whole-spec :
       held-reads.Learnt,
       head-reads.Asked,
       head-reads.Learnt,
-      reached-reads.Asked,
-      reached-reads.Learnt,
+      extent-of-reads.Asked,
+      extent-of-reads.Learnt,
       enter-below t,
       enter.Post,
       store-reads.Asked,
       store-reads.Learnt,
-      walked-reads.Asked,
-      walked-reads.Learnt,
+      from-step-reads.Asked,
+      from-step-reads.Learnt,
     )
     (element-at t)
     element.Post
     (element-held-requires t)
     (element-head-requires t)
-    (element-reached-requires t)
+    (element-extent-of-requires t)
     (element-enum-known-r t)
     (element-enum-known-r-2 t)
     (element-enter-requires t)
@@ -768,7 +768,7 @@ pub +choose+content+element+enter+inside+occur+particle+rounds+whole-spec :
     (element-same-length-3 t)
     (element-returns t)
     (element-store-requires t)
-    (element-walked-requires t)
+    (element-from-step-requires t)
     (element-same-length-4 t)
     (element-returns-2 t)
     (element-returns-3 t)
@@ -778,12 +778,12 @@ pub +choose+content+element+enter+inside+occur+particle+rounds+whole-spec :
       flag-reads.Learnt,
       store-reads.Asked,
       store-reads.Learnt,
-      walked-reads.Asked,
-      walked-reads.Learnt,
+      from-step-reads.Asked,
+      from-step-reads.Learnt,
       whole-below t,
       whole.Post,
-      named-reads.Asked,
-      named-reads.Learnt,
+      name-refusal-reads.Asked,
+      name-refusal-reads.Learnt,
     )
     (enter-at t)
     enter.Post
@@ -791,11 +791,11 @@ pub +choose+content+element+enter+inside+occur+particle+rounds+whole-spec :
     (enter-store-requires t)
     (enter-enum-known-s t)
     (enter-enum-told t)
-    (enter-walked-requires t)
+    (enter-from-step-requires t)
     (enter-same-length t)
     (enter-returns t)
     (enter-whole-requires t)
-    (enter-named-requires t)
+    (enter-name-refusal-requires t)
     (enter-same-length-2 t)
     (enter-same-length-3 t)
     (enter-same-length-4 t)
@@ -803,8 +803,8 @@ pub +choose+content+element+enter+inside+occur+particle+rounds+whole-spec :
     (λ t. inside-lts.spec (
       all-reads.Asked,
       all-reads.Learnt,
-      walked-reads.Asked,
-      walked-reads.Learnt,
+      from-step-reads.Asked,
+      from-step-reads.Learnt,
       content-below t,
       content.Post,
     )
@@ -813,7 +813,7 @@ pub +choose+content+element+enter+inside+occur+particle+rounds+whole-spec :
     (inside-all-requires t)
     (inside-enum-known-s t)
     (inside-enum-told t)
-    (inside-walked-requires t)
+    (inside-from-step-requires t)
     (inside-same-length t)
     (inside-same-length-2 t)
     (inside-returns t)
@@ -829,8 +829,8 @@ pub +choose+content+element+enter+inside+occur+particle+rounds+whole-spec :
       code-reads.Learnt,
       store-reads.Asked,
       store-reads.Learnt,
-      walked-reads.Asked,
-      walked-reads.Learnt,
+      from-step-reads.Asked,
+      from-step-reads.Learnt,
       rounds-below t,
       rounds.Post,
     )
@@ -843,7 +843,7 @@ pub +choose+content+element+enter+inside+occur+particle+rounds+whole-spec :
     (occur-store-requires t)
     (occur-enum-known-s t)
     (occur-enum-told t)
-    (occur-walked-requires t)
+    (occur-from-step-requires t)
     (occur-same-length t)
     (occur-returns t)
     (occur-rounds-requires t)
@@ -921,8 +921,8 @@ pub +choose+content+element+enter+inside+occur+particle+rounds+whole-spec :
       inside.Post,
       close-reads.Asked,
       close-reads.Learnt,
-      walked-reads.Asked,
-      walked-reads.Learnt,
+      from-step-reads.Asked,
+      from-step-reads.Learnt,
     )
     (whole-at t)
     whole.Post
@@ -933,7 +933,7 @@ pub +choose+content+element+enter+inside+occur+particle+rounds+whole-spec :
     (whole-same-length-3 t)
     (whole-returns t)
     (whole-close-requires t)
-    (whole-walked-requires t)
+    (whole-from-step-requires t)
     (whole-same-length-4 t)
     (whole-same-length-5 t)
     (whole-same-length-6 t)

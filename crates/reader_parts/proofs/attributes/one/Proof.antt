@@ -4,8 +4,8 @@ use borrow.Author.Needs.{needs}
 use Rattle.reader_parts.proofs.attributes.one.Statement.{statement}
 use Rattle.reader_parts.proofs.attributes.one.Tie as tie
 
-noted-requires : tie.Need-noted-requires
-noted-requires c κs = search needs
+store-attribute-requires : tie.Need-store-attribute-requires
+store-attribute-requires c κs = search needs
 
 same-length : tie.Need-same-length
 same-length c = search needs
@@ -25,8 +25,8 @@ enum-known-n c = search needs
 enum-known-flag : tie.Need-enum-known-flag
 enum-known-flag c = search needs
 
-noted-requires-2 : tie.Need-noted-requires-2
-noted-requires-2 c κs = search needs
+store-attribute-requires-2 : tie.Need-store-attribute-requires-2
+store-attribute-requires-2 c κs = search needs
 
 returns-2 : tie.Need-returns-2
 returns-2 c = search (needs, one-ways)
@@ -44,14 +44,14 @@ pub one-spec : {M : Type 1} → statement M
 one-spec =
     tie.close
     (tie.spec
-    noted-requires
+    store-attribute-requires
     same-length
     same-length-2
     returns
     choice-requires
     enum-known-n
     enum-known-flag
-    noted-requires-2
+    store-attribute-requires-2
     returns-2
     same-length-3
     same-length-4

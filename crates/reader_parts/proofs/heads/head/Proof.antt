@@ -10,14 +10,14 @@ enum-told c = search needs
 enum-told-2 : tie.Need-enum-told-2
 enum-told-2 c = search needs
 
-flagged-requires : tie.Need-flagged-requires
-flagged-requires c κs = search needs
+read-flag-requires : tie.Need-read-flag-requires
+read-flag-requires c κs = search needs
 
 enum-told-3 : tie.Need-enum-told-3
 enum-told-3 c = search needs
 
-measured-requires : tie.Need-measured-requires
-measured-requires c κs = search needs
+read-length-requires : tie.Need-read-length-requires
+read-length-requires c κs = search needs
 
 returns : tie.Need-returns
 returns c = search (needs, head-ways)
@@ -34,9 +34,9 @@ head-spec =
     (tie.spec
     enum-told
     enum-told-2
-    flagged-requires
+    read-flag-requires
     enum-told-3
-    measured-requires
+    read-length-requires
     returns
     returns-2
     returns-3)

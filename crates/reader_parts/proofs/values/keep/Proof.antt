@@ -4,8 +4,8 @@ use borrow.Author.Needs.{needs}
 use Rattle.reader_parts.proofs.values.keep.Statement.{statement}
 use Rattle.reader_parts.proofs.values.keep.Tie as tie
 
-left-requires : tie.Need-left-requires
-left-requires c κs = search needs
+room-left-requires : tie.Need-room-left-requires
+room-left-requires c κs = search needs
 
 cast-if1 : tie.Need-cast-if1
 cast-if1 c = search needs
@@ -44,7 +44,7 @@ pub keep-spec : {M : Type 1} → statement M
 keep-spec =
     tie.close
     (tie.spec
-    left-requires
+    room-left-requires
     cast-if1
     returns
     mul-t17

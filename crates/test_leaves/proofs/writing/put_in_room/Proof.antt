@@ -5,17 +5,17 @@ use borrow.Author.Needs.{needs}
 use Rattle.test_leaves.proofs.writing.put_in_room.Statement.{statement}
 use Rattle.test_leaves.proofs.writing.put_in_room.Tie as tie
 
-slice-aggregate-coded : tie.Need-slice-aggregate-coded
-slice-aggregate-coded c = search needs
+slice-aggregate-note-code : tie.Need-slice-aggregate-note-code
+slice-aggregate-note-code c = search needs
 
-slice-aggregate-coded-2 : tie.Need-slice-aggregate-coded-2
-slice-aggregate-coded-2 c = search needs
+slice-aggregate-note-code-2 : tie.Need-slice-aggregate-note-code-2
+slice-aggregate-note-code-2 c = search needs
 
-slice-aggregate-coded-3 : tie.Need-slice-aggregate-coded-3
-slice-aggregate-coded-3 c = search needs
+slice-aggregate-note-code-3 : tie.Need-slice-aggregate-note-code-3
+slice-aggregate-note-code-3 c = search needs
 
-coded-requires : tie.Need-coded-requires
-coded-requires c κs = search needs
+note-code-requires : tie.Need-note-code-requires
+note-code-requires c κs = search needs
 
 enum-known-e : tie.Need-enum-known-e
 enum-known-e c = search needs
@@ -52,7 +52,7 @@ put-notes-requires c κs =
     let at-end = c .before .before .before .before .before .before .before .before in
     let at-coded = at-end .before .before .before in
     let entry = at-coded .before .before .before .before .before .args in
-    (one-room _ _ _ _ _ _ (at-coded .coded .ensures) _ (at-end .end .given .1) (entry .buf .now) (entry .at) (omega arith) (omega arith), one-noted _ _ _ _ _ _ (at-coded .coded .ensures) _ (at-end .end .given .1))
+    (one-room _ _ _ _ _ _ (at-coded .note-code .ensures) _ (at-end .end .given .1) (entry .buf .now) (entry .at) (omega arith) (omega arith), one-noted _ _ _ _ _ _ (at-coded .note-code .ensures) _ (at-end .end .given .1))
 
 accepted-requires : tie.Need-accepted-requires
 accepted-requires c κs = search needs
@@ -70,10 +70,10 @@ pub put-in-room-spec : {M : Type 1} → statement M
 put-in-room-spec =
     tie.close
     (tie.spec
-    slice-aggregate-coded
-    slice-aggregate-coded-2
-    slice-aggregate-coded-3
-    coded-requires
+    slice-aggregate-note-code
+    slice-aggregate-note-code-2
+    slice-aggregate-note-code-3
+    note-code-requires
     enum-known-e
     refused-requires
     enum-known-end
