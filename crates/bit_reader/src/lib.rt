@@ -52,7 +52,10 @@ pub fn move_to<'a>(r: BitReader<'a>, at: Bits) -> BitReader<'a>
 
 // The next code: the reader goes past it, or stays where it is refused.
 pub fn take<'s, 'a>(r: &'s mut BitReader<'a>, coding: Coding) -> Reading
-    ensures { λ a. ⌜ (readingIs a ≡ readingAt (now (now (r .entry) .src)) (now (r .entry) .at .0) coding) × (now (r .exit) .src ≡ now (r .entry) .src) × (now (r .exit) .at ≡ a .place) ⌝ }
+    ensures { λ a. ⌜
+        (readingIs a ≡ readingAt (now (now (r .entry) .src)) (now (r .entry) .at .0) coding)
+        × (now (r .exit) .src ≡ now (r .entry) .src)
+        × (now (r .exit) .at ≡ a .place) ⌝ }
 {
     let a = code_at(r.src, r.at, coding);
     r.at = a.place;

@@ -97,8 +97,15 @@ fn enter(
     coded: bool,
     body: Bits,
 ) -> Walk
-    requires { ⌜ (Ready (now table) (now payload) (wall .0) (path .count + 1) depth) × (length (now told) ≡ mostNames) × (name ≤ mostName) × (t < typesIn (now table)) ⌝ }
-    ensures { λ r. ⌜ Walks (enter· (now (table .entry)) (now (payload .entry)) mode depth name t coded (body .0)) (wall .0) c (namesOf path) (now (events .entry)) (now (texts .entry)) r (now (told .exit)) (now (events .exit)) (now (texts .exit)) ⌝ }
+    requires { ⌜
+        (Ready (now table) (now payload) (wall .0) (path .count + 1) depth)
+        × (length (now told) ≡ mostNames)
+        × (name ≤ mostName)
+        × (t < typesIn (now table)) ⌝ }
+    ensures { λ r. ⌜
+        Walks (enter· (now (table .entry)) (now (payload .entry)) mode depth name t coded (body .0)) (wall .0) c
+        (namesOf path) (now (events .entry)) (now (texts .entry)) r (now (told .exit)) (now (events .exit))
+        (now (texts .exit)) ⌝ }
 {
     let s = store(events, c, kind::START, name, flag(coded), body);
     let Step::Go(d) = s else {
@@ -140,8 +147,15 @@ fn whole(
     coded: bool,
     body: Bits,
 ) -> Walk
-    requires { ⌜ (Ready (now table) (now payload) (wall .0) (path .count + 1) depth) × (length (now told) ≡ mostNames) × (name ≤ mostName) × (t < typesIn (now table)) ⌝ }
-    ensures { λ r. ⌜ Walks (whole· (now (table .entry)) (now (payload .entry)) mode depth t coded (body .0)) (wall .0) c (name ∷ namesOf path) (now (events .entry)) (now (texts .entry)) r (now (told .exit)) (now (events .exit)) (now (texts .exit)) ⌝ }
+    requires { ⌜
+        (Ready (now table) (now payload) (wall .0) (path .count + 1) depth)
+        × (length (now told) ≡ mostNames)
+        × (name ≤ mostName)
+        × (t < typesIn (now table)) ⌝ }
+    ensures { λ r. ⌜
+        Walks (whole· (now (table .entry)) (now (payload .entry)) mode depth t coded (body .0)) (wall .0) c
+        (name ∷ namesOf path) (now (events .entry)) (now (texts .entry)) r (now (told .exit)) (now (events .exit))
+        (now (texts .exit)) ⌝ }
 {
     let v = inside(
         table,
@@ -178,8 +192,14 @@ fn element(
     name: u32,
     t: u32,
 ) -> Walk
-    requires { ⌜ (Ready (now table) (now payload) (wall .0) (path .count + 1) depth) × (length (now told) ≡ mostNames) × (name ≤ mostName) × (t < typesIn (now table)) ⌝ }
-    ensures { λ r. ⌜ Walks (element· (now (table .entry)) (now (payload .entry)) mode depth name t) (wall .0) c (namesOf path) (now (events .entry)) (now (texts .entry)) r (now (told .exit)) (now (events .exit)) (now (texts .exit)) ⌝ }
+    requires { ⌜
+        (Ready (now table) (now payload) (wall .0) (path .count + 1) depth)
+        × (length (now told) ≡ mostNames)
+        × (name ≤ mostName)
+        × (t < typesIn (now table)) ⌝ }
+    ensures { λ r. ⌜
+        Walks (element· (now (table .entry)) (now (payload .entry)) mode depth name t) (wall .0) c (namesOf path)
+        (now (events .entry)) (now (texts .entry)) r (now (told .exit)) (now (events .exit)) (now (texts .exit)) ⌝ }
 {
     let at = c.at;
     let held = rows::held(table, t);
@@ -232,8 +252,14 @@ fn inside(
     name: u32,
     t: u32,
 ) -> Walk
-    requires { ⌜ (Ready (now table) (now payload) (wall .0) (path .count + 1) depth) × (length (now told) ≡ mostNames) × (name ≤ mostName) × (t < typesIn (now table)) ⌝ }
-    ensures { λ r. ⌜ Walks (inside· (now (table .entry)) (now (payload .entry)) mode depth t) (wall .0) c (name ∷ namesOf path) (now (events .entry)) (now (texts .entry)) r (now (told .exit)) (now (events .exit)) (now (texts .exit)) ⌝ }
+    requires { ⌜
+        (Ready (now table) (now payload) (wall .0) (path .count + 1) depth)
+        × (length (now told) ≡ mostNames)
+        × (name ≤ mostName)
+        × (t < typesIn (now table)) ⌝ }
+    ensures { λ r. ⌜
+        Walks (inside· (now (table .entry)) (now (payload .entry)) mode depth t) (wall .0) c (name ∷ namesOf path)
+        (now (events .entry)) (now (texts .entry)) r (now (told .exit)) (now (events .exit)) (now (texts .exit)) ⌝ }
 {
     let s = all(table, payload, events, texts, wall, c, t);
     let Step::Go(d) = s else {
@@ -270,8 +296,14 @@ fn content(
     name: u32,
     t: u32,
 ) -> Walk
-    requires { ⌜ (Ready (now table) (now payload) (wall .0) (path .count + 1) depth) × (length (now told) ≡ mostNames) × (name ≤ mostName) × (t < typesIn (now table)) ⌝ }
-    ensures { λ r. ⌜ Walks (content· (now (table .entry)) (now (payload .entry)) mode depth t) (wall .0) c (name ∷ namesOf path) (now (events .entry)) (now (texts .entry)) r (now (told .exit)) (now (events .exit)) (now (texts .exit)) ⌝ }
+    requires { ⌜
+        (Ready (now table) (now payload) (wall .0) (path .count + 1) depth)
+        × (length (now told) ≡ mostNames)
+        × (name ≤ mostName)
+        × (t < typesIn (now table)) ⌝ }
+    ensures { λ r. ⌜
+        Walks (content· (now (table .entry)) (now (payload .entry)) mode depth t) (wall .0) c (name ∷ namesOf path)
+        (now (events .entry)) (now (texts .entry)) r (now (told .exit)) (now (events .exit)) (now (texts .exit)) ⌝ }
 {
     let k = rows::content(table, t);
     match k {
@@ -318,8 +350,13 @@ pub fn particle(
     path: Path,
     row: Particle,
 ) -> Walk
-    requires { ⌜ (Ready (now table) (now payload) (wall .0) (path .count) depth) × (length (now told) ≡ mostNames) × (Fits (typesIn (now table)) (particlesIn (now table)) (rowIs row)) ⌝ }
-    ensures { λ r. ⌜ Walks (particle· (now (table .entry)) (now (payload .entry)) mode depth (rowIs row)) (wall .0) c (namesOf path) (now (events .entry)) (now (texts .entry)) r (now (told .exit)) (now (events .exit)) (now (texts .exit)) ⌝ }
+    requires { ⌜
+        (Ready (now table) (now payload) (wall .0) (path .count) depth)
+        × (length (now told) ≡ mostNames)
+        × (Fits (typesIn (now table)) (particlesIn (now table)) (rowIs row)) ⌝ }
+    ensures { λ r. ⌜
+        Walks (particle· (now (table .entry)) (now (payload .entry)) mode depth (rowIs row)) (wall .0) c (namesOf path)
+        (now (events .entry)) (now (texts .entry)) r (now (told .exit)) (now (events .exit)) (now (texts .exit)) ⌝ }
 {
     let at = c.at;
     if depth == 0 {
@@ -403,8 +440,13 @@ fn choose(
     first: u32,
     n: u32,
 ) -> Walk
-    requires { ⌜ (Ready (now table) (now payload) (wall .0) (path .count) depth) × (length (now told) ≡ mostNames) × (first + n ≤ particlesIn (now table)) ⌝ }
-    ensures { λ r. ⌜ Walks (choose· (now (table .entry)) (now (payload .entry)) mode depth first n) (wall .0) c (namesOf path) (now (events .entry)) (now (texts .entry)) r (now (told .exit)) (now (events .exit)) (now (texts .exit)) ⌝ }
+    requires { ⌜
+        (Ready (now table) (now payload) (wall .0) (path .count) depth)
+        × (length (now told) ≡ mostNames)
+        × (first + n ≤ particlesIn (now table)) ⌝ }
+    ensures { λ r. ⌜
+        Walks (choose· (now (table .entry)) (now (payload .entry)) mode depth first n) (wall .0) c (namesOf path)
+        (now (events .entry)) (now (texts .entry)) r (now (told .exit)) (now (events .exit)) (now (texts .exit)) ⌝ }
 {
     let at = c.at;
     let r = choice(payload, wall, at, n);
@@ -449,8 +491,14 @@ fn occur(
     least: u32,
     most: u32,
 ) -> Walk
-    requires { ⌜ (Ready (now table) (now payload) (wall .0) (path .count) depth) × (length (now told) ≡ mostNames) × (child < particlesIn (now table)) ⌝ }
-    ensures { λ r. ⌜ Walks (occur· (now (table .entry)) (now (payload .entry)) mode depth child least most) (wall .0) c (namesOf path) (now (events .entry)) (now (texts .entry)) r (now (told .exit)) (now (events .exit)) (now (texts .exit)) ⌝ }
+    requires { ⌜
+        (Ready (now table) (now payload) (wall .0) (path .count) depth)
+        × (length (now told) ≡ mostNames)
+        × (child < particlesIn (now table)) ⌝ }
+    ensures { λ r. ⌜
+        Walks (occur· (now (table .entry)) (now (payload .entry)) mode depth child least most) (wall .0) c
+        (namesOf path) (now (events .entry)) (now (texts .entry)) r (now (told .exit)) (now (events .exit))
+        (now (texts .exit)) ⌝ }
 {
     let at = c.at;
     let r = code(payload, wall, at, times(least, most));
@@ -496,8 +544,13 @@ fn rounds(
     step: u32,
     n: u32,
 ) -> Walk
-    requires { ⌜ (Ready (now table) (now payload) (wall .0) (path .count) depth) × (length (now told) ≡ mostNames) × (Reaches (particlesIn (now table)) first step n) ⌝ }
-    ensures { λ r. ⌜ Walks (rounds· (now (table .entry)) (now (payload .entry)) mode depth first step n) (wall .0) c (namesOf path) (now (events .entry)) (now (texts .entry)) r (now (told .exit)) (now (events .exit)) (now (texts .exit)) ⌝ }
+    requires { ⌜
+        (Ready (now table) (now payload) (wall .0) (path .count) depth)
+        × (length (now told) ≡ mostNames)
+        × (Reaches (particlesIn (now table)) first step n) ⌝ }
+    ensures { λ r. ⌜
+        Walks (rounds· (now (table .entry)) (now (payload .entry)) mode depth first step n) (wall .0) c (namesOf path)
+        (now (events .entry)) (now (texts .entry)) r (now (told .exit)) (now (events .exit)) (now (texts .exit)) ⌝ }
 {
     let mut cursor = c;
     let mut i = first;

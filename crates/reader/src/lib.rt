@@ -121,8 +121,16 @@ fn root(
     name: u32,
     t: u32,
 ) -> Answer
-    requires { ⌜ (Entered (now table) name t) × (modeOf (now payload) ≡ got (modeIs mode)) × Zeros (now events) × Zeros (now texts) ⌝ }
-    ensures { λ r. ⌜ Replies (reading (now (table .entry)) name t (now (payload .entry)) (length (now (events .entry))) (length (now (texts .entry)))) (length (now (events .entry))) (length (now (texts .entry))) r (now (events .exit)) (now (texts .exit)) ⌝ }
+    requires { ⌜
+        (Entered (now table) name t)
+        × (modeOf (now payload) ≡ got (modeIs mode))
+        × Zeros (now events)
+        × Zeros (now texts) ⌝ }
+    ensures { λ r. ⌜
+        Replies
+        (reading (now (table .entry)) name t (now (payload .entry)) (length (now (events .entry)))
+        (length (now (texts .entry))))
+        (length (now (events .entry))) (length (now (texts .entry))) r (now (events .exit)) (now (texts .exit)) ⌝ }
 {
     let wall = Bits((8 * payload.len()) as u32);
     let start = Bits(8);
@@ -181,7 +189,11 @@ fn read_checked(
     texts: &mut [u8],
 ) -> Answer
     requires { ⌜ (verdict (now table) ≡ right) × Zeros (now events) × Zeros (now texts) ⌝ }
-    ensures { λ r. ⌜ Replies (reading (now (table .entry)) «root_name» «root_type» (now (payload .entry)) (length (now (events .entry))) (length (now (texts .entry)))) (length (now (events .entry))) (length (now (texts .entry))) r (now (events .exit)) (now (texts .exit)) ⌝ }
+    ensures { λ r. ⌜
+        Replies
+        (reading (now (table .entry)) «root_name» «root_type» (now (payload .entry)) (length (now (events .entry)))
+        (length (now (texts .entry))))
+        (length (now (events .entry))) (length (now (texts .entry))) r (now (events .exit)) (now (texts .exit)) ⌝ }
 {
     let known = types(table);
     if known <= root_type {
@@ -206,7 +218,11 @@ pub fn read(
     events: &mut [u32],
     texts: &mut [u8],
 ) -> Answer
-    ensures { λ r. ⌜ Replies (reading (now (table .entry)) «root_name» «root_type» (now (payload .entry)) (length (now (events .entry))) (length (now (texts .entry)))) (length (now (events .entry))) (length (now (texts .entry))) r (now (events .exit)) (now (texts .exit)) ⌝ }
+    ensures { λ r. ⌜
+        Replies
+        (reading (now (table .entry)) «root_name» «root_type» (now (payload .entry)) (length (now (events .entry)))
+        (length (now (texts .entry))))
+        (length (now (events .entry))) (length (now (texts .entry))) r (now (events .exit)) (now (texts .exit)) ⌝ }
 {
     both(events, texts);
     let v = check(table);

@@ -30,7 +30,9 @@ fn store_attribute(
     next: Bits,
 ) -> Step
     requires { ⌜ wall .0 ≤ 8 * length (now payload) ⌝ }
-    ensures { λ r. ⌜ Notes present (next .0) (attributeIs a) (bitAt (now (payload .entry))) (wall .0) c (now (events .entry)) (now (texts .entry)) r (now (events .exit)) (now (texts .exit)) ⌝ }
+    ensures { λ r. ⌜
+        Notes present (next .0) (attributeIs a) (bitAt (now (payload .entry))) (wall .0) c (now (events .entry))
+        (now (texts .entry)) r (now (events .exit)) (now (texts .exit)) ⌝ }
 {
     let s = store(events, c, kind::ATTRIBUTE, a.name, present, next);
     let Step::Go(d) = s else {
@@ -52,7 +54,9 @@ pub fn one(
     a: Attribute,
 ) -> Step
     requires { ⌜ wall .0 ≤ 8 * length (now payload) ⌝ }
-    ensures { λ r. ⌜ Reads (model.attribute (a .must) (attributeIs a) done) (bitAt (now (payload .entry))) (wall .0) c (now (events .entry)) (now (texts .entry)) r (now (events .exit)) (now (texts .exit)) ⌝ }
+    ensures { λ r. ⌜
+        Reads (model.attribute (a .must) (attributeIs a) done) (bitAt (now (payload .entry))) (wall .0) c
+        (now (events .entry)) (now (texts .entry)) r (now (events .exit)) (now (texts .exit)) ⌝ }
 {
     let at = c.at;
     let must = a.must;
@@ -76,7 +80,9 @@ pub fn all(
     t: u32,
 ) -> Step
     requires { ⌜ (wall .0 ≤ 8 * length (now payload)) × (firstOf (now table) t + countOf (now table) t < 4294967296) ⌝ }
-    ensures { λ r. ⌜ Reads (model.attributes (tableOf (now (table .entry)) .attributes t) done) (bitAt (now (payload .entry))) (wall .0) c (now (events .entry)) (now (texts .entry)) r (now (events .exit)) (now (texts .exit)) ⌝ }
+    ensures { λ r. ⌜
+        Reads (model.attributes (tableOf (now (table .entry)) .attributes t) done) (bitAt (now (payload .entry)))
+        (wall .0) c (now (events .entry)) (now (texts .entry)) r (now (events .exit)) (now (texts .exit)) ⌝ }
 {
     let own = rows::span(table, t);
     let first = own.first;

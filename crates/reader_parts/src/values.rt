@@ -21,8 +21,13 @@ ghost use Rattle.reader_parts.specs.Out.{Reads, Keeps};
 
 // n bytes of the payload, from a place on, into texts.
 fn copy(payload: &[u8], texts: &mut [u8], from: Bits, n: Bytes, used: usize)
-    requires { ⌜ (from .0 + 8 * n .0 ≤ 8 * length (now payload)) × (n .0 ≤ length (now texts) - used) × (from .0 + 8 * n .0 < 4294967296) ⌝ }
-    ensures { λ _. ⌜ now (texts .exit) ≡ sets (now (texts .entry)) used (bytesAt (bitAt (now (payload .entry))) (from .0) (n .0)) ⌝ }
+    requires { ⌜
+        (from .0 + 8 * n .0 ≤ 8 * length (now payload))
+        × (n .0 ≤ length (now texts) - used)
+        × (from .0 + 8 * n .0 < 4294967296) ⌝ }
+    ensures { λ _. ⌜
+        now (texts .exit)
+        ≡ sets (now (texts .entry)) used (bytesAt (bitAt (now (payload .entry))) (from .0) (n .0)) ⌝ }
 {
     let m = n.0 as usize;
     let p = from.0;
@@ -54,7 +59,9 @@ fn keep(
     next: Bits,
 ) -> Step
     requires { ⌜ (next .0 ≤ 8 * length (now payload)) × (8 * n .0 ≤ next .0) ⌝ }
-    ensures { λ r. ⌜ Keeps word (bytesAt (bitAt (now (payload .entry))) (next .0 - 8 * n .0) (n .0)) (next .0) c (now (events .entry)) (now (texts .entry)) r (now (events .exit)) (now (texts .exit)) ⌝ }
+    ensures { λ r. ⌜
+        Keeps word (bytesAt (bitAt (now (payload .entry))) (next .0 - 8 * n .0) (n .0)) (next .0) c
+        (now (events .entry)) (now (texts .entry)) r (now (events .exit)) (now (texts .exit)) ⌝ }
 {
     let at = c.at;
     let count = c.count;
@@ -86,7 +93,9 @@ pub fn value(
     y: u32,
 ) -> Step
     requires { ⌜ wall .0 ≤ 8 * length (now payload) ⌝ }
-    ensures { λ r. ⌜ Reads (model.value simple x y done) (bitAt (now (payload .entry))) (wall .0) c (now (events .entry)) (now (texts .entry)) r (now (events .exit)) (now (texts .exit)) ⌝ }
+    ensures { λ r. ⌜
+        Reads (model.value simple x y done) (bitAt (now (payload .entry))) (wall .0) c (now (events .entry))
+        (now (texts .entry)) r (now (events .exit)) (now (texts .exit)) ⌝ }
 {
     let at = c.at;
     match of_kind(payload, wall, at, simple, x, y) {

@@ -27,7 +27,9 @@ pub fn required(
     y: u32,
 ) -> Judgement
     requires { ⌜ Ready (now events) (now texts) (now notes) c ⌝ }
-    ensures { λ r. ⌜ Walks (now (events .entry)) (now (texts .entry)) (required· name simple x y) c (now (notes .entry)) r (now (notes .exit)) ⌝ }
+    ensures { λ r. ⌜
+        Walks (now (events .entry)) (now (texts .entry)) (required· name simple x y) c (now (notes .entry)) r
+        (now (notes .exit)) ⌝ }
 {
     let r = mark(events, texts, notes, c, kind::ATTRIBUTE, name, 1);
     let Judgement::Go(e) = r else {
@@ -54,7 +56,9 @@ pub fn optional(
     y: u32,
 ) -> Judgement
     requires { ⌜ Ready (now events) (now texts) (now notes) c ⌝ }
-    ensures { λ r. ⌜ Walks (now (events .entry)) (now (texts .entry)) (optional· name simple x y) c (now (notes .entry)) r (now (notes .exit)) ⌝ }
+    ensures { λ r. ⌜
+        Walks (now (events .entry)) (now (texts .entry)) (optional· name simple x y) c (now (notes .entry)) r
+        (now (notes .exit)) ⌝ }
 {
     let i = c.event;
     let q = flag(word(events, 4 * i + 2));
@@ -79,7 +83,9 @@ pub fn one(
     i: u32,
 ) -> Judgement
     requires { ⌜ Ready (now events) (now texts) (now notes) c ⌝ }
-    ensures { λ r. ⌜ Walks (now (events .entry)) (now (texts .entry)) (attribute· (attributeOf (now (table .entry)) i)) c (now (notes .entry)) r (now (notes .exit)) ⌝ }
+    ensures { λ r. ⌜
+        Walks (now (events .entry)) (now (texts .entry)) (attribute· (attributeOf (now (table .entry)) i)) c
+        (now (notes .entry)) r (now (notes .exit)) ⌝ }
 {
     let a = attribute(table, i);
     let name = a.name;
@@ -103,7 +109,9 @@ pub fn all(
     n: u32,
 ) -> Judgement
     requires { ⌜ (Ready (now events) (now texts) (now notes) c) × (first + n < 4294967296) ⌝ }
-    ensures { λ r. ⌜ Walks (now (events .entry)) (now (texts .entry)) (attributes· (attributesFrom (now (table .entry)) n first)) c (now (notes .entry)) r (now (notes .exit)) ⌝ }
+    ensures { λ r. ⌜
+        Walks (now (events .entry)) (now (texts .entry)) (attributes· (attributesFrom (now (table .entry)) n first)) c
+        (now (notes .entry)) r (now (notes .exit)) ⌝ }
 {
     let mut cursor = c;
     let mut i: u32 = 0;

@@ -46,8 +46,14 @@ pub fn element(
     name: u32,
     t: u32,
 ) -> Judgement
-    requires { ⌜ (Ready (now events) (now texts) (now notes) c) × (Right (now table)) × (t < typesIn (now table)) × (depth ≤ mostOpen) ⌝ }
-    ensures { λ r. ⌜ Walks (now (events .entry)) (now (texts .entry)) (element· (now (table .entry)) mode depth name t) c (now (notes .entry)) r (now (notes .exit)) ⌝ }
+    requires { ⌜
+        (Ready (now events) (now texts) (now notes) c)
+        × (Right (now table))
+        × (t < typesIn (now table))
+        × (depth ≤ mostOpen) ⌝ }
+    ensures { λ r. ⌜
+        Walks (now (events .entry)) (now (texts .entry)) (element· (now (table .entry)) mode depth name t) c
+        (now (notes .entry)) r (now (notes .exit)) ⌝ }
 {
     let at = c.event;
     let q = flag_in(mode, rows::word(events, 4 * at + 2));
@@ -82,8 +88,14 @@ pub fn inside(
     c: Spot,
     t: u32,
 ) -> Judgement
-    requires { ⌜ (Ready (now events) (now texts) (now notes) c) × (Right (now table)) × (t < typesIn (now table)) × (depth ≤ mostOpen) ⌝ }
-    ensures { λ r. ⌜ Walks (now (events .entry)) (now (texts .entry)) (inside· (now (table .entry)) mode depth t) c (now (notes .entry)) r (now (notes .exit)) ⌝ }
+    requires { ⌜
+        (Ready (now events) (now texts) (now notes) c)
+        × (Right (now table))
+        × (t < typesIn (now table))
+        × (depth ≤ mostOpen) ⌝ }
+    ensures { λ r. ⌜
+        Walks (now (events .entry)) (now (texts .entry)) (inside· (now (table .entry)) mode depth t) c
+        (now (notes .entry)) r (now (notes .exit)) ⌝ }
 {
     let s = rows::span(table, t);
     let first = s.first;
@@ -106,8 +118,14 @@ pub fn content(
     c: Spot,
     t: u32,
 ) -> Judgement
-    requires { ⌜ (Ready (now events) (now texts) (now notes) c) × (Right (now table)) × (t < typesIn (now table)) × (depth ≤ mostOpen) ⌝ }
-    ensures { λ r. ⌜ Walks (now (events .entry)) (now (texts .entry)) (content· (now (table .entry)) mode depth t) c (now (notes .entry)) r (now (notes .exit)) ⌝ }
+    requires { ⌜
+        (Ready (now events) (now texts) (now notes) c)
+        × (Right (now table))
+        × (t < typesIn (now table))
+        × (depth ≤ mostOpen) ⌝ }
+    ensures { λ r. ⌜
+        Walks (now (events .entry)) (now (texts .entry)) (content· (now (table .entry)) mode depth t) c
+        (now (notes .entry)) r (now (notes .exit)) ⌝ }
 {
     match rows::content(table, t) {
         Content::Empty => Judgement::Go(c),
@@ -137,8 +155,14 @@ pub fn particle(
     c: Spot,
     i: u32,
 ) -> Judgement
-    requires { ⌜ (Ready (now events) (now texts) (now notes) c) × (Right (now table)) × (i < particlesIn (now table)) × (depth ≤ mostOpen) ⌝ }
-    ensures { λ r. ⌜ Walks (now (events .entry)) (now (texts .entry)) (particle· (now (table .entry)) mode depth i) c (now (notes .entry)) r (now (notes .exit)) ⌝ }
+    requires { ⌜
+        (Ready (now events) (now texts) (now notes) c)
+        × (Right (now table))
+        × (i < particlesIn (now table))
+        × (depth ≤ mostOpen) ⌝ }
+    ensures { λ r. ⌜
+        Walks (now (events .entry)) (now (texts .entry)) (particle· (now (table .entry)) mode depth i) c
+        (now (notes .entry)) r (now (notes .exit)) ⌝ }
 {
     if depth == 0 {
         return too_deep(events, c.event);
@@ -177,8 +201,14 @@ pub fn choose(
     first: u32,
     n: u32,
 ) -> Judgement
-    requires { ⌜ (Ready (now events) (now texts) (now notes) c) × (Right (now table)) × (first + n ≤ particlesIn (now table)) × (depth ≤ mostOpen) ⌝ }
-    ensures { λ r. ⌜ Walks (now (events .entry)) (now (texts .entry)) (choose· (now (table .entry)) mode depth first n) c (now (notes .entry)) r (now (notes .exit)) ⌝ }
+    requires { ⌜
+        (Ready (now events) (now texts) (now notes) c)
+        × (Right (now table))
+        × (first + n ≤ particlesIn (now table))
+        × (depth ≤ mostOpen) ⌝ }
+    ensures { λ r. ⌜
+        Walks (now (events .entry)) (now (texts .entry)) (choose· (now (table .entry)) mode depth first n) c
+        (now (notes .entry)) r (now (notes .exit)) ⌝ }
 {
     let at = c.event;
     let v = rows::word(events, 4 * at + 1);
@@ -202,8 +232,14 @@ pub fn occur(
     least: u32,
     most: u32,
 ) -> Judgement
-    requires { ⌜ (Ready (now events) (now texts) (now notes) c) × (Right (now table)) × (child < particlesIn (now table)) × (depth ≤ mostOpen) ⌝ }
-    ensures { λ r. ⌜ Walks (now (events .entry)) (now (texts .entry)) (occur· (now (table .entry)) mode depth child least most) c (now (notes .entry)) r (now (notes .exit)) ⌝ }
+    requires { ⌜
+        (Ready (now events) (now texts) (now notes) c)
+        × (Right (now table))
+        × (child < particlesIn (now table))
+        × (depth ≤ mostOpen) ⌝ }
+    ensures { λ r. ⌜
+        Walks (now (events .entry)) (now (texts .entry)) (occur· (now (table .entry)) mode depth child least most) c
+        (now (notes .entry)) r (now (notes .exit)) ⌝ }
 {
     let at = c.event;
     let v = rows::word(events, 4 * at + 1);
@@ -227,8 +263,14 @@ pub fn rounds(
     step: u32,
     n: u32,
 ) -> Judgement
-    requires { ⌜ (Ready (now events) (now texts) (now notes) c) × (Right (now table)) × (Within (now table) first step n) × (depth ≤ mostOpen) ⌝ }
-    ensures { λ r. ⌜ Walks (now (events .entry)) (now (texts .entry)) (rounds· (now (table .entry)) mode depth first step n) c (now (notes .entry)) r (now (notes .exit)) ⌝ }
+    requires { ⌜
+        (Ready (now events) (now texts) (now notes) c)
+        × (Right (now table))
+        × (Within (now table) first step n)
+        × (depth ≤ mostOpen) ⌝ }
+    ensures { λ r. ⌜
+        Walks (now (events .entry)) (now (texts .entry)) (rounds· (now (table .entry)) mode depth first step n) c
+        (now (notes .entry)) r (now (notes .exit)) ⌝ }
 {
     let mut cursor = c;
     let mut i = first;

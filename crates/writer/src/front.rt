@@ -60,7 +60,11 @@ pub fn judge_before(table: &[u32], name: u32, t: u32, mode: u32, events: &[u32])
 
 // No event may be left over, then no text; then the room.
 pub fn judge_after(events: &[u32], texts: &[u8], c: Spot, room: usize) -> Fault
-    requires { ⌜ (c .event ≤ eventsIn (now events)) × (c .used ≤ length (now texts)) × (c .event ≤ mostEvents) × (c .bits ≤ 40000 * c .event) ⌝ }
+    requires { ⌜
+        (c .event ≤ eventsIn (now events))
+        × (c .used ≤ length (now texts))
+        × (c .event ≤ mostEvents)
+        × (c .bits ≤ 40000 * c .event) ⌝ }
     ensures { λ r. ⌜ Settled (now (events .entry)) (now (texts .entry)) c room r ⌝ }
 {
     let at = c.event;

@@ -24,8 +24,15 @@ fn first(mode: u32) -> u8
 }
 
 pub fn draw(payload: &mut [u8], mode: u32, texts: &[u8], notes: &[u32], n: usize)
-    requires { ⌜ (Zeros (now payload)) × (1 + (length (spells (now texts) (now notes) 0 n) + 7) / 8 ≤ length (now payload)) × (length (spells (now texts) (now notes) 0 n) ≤ 100000000) × (4 * n ≤ length (now notes)) ⌝ }
-    ensures { λ _. ⌜ now (payload .exit) ≡ filled (length (now (payload .entry))) (modeByte (modeIs mode) ∷ pack (spells (now (texts .entry)) (now (notes .entry)) 0 n)) ⌝ }
+    requires { ⌜
+        (Zeros (now payload))
+        × (1 + (length (spells (now texts) (now notes) 0 n) + 7) / 8 ≤ length (now payload))
+        × (length (spells (now texts) (now notes) 0 n) ≤ 100000000)
+        × (4 * n ≤ length (now notes)) ⌝ }
+    ensures { λ _. ⌜
+        now (payload .exit)
+        ≡ filled (length (now (payload .entry)))
+        (modeByte (modeIs mode) ∷ pack (spells (now (texts .entry)) (now (notes .entry)) 0 n)) ⌝ }
 {
     let x = first(mode);
     payload[0] = x;

@@ -74,8 +74,18 @@ fn finish(
     c: Spot,
     payload: &mut [u8],
 ) -> Answer
-    requires { ⌜ (Ready (now events) (now texts) (now notes) c) × (c .bits ≡ length (between (now texts) (now notes) origin c)) × (Zeros (now payload)) × (mode ≤ 2) ⌝ }
-    ensures { λ r. ⌜ Writes (spent (eventsIn (now (events .entry))) (wrote (between (now (texts .entry)) (now (notes .entry)) origin c) (eventsAt (now (events .entry)) (c .event)) (textsAt (now (texts .entry)) (c .used))) (roomed (length (now (payload .entry))) (modeIs mode))) mode (eventsIn (now (events .entry))) (length (now (texts .entry))) (length (now (payload .entry))) r (now (payload .exit)) ⌝ }
+    requires { ⌜
+        (Ready (now events) (now texts) (now notes) c)
+        × (c .bits ≡ length (between (now texts) (now notes) origin c))
+        × (Zeros (now payload))
+        × (mode ≤ 2) ⌝ }
+    ensures { λ r. ⌜
+        Writes
+        (spent (eventsIn (now (events .entry)))
+        (wrote (between (now (texts .entry)) (now (notes .entry)) origin c) (eventsAt (now (events .entry)) (c .event)) (textsAt (now (texts .entry)) (c .used)))
+        (roomed (length (now (payload .entry))) (modeIs mode)))
+        mode (eventsIn (now (events .entry))) (length (now (texts .entry))) (length (now (payload .entry))) r
+        (now (payload .exit)) ⌝ }
 {
     let f = judge_after(events, texts, c, payload.len());
     if let Fault::At(n, p) = f {
@@ -103,8 +113,16 @@ fn write_with_notes(
     notes: &mut [u32],
     payload: &mut [u8],
 ) -> Answer
-    requires { ⌜ (Fine (now table) «root_name» «root_type» mode (now events)) × (Zeros (now payload)) × (4 * eventsIn (now events) ≤ length (now notes)) ⌝ }
-    ensures { λ r. ⌜ Writes (writing (now (table .entry)) «root_name» «root_type» mode (now (events .entry)) (now (texts .entry)) (length (now (payload .entry)))) mode (eventsIn (now (events .entry))) (length (now (texts .entry))) (length (now (payload .entry))) r (now (payload .exit)) ⌝ }
+    requires { ⌜
+        (Fine (now table) «root_name» «root_type» mode (now events))
+        × (Zeros (now payload))
+        × (4 * eventsIn (now events) ≤ length (now notes)) ⌝ }
+    ensures { λ r. ⌜
+        Writes
+        (writing (now (table .entry)) «root_name» «root_type» mode (now (events .entry)) (now (texts .entry))
+        (length (now (payload .entry))))
+        mode (eventsIn (now (events .entry))) (length (now (texts .entry))) (length (now (payload .entry))) r
+        (now (payload .exit)) ⌝ }
 {
     let start = Spot {
         event: 0,
@@ -138,7 +156,12 @@ pub fn write(
     texts: &[u8],
     payload: &mut [u8],
 ) -> Answer
-    ensures { λ r. ⌜ Writes (writing (now (table .entry)) «root_name» «root_type» mode (now (events .entry)) (now (texts .entry)) (length (now (payload .entry)))) mode (eventsIn (now (events .entry))) (length (now (texts .entry))) (length (now (payload .entry))) r (now (payload .exit)) ⌝ }
+    ensures { λ r. ⌜
+        Writes
+        (writing (now (table .entry)) «root_name» «root_type» mode (now (events .entry)) (now (texts .entry))
+        (length (now (payload .entry))))
+        mode (eventsIn (now (events .entry))) (length (now (texts .entry))) (length (now (payload .entry))) r
+        (now (payload .exit)) ⌝ }
 {
     clear(payload);
     let f = judge_before(table, root_name, root_type, mode, events);

@@ -26,7 +26,9 @@ pub fn value(
     y: u32,
 ) -> Judgement
     requires { ⌜ Ready (now events) (now texts) (now notes) c ⌝ }
-    ensures { λ r. ⌜ Walks (now (events .entry)) (now (texts .entry)) (alone (valued simple x y)) c (now (notes .entry)) r (now (notes .exit)) ⌝ }
+    ensures { λ r. ⌜
+        Walks (now (events .entry)) (now (texts .entry)) (alone (valued simple x y)) c (now (notes .entry)) r
+        (now (notes .exit)) ⌝ }
 {
     let i = c.event;
     let v = word(events, 4 * i + 1);
@@ -39,7 +41,8 @@ pub fn value(
 // A branch v of a choice.
 pub fn pick(events: &[u32], texts: &[u8], notes: &mut [u32], c: Spot, n: u32, v: u32) -> Judgement
     requires { ⌜ (Ready (now events) (now texts) (now notes) c) × (v ≡ getD (now events) (4 * c .event + 1) 0) ⌝ }
-    ensures { λ r. ⌜ Walks (now (events .entry)) (now (texts .entry)) (alone (picked n)) c (now (notes .entry)) r (now (notes .exit)) ⌝ }
+    ensures { λ r. ⌜
+        Walks (now (events .entry)) (now (texts .entry)) (alone (picked n)) c (now (notes .entry)) r (now (notes .exit)) ⌝ }
 {
     let code = Code::Plain(Inner::Choice(n));
     note_code(events, texts, notes, c, kind::PICK, v, 0, code, v)
@@ -56,7 +59,9 @@ pub fn count(
     v: u32,
 ) -> Judgement
     requires { ⌜ (Ready (now events) (now texts) (now notes) c) × (v ≡ getD (now events) (4 * c .event + 1) 0) ⌝ }
-    ensures { λ r. ⌜ Walks (now (events .entry)) (now (texts .entry)) (alone (counted least most)) c (now (notes .entry)) r (now (notes .exit)) ⌝ }
+    ensures { λ r. ⌜
+        Walks (now (events .entry)) (now (texts .entry)) (alone (counted least most)) c (now (notes .entry)) r
+        (now (notes .exit)) ⌝ }
 {
     let code = forms::times(least, most);
     note_code(events, texts, notes, c, kind::TIMES, v, 0, code, v)

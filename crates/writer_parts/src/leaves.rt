@@ -83,7 +83,11 @@ pub fn mark(
     q: u32,
 ) -> Judgement
     requires { ⌜ Ready (now events) (now texts) (now notes) c ⌝ }
-    ensures { λ r. ⌜ Walked (now (events .entry)) (now (texts .entry)) (noted (wanted kind p q) (got ([], textsAt (now (texts .entry)) (c .used))) (eventsAt (now (events .entry)) (c .event))) c (now (notes .entry)) r (now (notes .exit)) ⌝ }
+    ensures { λ r. ⌜
+        Walked (now (events .entry)) (now (texts .entry))
+        (noted (wanted kind p q) (got ([], textsAt (now (texts .entry)) (c .used)))
+        (eventsAt (now (events .entry)) (c .event)))
+        c (now (notes .entry)) r (now (notes .exit)) ⌝ }
 {
     let at = c.event;
     let bad = unlike(events, at, kind, p, q);
@@ -114,7 +118,11 @@ pub fn note_code(
     v: u32,
 ) -> Judgement
     requires { ⌜ Ready (now events) (now texts) (now notes) c ⌝ }
-    ensures { λ r. ⌜ Walked (now (events .entry)) (now (texts .entry)) (noted (wanted kind p q) (simpleOut (plain (codeIs code)) v (textsAt (now (texts .entry)) (c .used))) (eventsAt (now (events .entry)) (c .event))) c (now (notes .entry)) r (now (notes .exit)) ⌝ }
+    ensures { λ r. ⌜
+        Walked (now (events .entry)) (now (texts .entry))
+        (noted (wanted kind p q) (simpleOut (plain (codeIs code)) v (textsAt (now (texts .entry)) (c .used)))
+        (eventsAt (now (events .entry)) (c .event)))
+        c (now (notes .entry)) r (now (notes .exit)) ⌝ }
 {
     let at = c.event;
     let bad = unlike(events, at, kind, p, q);
@@ -169,7 +177,11 @@ fn text_note(v: u32, from: u32) -> Note
 // A text's event, of v bytes.
 pub fn note_text(events: &[u32], texts: &[u8], notes: &mut [u32], c: Spot, v: u32) -> Judgement
     requires { ⌜ Ready (now events) (now texts) (now notes) c ⌝ }
-    ensures { λ r. ⌜ Walked (now (events .entry)) (now (texts .entry)) (noted (wanted kinds.value v 0) (simpleOut text v (textsAt (now (texts .entry)) (c .used))) (eventsAt (now (events .entry)) (c .event))) c (now (notes .entry)) r (now (notes .exit)) ⌝ }
+    ensures { λ r. ⌜
+        Walked (now (events .entry)) (now (texts .entry))
+        (noted (wanted kinds.value v 0) (simpleOut text v (textsAt (now (texts .entry)) (c .used)))
+        (eventsAt (now (events .entry)) (c .event)))
+        c (now (notes .entry)) r (now (notes .exit)) ⌝ }
 {
     let at = c.event;
     let used = c.used;
@@ -204,7 +216,11 @@ pub fn close(
     e: Spot,
 ) -> Judgement
     requires { ⌜ (Ready (now events) (now texts) (now notes) c) × Sealing (now events) (now texts) (now notes) c e ⌝ }
-    ensures { λ r. ⌜ Walked (now (events .entry)) (now (texts .entry)) (sealed (modeIs mode) q (wrote (between (now (texts .entry)) (now (notes .entry)) (record { event = c .event + 1; used = c .used; bits = c .bits }) e) (eventsAt (now (events .entry)) (e .event)) (textsAt (now (texts .entry)) (e .used)))) c (now (notes .entry)) r (now (notes .exit)) ⌝ }
+    ensures { λ r. ⌜
+        Walked (now (events .entry)) (now (texts .entry))
+        (sealed (modeIs mode) q
+        (wrote (between (now (texts .entry)) (now (notes .entry)) (record { event = c .event + 1; used = c .used; bits = c .bits }) e) (eventsAt (now (events .entry)) (e .event)) (textsAt (now (texts .entry)) (e .used))))
+        c (now (notes .entry)) r (now (notes .exit)) ⌝ }
 {
     let at = c.event;
     let to = e.event;

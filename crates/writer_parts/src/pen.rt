@@ -21,7 +21,8 @@ fn least(a: usize, b: usize) -> usize
 // A piece, by its width, and the place past it.
 fn put_piece(payload: &mut [u8], at: Bits, texts: &[u8], p: Piece) -> Bits
     requires { ⌜ Room (now payload) (at .0) (length (pieceBits (now texts) p)) ⌝ }
-    ensures { λ r. ⌜ Wrote (now (payload .entry)) (now (payload .exit)) (at .0) (pieceBits (now (texts .entry)) p) (r .0) ⌝ }
+    ensures { λ r. ⌜
+        Wrote (now (payload .entry)) (now (payload .exit)) (at .0) (pieceBits (now (texts .entry)) p) (r .0) ⌝ }
 {
     let w = p.width;
     let x = p.x;
@@ -40,7 +41,8 @@ fn put_piece(payload: &mut [u8], at: Bits, texts: &[u8], p: Piece) -> Bits
 // An event's note, and the place past it. Most notes have one piece with bits or none: nothing is called for the others.
 fn put_note(payload: &mut [u8], at: Bits, texts: &[u8], n: Note) -> Bits
     requires { ⌜ Room (now payload) (at .0) (length (noteBits (now texts) n)) ⌝ }
-    ensures { λ r. ⌜ Wrote (now (payload .entry)) (now (payload .exit)) (at .0) (noteBits (now (texts .entry)) n) (r .0) ⌝ }
+    ensures { λ r. ⌜
+        Wrote (now (payload .entry)) (now (payload .exit)) (at .0) (noteBits (now (texts .entry)) n) (r .0) ⌝ }
 {
     let one = n.one;
     let two = n.two;
@@ -73,8 +75,12 @@ fn note_at(notes: &[u32], i: usize) -> Note
 
 // The notes of the first n events, and the place past them.
 pub fn put_notes(payload: &mut [u8], at: Bits, texts: &[u8], notes: &[u32], n: usize) -> Bits
-    requires { ⌜ (Room (now payload) (at .0) (length (spells (now texts) (now notes) 0 n))) × (4 * n ≤ length (now notes)) ⌝ }
-    ensures { λ r. ⌜ Wrote (now (payload .entry)) (now (payload .exit)) (at .0) (spells (now (texts .entry)) (now (notes .entry)) 0 n) (r .0) ⌝ }
+    requires { ⌜
+        (Room (now payload) (at .0) (length (spells (now texts) (now notes) 0 n)))
+        × (4 * n ≤ length (now notes)) ⌝ }
+    ensures { λ r. ⌜
+        Wrote (now (payload .entry)) (now (payload .exit)) (at .0)
+        (spells (now (texts .entry)) (now (notes .entry)) 0 n) (r .0) ⌝ }
 {
     let mut p = at;
     let mut i: usize = 0;
