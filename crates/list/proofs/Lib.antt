@@ -1,2 +1,3 @@
 mod Decimals
+mod Example
 mod Inputs

@@ -1,4 +1,3 @@
 pub mod Ascii
 pub mod Listing
 pub mod Text
-pub mod Example

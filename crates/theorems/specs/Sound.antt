@@ -6,7 +6,6 @@ use Rattle.wire.specs.At.{At}
 use Rattle.model.specs.Model.{Nodes, Path, Answer, treeSlots, treeBytes}
 use Rattle.model.specs.Model.Answer.{given, refused}
 use Rattle.model.specs.Read.{Room}
-use Rattle.model.proofs.Readings.{more}
 
 -- the path ρ is π with more elements open inside
 pub record Extends (π ρ : Path) : Type 0 where
