@@ -3,15 +3,16 @@
 use Prim.Native.Nat.{ℕ, _+_}
 use mathlib.Core.Path.{_≡_, refl, sym, ap, _∙_}
 use mathlib.Core.List.{List, [], _∷_, _++_, reverse}
-use mathlib.Core.Bool.{Bool, true, false, cond}
+use mathlib.Core.Bool.{Bool, true, false}
 use mathlib.Core.Option.{Option, none, some}
 use native.Mathlib.Omega.{arith}
-use Rattle.model.specs.Model.{event, Mark, Nodes, Path, treeBits}
+use Rattle.model.specs.Model.{Mark, Nodes, Path, treeBits, _then_}
 use Rattle.model.specs.Model.Nodes.{leaf, node}
 use Rattle.model.specs.Items.{Mode}
 use Rattle.theorems.specs.Less.{outermost, replaced, firstBare}
 use Rattle.model.specs.Whole.{Reply, accepted, declined, reading}
 use Rattle.theorems.specs.Demand3.{Pair, saysLess, newOf, Lengths, FirstIs}
+use Rattle.theorems.proofs.Walk.{replaced-new, replaced-old}
 use Rattle.theorems.proofs.Demand3.{second-accepts, first-none, none-first, first-some}
 
 -- a first one is found
@@ -79,15 +80,14 @@ module _ (l l′ : List ℕ) (pair : Pair l l′) (name type : ℕ) (s : List �
 
 -- a Blank has the bits of what it stands for, so the sum of all bits stays
 module _ (new : ℕ → Bool) where
-  node-bits : (t : Bool) (m : Mark) (i r : Nodes) → treeBits (replaced new i) ≡ treeBits i → treeBits (replaced new r) ≡ treeBits r
-      → treeBits (cond t (leaf (m .at) (event 7 (m .name) (m .type) (m .bits + treeBits i)) [] (replaced new r)) (node m (replaced new i) (replaced new r)))
-      ≡ treeBits (node m i r)
-  unfolding treeBits
-  node-bits true m i r e f = omega arith
-  node-bits false m i r e f = omega arith
+  node-bits : (t : Bool) (m : Mark) (i r : Nodes) → new (m .type) ≡ t → treeBits (replaced new i) ≡ treeBits i → treeBits (replaced new r) ≡ treeBits r
+      → treeBits (replaced new (node m i r)) ≡ treeBits (node m i r)
+  unfolding treeBits _then_
+  node-bits true m i r e f g = rw (replaced-new new m i r e) (omega arith)
+  node-bits false m i r e f g = rw (replaced-old new m i r e) (omega arith)
 
   pub replaced-bits : (ns : Nodes) → treeBits (replaced new ns) ≡ treeBits ns
   unfolding replaced treeBits
   replaced-bits Nodes.none = refl
   replaced-bits (leaf at e ts r) = omega (arith, replaced-bits r)
-  replaced-bits (node m i r) = node-bits (new (m .type)) m i r (replaced-bits i) (replaced-bits r)
+  replaced-bits (node m i r) = node-bits (new (m .type)) m i r refl (replaced-bits i) (replaced-bits r)

@@ -105,26 +105,49 @@ unfolding enclosed
 sums-node m none ns = refl
 sums-node m (some (k, π)) ns = refl
 
+-- what becomes of an element: one that is newly held is its Blank, and one of the outermost; any other stays, and so on inside it
+module _ (new : ℕ → Bool) (m : Mark) (i r : Nodes) where
+  pub replaced-new : new (m .type) ≡ true → replaced new (node m i r) ≡ blankOf m i then replaced new r
+  unfolding replaced _then_
+  replaced-new e = rw e
+
+  pub replaced-old : new (m .type) ≡ false → replaced new (node m i r) ≡ node m (replaced new i) (replaced new r)
+  unfolding replaced
+  replaced-old e = rw e
+
+  outermost-new : (π : Path) → new (m .type) ≡ true → outermost new π (node m i r) ≡ ((m, π) ∷ []) ++ outermost new π r
+  unfolding outermost
+  outermost-new π e = rw e
+
+  outermost-old : (π : Path) → new (m .type) ≡ false → outermost new π (node m i r) ≡ outermost new (m .name ∷ π) i ++ outermost new π r
+  unfolding outermost
+  outermost-old π e = rw e
+
 pub walk-sums : (new : ℕ → Bool) (π : Path) (ns : Nodes) → walk new π ns ≡ sums (firstBare (outermost new π ns)) (replaced new ns)
 unfolding walk outermost replaced firstBare shownAs _then_
 walk-sums new π Nodes.none = refl
 walk-sums new π (leaf at e ts r) = ap (both (shown (leaf at e ts Nodes.none))) (walk-sums new π r) ∙ sym (first-append [] (outermost new π r) (leaf at e ts Nodes.none) (replaced new r))
-walk-sums new π (node m i r) = ap (both (shownAs (new (m .type)) (m .coded) m π i (walk new (m .name ∷ π) i))) (walk-sums new π r) ∙ go (new (m .type)) (walk-sums new (m .name ∷ π) i)
+walk-sums new π (node m i r) = ap (both (shownAs (new (m .type)) (m .coded) m π i (walk new (m .name ∷ π) i))) (walk-sums new π r) ∙ go (new (m .type)) refl (walk-sums new (m .name ∷ π) i)
   where
     blank : (c : Bool) → m .coded ≡ c → shownAs true c m π i (walk new (m .name ∷ π) i) ≡ sums (firstBare ((m, π) ∷ [])) (blankOf m i)
     blank true e = rw e
     blank false e = rw e
 
-    go : (t : Bool) → walk new (m .name ∷ π) i ≡ sums (firstBare (outermost new (m .name ∷ π) i)) (replaced new i) → both (shownAs t (m .coded) m π i (walk new (m .name ∷ π) i)) (sums (firstBare (outermost new π r)) (replaced new r))
-        ≡ sums (firstBare (cond t ((m, π) ∷ []) (outermost new (m .name ∷ π) i) ++ outermost new π r))
-        (cond t (leaf (m .at) (event kinds.blank (m .name) (m .type) (m .bits + treeBits i)) [] (replaced new r)) (node m (replaced new i) (replaced new r)))
-    go true h =
+    said-as : {l k : List (Mark × Path)} {a b : Nodes} → l ≡ k → a ≡ b → sums (firstBare k) b ≡ sums (firstBare l) a
+    said-as e f = λ j. sums (firstBare (sym e j)) (sym f j)
+
+    go : (t : Bool) → new (m .type) ≡ t → walk new (m .name ∷ π) i ≡ sums (firstBare (outermost new (m .name ∷ π) i)) (replaced new i)
+        → both (shownAs t (m .coded) m π i (walk new (m .name ∷ π) i)) (sums (firstBare (outermost new π r)) (replaced new r))
+        ≡ sums (firstBare (outermost new π (node m i r))) (replaced new (node m i r))
+    go true e h =
         ap (λ (w : Walk). both w (sums (firstBare (outermost new π r)) (replaced new r))) (blank (m .coded) refl)
         ∙ sym (first-append ((m, π) ∷ []) (outermost new π r) (blankOf m i) (replaced new r))
-    go false h =
+        ∙ said-as (outermost-new new m i r π e) (replaced-new new m i r e)
+    go false e h =
         ap (λ (w : Walk). both w (sums (firstBare (outermost new π r)) (replaced new r)))
         (ap (enclosed m) h ∙ sums-node m (firstBare (outermost new (m .name ∷ π) i)) (replaced new i))
         ∙ sym (first-append (outermost new (m .name ∷ π) i) (outermost new π r) (node m (replaced new i) Nodes.none) (replaced new r))
+        ∙ said-as (outermost-old new m i r π e) (replaced-old new m i r e)
 
 pub walk-said : (new : ℕ → Bool) (π : Path) (ns : Nodes) (q : ℕ) → answer (walk new π ns) q ≡ said (firstBare (outermost new π ns)) (replaced new ns) q
 unfolding answer said
