@@ -10,8 +10,19 @@ PROGRAMS = host explain holds pack
 TRIALS = refusals faults bits exact stack
 # The programs whose C code runs under the sanitizers. Not stack: it brings a stack of its own, of which they know nothing.
 SANITIZED = $(PROGRAMS) refusals faults bits exact header
-SANITIZERS = -O1 -g -fsanitize=address,undefined -fno-sanitize-recover=all
+SANITIZERS = -O1 -g -fsanitize=$(SANITIZE) -fno-sanitize-recover=all
+export SANITIZE = address,undefined
 VERSION = 1.0
+
+# The archive is for x86-64. On another processor what is linked with it is compiled for that, and run under an emulator, by tests/emulated/bin.
+ifneq ($(shell uname -m),x86_64)
+# What does not touch the archive stays the machine's own; .ci/run sees to the rest itself.
+test peer fmt: export PATH := $(PATH)
+export PATH := $(CURDIR)/tests/emulated/bin:$(PATH)
+EMULATOR = qemu-x86_64
+# Not AddressSanitizer: the emulator would have to keep account of its 16 TB of shadow, and runs out of memory.
+SANITIZE = undefined
+endif
 
 # The gate: what has to pass before anything is merged.
 test:
@@ -21,7 +32,7 @@ test:
 run:
 	@mkdir -p target
 	@rt check list >target/run.log 2>&1 || { cat target/run.log; exit 1; }
-	@target/bin/list <crates/list/stdin
+	@$(EMULATOR) target/bin/list <crates/list/stdin
 
 # The small receiver and the table curator's programs, in target/c.
 host: $(PROGRAMS:%=target/c/%)

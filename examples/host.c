@@ -3,7 +3,8 @@
  *     host [-n NAMES] TABLE ROOT_NAME ROOT_TYPE PAYLOAD..
  *
  * A names file has a number and a word on each line; without one, names are shown as numbers. An element whose type is not held is
- * shown as what it is, a hole: [not held: name, n bits]. An enumeration is shown as #index.
+ * shown as what it is, a hole: [not held: name, type, n bits]. Beside an element that is cast or substituted stands what is in effect:
+ * [type 2], or [as name, type 2]. An enumeration is shown as #index.
  * Exit status: 0 all were read, 1 some were refused, 2 a file or the table is no good, 3 a list does not fit its table (never seen). */
 #include <stdio.h>
 #include <stdlib.h>
@@ -16,19 +17,25 @@ static uint8_t events[BIM_MOST_EVENTS * BIM_EVENT], texts[BIM_MOST_PAYLOAD], are
 static uint32_t at;        /* the event that is next */
 static const uint8_t *text; /* the text that is next */
 
-/* The event that is next has to be of this kind: the list is the reader's, for this very table. */
-static uint32_t take(uint32_t kind)
+static int next_is(uint32_t kind)
 {
-    if (at >= bim_area_events(area) || bim_event_kind(events, at) != kind) {
-        fprintf(stderr, "host: event %lu is not what the table says\n", (unsigned long)at);
-        exit(3);
-    }
-    return bim_event_p(events, at++);
+    return at < bim_area_events(area) && bim_event_kind(events, at) == kind;
 }
 
-static void indent(unsigned depth)
+/* The list is the reader's, for this very table, so that the event that is next is what the table lets come. */
+static void demand(int good)
 {
-    printf("%*s", (int)(2 * depth), "");
+    if (good)
+        return;
+    fprintf(stderr, "host: event %lu is not what the table says\n", (unsigned long)at);
+    exit(3);
+}
+
+/* The event that is next has to be of this kind; answers its p. */
+static uint32_t take(uint32_t kind)
+{
+    demand(next_is(kind));
+    return bim_event_p(events, at++);
 }
 
 /* A text as a terminal may have it: quotes and control characters (those of two bytes too) are escaped. */
@@ -79,20 +86,44 @@ static void show_value(uint32_t type)
     }
 }
 
+/* The name of an element that begins, or all that is known of one stepped over; answers whether it begins. */
+static int show_start(unsigned depth)
+{
+    printf("%*s", (int)(2 * depth), "");
+    if (next_is(BIM_KIND_BLANK)) {
+        printf("[not held: %s, type %lu, %lu bits]\n", name_of(bim_event_p(events, at)), (unsigned long)bim_event_q(events, at),
+               (unsigned long)bim_event_bits(events, at));
+        at++;
+        return 0;
+    }
+    printf("%s", name_of(take(BIM_KIND_START)));
+    return 1;
+}
+
+/* What is in effect in place of a row's element and its type, where there is a Cast to say so; answers the effective type. */
+static uint32_t show_cast(uint32_t row)
+{
+    const uint32_t own = bim_particle_row(table, row).q;
+    uint32_t type, substitute;
+    if (!bim_row_has_codes(table, row, bim_area_mode(area)))
+        return own;
+    type = take(BIM_KIND_CAST);
+    substitute = bim_event_q(events, at - 1);
+    demand(type < bim_types(table) && substitute <= bim_row_substitutes(table, row).count);
+    if (substitute > 0)
+        printf(" [as %s, type %lu]", name_of(bim_name_in_effect(table, row, substitute)), (unsigned long)type);
+    else if (type != own)
+        printf(" [type %lu]", (unsigned long)type);
+    return type;
+}
+
 static void show_particle(uint32_t row, unsigned depth);
 
-/* An element of this type, from its Start or Blank on: name, attributes and a simple value on one line, other elements below it. */
-static void show_element(uint32_t type, unsigned depth)
+/* The rest of an element, whose name is shown: attributes and a simple value on the same line, other elements below it. */
+static void show_inside(uint32_t type, unsigned depth)
 {
     const struct bim_type row = bim_type_row(table, type);
     uint32_t i;
-    indent(depth);
-    if (at < bim_area_events(area) && bim_event_kind(events, at) == BIM_KIND_BLANK) {
-        printf("[not held: %s, %lu bits]\n", name_of(bim_event_p(events, at)), (unsigned long)bim_event_bits(events, at));
-        at++;
-        return;
-    }
-    printf("%s", name_of(take(BIM_KIND_START)));
     for (i = row.first_attribute; i < row.first_attribute + row.attributes; i++) {
         const uint32_t present = bim_event_q(events, at);
         printf(" %s=", name_of(take(BIM_KIND_ATTRIBUTE)));
@@ -116,7 +147,10 @@ static void show_particle(uint32_t row, unsigned depth)
     const struct bim_particle it = bim_particle_row(table, row);
     uint32_t i, times;
     switch (it.kind) {
-    case BIM_ELEMENT: show_element(it.q, depth); break;
+    case BIM_ELEMENT:
+        if (show_start(depth))
+            show_inside(show_cast(row), depth);
+        break;
     case BIM_SEQUENCE:
         for (i = 0; i < it.q; i++)
             show_particle(it.p + i, depth);
@@ -152,7 +186,9 @@ static int show(uint32_t root_name, uint32_t root_type, size_t table_bytes, size
            (unsigned long)bim_area_text(area), (unsigned long)bim_area_bits(area));
     at = 0;
     text = texts;
-    show_element(root_type, 1);
+    /* The root has no row, and so nothing that it could be cast to or substituted by. */
+    if (show_start(1))
+        show_inside(root_type, 1);
     return 1;
 }
 

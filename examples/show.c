@@ -18,5 +18,7 @@ int main(int argc, char **argv) {
     for (uint32_t i = 0; i < bim_area_events(area); i++)
         if (bim_event_kind(events, i) == BIM_KIND_BLANK)
             printf("element %u was stepped over: type %u is not held\n", (unsigned)bim_event_p(events, i), (unsigned)bim_event_q(events, i));
+        else if (bim_event_kind(events, i) == BIM_KIND_CAST)                        /* of the element that the event before begins */
+            printf("element %u has type %u here\n", (unsigned)bim_event_p(events, i - 1), (unsigned)bim_event_p(events, i));
     return 0;
 }

@@ -11,7 +11,7 @@
  * THE ANSWER is the number that is returned, 0 or a refusal, and the area, which has exactly BIM_AREA bytes:
  *
  *     bytes    0..3      place    where the refusal is; 0 on acceptance. A place over 2^32 - 1 is given as 2^32 - 1
- *              4..7      mode     of length coding: 0 none, 1 optional, 2 always
+ *              4..7      mode     of length coding: 0 none, 1 optional, 2 always; 4, 5 or 6 where types may be cast besides
  *              8..11     events   how many
  *             12..15     text     bytes of all texts
  *             16..19     bits     used, the mode byte included, padding not
@@ -43,26 +43,33 @@ extern "C" {
 #define BIM_EVENT 16
 #define BIM_MOST_EVENTS 2048
 #define BIM_MOST_PAYLOAD 8192
-#define BIM_MOST_TABLE 35856
+#define BIM_MOST_TABLE 58392
 #define BIM_MOST_OPEN 64
 #define BIM_MOST_NAMES 64
 #define BIM_MOST_WORD 4294967295
 
 /* The stack, in bytes, that a call never needs more than. It has no arrays but of fixed length, and calls itself once for each row open, of
  * which there are at most 64. `make stack` measures it, and bounds it by the frames of the machine code (x86-64). */
-#define BIM_STACK 196608
+#define BIM_STACK 262144
 
-/* Length coding: the mode, and the byte that a payload of that mode begins with. */
+/* Length coding: the mode, and the byte that a payload of that mode begins with. BIM_CASTING is added to a mode where elements have type
+ * codes, and BIM_CASTING_BYTE to its byte: 1F, 5F, 9F are the modes 4, 5, 6. A table without derivations has none of these. */
 enum {
     BIM_MODE_NEVER = 0,    /* no element has a length */
     BIM_MODE_OPTIONAL = 1, /* a flag says whether an element has one */
     BIM_MODE_ALWAYS = 2,   /* every element has one */
+    BIM_CASTING = 4,       /* an element whose default type has derived types has a type code */
     BIM_MODE_NEVER_BYTE = 0x0F,
     BIM_MODE_OPTIONAL_BYTE = 0x4F,
-    BIM_MODE_ALWAYS_BYTE = 0x8F
+    BIM_MODE_ALWAYS_BYTE = 0x8F,
+    BIM_CASTING_BYTE = 0x10
 };
 
-/* The kinds of an event, and what its words p and q then are (else 0). Its fourth word is the bits that it took. */
+/* The kinds of an event, and what its words p and q then are (else 0). Its fourth word is the bits that it took.
+ *
+ * An element's name, in Start, Blank and path, is that of its row in the table, also where a substitute stands for it. A Cast follows the
+ * Start of an element that has codes, whether they name anything or not: one whose row has substitutes, in every mode, and in the modes 4
+ * to 6 one whose row's type has derived types. The root has none. */
 enum {
     BIM_KIND_START = 1,     /* an element begins: p its name, q 1 where a length is coded; bits of flag and length */
     BIM_KIND_ATTRIBUTE = 2, /* p its name, q 1 present (its Value follows) or 0 absent (none does); bits of its flag */
@@ -70,7 +77,8 @@ enum {
     BIM_KIND_PICK = 4,      /* p the branch of a choice, from 0 */
     BIM_KIND_TIMES = 5,     /* p how often the row occurs that comes next */
     BIM_KIND_END = 6,       /* the element that was begun last ends */
-    BIM_KIND_BLANK = 7      /* an element stepped over, as its type is not held: p its name, q its type; all bits of it */
+    BIM_KIND_BLANK = 7,     /* an element stepped over, as its type is not held: p its name, q its effective type; all bits of it */
+    BIM_KIND_CAST = 8       /* p the effective type of the element just begun, q its substitute from 1, or 0; bits of both codes */
 };
 
 /* The numbers given back, and what the place then is. An item is the bits of one event: in the reader its place is its first bit in
@@ -80,12 +88,12 @@ enum {
     BIM_TABLE = 1,          /* table malformed: the first word at fault; a wrong length is named at the number of words given */
     BIM_ROOT = 2,           /* root type not in the table, or root name over 65,535: 0 */
     BIM_PAYLOAD_SIZE = 3,   /* payload empty or over 8,192 bytes: 0 */
-    BIM_MODE_BYTE = 4,      /* mode byte other than 0F, 4F, 8F: 0 */
+    BIM_MODE_BYTE = 4,      /* mode byte other than 0F, 4F, 8F and, with derivations in the table, 1F, 5F, 9F: 0 */
     BIM_PAST_END = 5,       /* item passes the innermost declared end, or the payload's: item */
     BIM_DEPTH = 6,          /* more than 64 elements and particle rows open: item */
     BIM_EVENT_ROOM = 7,     /* no room for the event: item */
     BIM_TEXT_ROOM = 8,      /* no room for the text: item */
-    BIM_NOT_HELD = 9,       /* type not held and no length; in the writer, any Start of a type not held: item */
+    BIM_NOT_HELD = 9,       /* effective type not held and no length; in the writer, not held: item, of the Start */
     BIM_LENGTH = 10,        /* TheLength passes the enclosing end: item */
     BIM_CONTENT_SHORT = 11, /* content ends before its declared end: the first bit after TheLength */
     BIM_NOT_SHORTEST = 12,  /* number not in shortest form: item */
@@ -96,9 +104,9 @@ enum {
     BIM_LEFT_OVER = 17,     /* 8 or more bits left, or a 1 among them: the first left bit */
     BIM_NO_READING = 18,    /* list is no reading of the content model, or no whole list of at most 2,048 events: event */
     BIM_BLANK = 19,         /* Blank in a list to be written: event */
-    BIM_OUTSIDE_ROW = 20,   /* value, branch or count outside its row: event */
+    BIM_OUTSIDE_ROW = 20,   /* value, branch or count outside its row, or a Cast's type or substitute: event */
     BIM_PAYLOAD_ROOM = 21,  /* payload over 8,192 bytes or the lent room: 0 */
-    BIM_WRITE_MODE = 22,    /* write mode over 2: 0 */
+    BIM_WRITE_MODE = 22,    /* write mode other than 0, 1, 2 and, with derivations in the table, 4, 5, 6: 0 */
     BIM_TEXT_BYTES = 23,    /* text bytes short, or left over: event, or the event count */
     BIM_AREA_SIZE = 24      /* the area has not BIM_AREA bytes: 0 */
 };
@@ -137,7 +145,7 @@ static inline const char *bim_refusal_name(uint32_t number)
     case BIM_TABLE: return "table malformed";
     case BIM_ROOT: return "root type not in the table, or root name over 65535";
     case BIM_PAYLOAD_SIZE: return "payload empty or over 8192 bytes";
-    case BIM_MODE_BYTE: return "mode byte other than 0F, 4F, 8F";
+    case BIM_MODE_BYTE: return "mode byte other than 0F, 4F, 8F and, with derivations in the table, 1F, 5F, 9F";
     case BIM_PAST_END: return "item passes the innermost declared end, or the payload's";
     case BIM_DEPTH: return "more than 64 elements and particle rows open";
     case BIM_EVENT_ROOM: return "no room for the event";
@@ -155,7 +163,7 @@ static inline const char *bim_refusal_name(uint32_t number)
     case BIM_BLANK: return "Blank in a list to be written";
     case BIM_OUTSIDE_ROW: return "value, branch or count outside its row";
     case BIM_PAYLOAD_ROOM: return "payload over 8192 bytes or the lent room";
-    case BIM_WRITE_MODE: return "write mode over 2";
+    case BIM_WRITE_MODE: return "write mode other than 0, 1, 2 and, with derivations in the table, 4, 5, 6";
     case BIM_TEXT_BYTES: return "text bytes short, or left over";
     case BIM_AREA_SIZE: return "answer area not 152 bytes";
     default: return "no number of this library";
@@ -180,7 +188,8 @@ uint32_t bim_check_table(const uint8_t *table, size_t table_bytes,
  *     texts      written: room for texts_bytes bytes. On acceptance the bytes of the texts one after another; what is left is 0
  *     area       written
  *
- * Refusals come in this order: 24, 1, 2, 3, 4, then 5 to 16 item by item, then 17. */
+ * Refusals come in this order: 24, 1, 2, 3, 4, then 5 to 16 item by item, then 17. An element's codes are judged (5, 14) before its type
+ * and the room for its Start are (9, 7), without the element in the path. */
 uint32_t bim_read(const uint8_t *table, size_t table_bytes,
                   uint32_t root_name, uint32_t root_type,
                   const uint8_t *payload, size_t payload_bytes,
@@ -191,14 +200,15 @@ uint32_t bim_read(const uint8_t *table, size_t table_bytes,
 /* Writes a list of events, as bim_read gives them, as a payload.
  *
  *     table, root_name, root_type    as for bim_read
- *     mode       of length coding: 0 none, 1 where an event Start says so, 2 always
+ *     mode       of length coding: 0 none, 1 where an event Start says so, 2 always; and BIM_CASTING more for type codes
  *     events     the list, of 16 bytes each, at most 2,048; the fourth word of an event is ignored
  *     texts      the bytes of the texts one after another, all of which the list uses
  *     payload    written: on acceptance its first (bits + 7) / 8 bytes are the payload; what is left is 0
  *     area       written: on acceptance mode, events and text are those given, bits those of the payload before its padding
  *
  * Refusals come in this order: 24, 1, 2, 22, 18 at events_bytes / 16 for bytes that are no whole list of at most 2,048 events, then 6, 9,
- * 16, 18, 19, 20 and 23 event by event, 18 or 19 for events and 23 for text bytes that are left over, then 21. */
+ * 16, 18, 19, 20 and 23 event by event, 18 or 19 for events and 23 for text bytes that are left over, then 21. 9 is judged after the
+ * Start's Cast, by whose type it goes. */
 uint32_t bim_write(const uint8_t *table, size_t table_bytes,
                    uint32_t root_name, uint32_t root_type,
                    uint32_t mode,

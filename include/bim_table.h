@@ -1,8 +1,11 @@
 /* The rows of a schema table, for whoever walks events beside it or curates tables. Document 01 lays the words out; docs/TABLE.md
  * explains them on the worked example.
  *
- * A table is words of 4 bytes, the most significant byte first: 1, T, A, P; then T type rows of 7 words, A attribute rows of 3, P particle
- * rows of 4. ASK bim_check_table FIRST: these functions look at a table that it accepted, and at rows below T, A and P.
+ * A table is words of 4 bytes, the most significant byte first: its form, 1 or 2, then T, A, P; then T type rows of 7 words, A attribute
+ * rows of 3, P particle rows of 4. In form 2 there follow D, S; then D derived entries of 1 word, S substitutes of 2; then a pair of words
+ * for each type, which entries are its derived types, and a pair for each particle row, which substitutes are its own. In form 1 there is
+ * none of this: D, S and all pairs count as 0. ASK bim_check_table FIRST: these functions look at a table that it accepted, and at rows
+ * below T, A and P, entries below D and substitutes below S.
  */
 #ifndef BIM_TABLE_H
 #define BIM_TABLE_H
@@ -37,12 +40,14 @@ enum {
 /* The most of an occurs row that has no end. */
 #define BIM_UNBOUNDED 65536
 
-/* The most types, attribute rows and particle rows of a table, child rows of a sequence or a choice, values of an enumeration and bytes
- * of a text; the greatest name, and the greatest count of an occurs row. A range whose ends lie at most BIM_MOST_FIXED apart has a fixed
- * width, any other a vluimsbf5. */
+/* The most types, attribute rows, particle rows, derived entries and substitutes of a table, child rows of a sequence or a choice, values
+ * of an enumeration and bytes of a text; the greatest name, and the greatest count of an occurs row. A range whose ends lie at most
+ * BIM_MOST_FIXED apart has a fixed width, any other a vluimsbf5. */
 #define BIM_MOST_TYPES 256
 #define BIM_MOST_ATTRIBUTES 1024
 #define BIM_MOST_PARTICLES 1024
+#define BIM_MOST_DERIVATIONS 1024
+#define BIM_MOST_SUBSTITUTES 1024
 #define BIM_MOST_CHILDREN 64
 #define BIM_MOST_VALUES 65536
 #define BIM_MOST_NAME 65535
@@ -60,11 +65,20 @@ struct bim_attribute {
 struct bim_particle {
     uint32_t kind, p, q, r;
 };
+/* An element that may stand for another. */
+struct bim_substitute {
+    uint32_t name, type;
+};
+/* So many from the first on, of the derived entries or of the substitutes. A payload's code k names the k-th of them, from 0. */
+struct bim_span {
+    uint32_t first, count;
+};
 
 /* Word i. */
 static inline uint32_t bim_table_word(const uint8_t *table, size_t i) { return bim_word(table + 4 * i); }
 
-/* T, A and P. */
+/* The form, 1 or 2; T, A and P. */
+static inline uint32_t bim_form(const uint8_t *table) { return bim_table_word(table, 0); }
 static inline uint32_t bim_types(const uint8_t *table) { return bim_table_word(table, 1); }
 static inline uint32_t bim_attributes(const uint8_t *table) { return bim_table_word(table, 2); }
 static inline uint32_t bim_particles(const uint8_t *table) { return bim_table_word(table, 3); }
@@ -110,6 +124,84 @@ static inline struct bim_particle bim_particle_row(const uint8_t *table, uint32_
     particle.q = bim_table_word(table, at + 2);
     particle.r = bim_table_word(table, at + 3);
     return particle;
+}
+
+/* The first word past the rows: a table of form 1 ends there. */
+static inline uint32_t bim_rows_end(const uint8_t *table) { return bim_particle_at(table, bim_particles(table)); }
+/* Word i past the rows, i from their end on; in form 1 it is not there and counts as 0. */
+static inline uint32_t bim_word_past_rows(const uint8_t *table, uint32_t i) { return bim_form(table) == 2 ? bim_table_word(table, i) : 0; }
+
+/* D and S. */
+static inline uint32_t bim_derivations(const uint8_t *table) { return bim_word_past_rows(table, bim_rows_end(table)); }
+static inline uint32_t bim_substitutes(const uint8_t *table) { return bim_word_past_rows(table, bim_rows_end(table) + 1); }
+
+/* In form 2, the word of a derived entry; the first word of a substitute, of a type's pair, of a particle row's pair. */
+static inline uint32_t bim_derived_at(const uint8_t *table, uint32_t i) { return bim_rows_end(table) + 2 + i; }
+static inline uint32_t bim_substitute_at(const uint8_t *table, uint32_t i)
+{
+    return bim_derived_at(table, bim_derivations(table)) + 2 * i;
+}
+static inline uint32_t bim_type_derived_at(const uint8_t *table, uint32_t type)
+{
+    return bim_substitute_at(table, bim_substitutes(table)) + 2 * type;
+}
+static inline uint32_t bim_row_substitutes_at(const uint8_t *table, uint32_t row)
+{
+    return bim_type_derived_at(table, bim_types(table)) + 2 * row;
+}
+
+/* The type that derived entry i is. */
+static inline uint32_t bim_derived(const uint8_t *table, uint32_t i) { return bim_word_past_rows(table, bim_derived_at(table, i)); }
+
+/* Substitute i. In C++ it hides the struct's constructor, which nobody needs and -Wshadow minds. */
+#if defined(__cplusplus) && defined(__GNUC__)
+#pragma GCC diagnostic push
+#pragma GCC diagnostic ignored "-Wshadow"
+#endif
+static inline struct bim_substitute bim_substitute(const uint8_t *table, uint32_t i)
+{
+    const uint32_t at = bim_substitute_at(table, i);
+    struct bim_substitute substitute;
+    substitute.name = bim_word_past_rows(table, at);
+    substitute.type = bim_word_past_rows(table, at + 1);
+    return substitute;
+}
+#if defined(__cplusplus) && defined(__GNUC__)
+#pragma GCC diagnostic pop
+#endif
+
+/* The pair at this word. */
+static inline struct bim_span bim_span_at(const uint8_t *table, uint32_t at)
+{
+    struct bim_span span;
+    span.first = bim_word_past_rows(table, at);
+    span.count = bim_word_past_rows(table, at + 1);
+    return span;
+}
+/* The entries of the types that an element of this type may be cast to. */
+static inline struct bim_span bim_type_derived(const uint8_t *table, uint32_t type)
+{
+    return bim_span_at(table, bim_type_derived_at(table, type));
+}
+/* The substitutes that may stand for the element of this particle row. */
+static inline struct bim_span bim_row_substitutes(const uint8_t *table, uint32_t row)
+{
+    return bim_span_at(table, bim_row_substitutes_at(table, row));
+}
+
+/* Whether the element of this particle row has codes in a mode, so that a Cast follows its Start. */
+static inline int bim_row_has_codes(const uint8_t *table, uint32_t row, uint32_t mode)
+{
+    return bim_row_substitutes(table, row).count > 0 ||
+           (mode >= BIM_CASTING && bim_type_derived(table, bim_particle_row(table, row).q).count > 0);
+}
+
+/* The name of the element of a particle row where this substitute stands for it, as a Cast has it: from 1, at most as many as the row has;
+ * 0 is none, and the row's own name. */
+static inline uint32_t bim_name_in_effect(const uint8_t *table, uint32_t row, uint32_t substitute)
+{
+    return substitute == 0 ? bim_particle_row(table, row).p
+                           : bim_substitute(table, bim_row_substitutes(table, row).first + substitute - 1).name;
 }
 
 /* The number that a word is in two's complement. */

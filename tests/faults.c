@@ -1,4 +1,5 @@
-/* Makes a right table wrong in every word, and in its length, and prints explain's sentence for each: faults TABLE.
+/* Makes a right table wrong in every word, in its length and, in form 2, in how many entries there are, and prints explain's sentence for
+ * each: faults TABLE.
  * Where the library finds a fault for which explain has no reason, it says so; exit status 1. */
 #include "faults.h"
 #include "files.h"
@@ -59,6 +60,28 @@ static void try_length(size_t bytes)
         printf("%lu bytes: right\n", (unsigned long)bytes);
 }
 
+/* The table with so many words 0 put in before this word, and this count of them at another; answers its bytes. */
+static size_t grown(size_t bytes, uint32_t before, uint32_t more, uint32_t at, uint32_t count)
+{
+    memmove(table + 4 * (before + more), table + 4 * before, bytes - 4 * before);
+    memset(table + 4 * before, 0, 4 * more);
+    put(at, count);
+    return bytes + 4 * more;
+}
+
+/* One derived entry or substitute more than there may be, in a length that is right for it. */
+static void try_counts(size_t bytes)
+{
+    static uint8_t right[sizeof table];
+    const uint32_t most = BIM_MOST_DERIVATIONS + 1, derivations = bim_derivations(table), substitutes = bim_substitutes(table);
+    const uint32_t at = bim_rows_end(table);
+    memcpy(right, table, sizeof table);
+    try_length(grown(bytes, bim_substitute_at(table, 0), most - derivations, at, most));
+    memcpy(table, right, sizeof table);
+    try_length(grown(bytes, bim_type_derived_at(table, 0), 2 * (most - substitutes), at + 1, most));
+    memcpy(table, right, sizeof table);
+}
+
 int main(int argc, char **argv)
 {
     size_t bytes;
@@ -75,5 +98,7 @@ int main(int argc, char **argv)
     try_length(bytes + 1);
     try_length(bytes + 4);
     try_length(BIM_MOST_TABLE + 4);
+    if (bim_form(table) == 2)
+        try_counts(bytes);
     return unexplained;
 }

@@ -2,6 +2,7 @@
 #include "bim.h"
 #include "bim_table.h"
 #include <stdio.h>
+#include <stdlib.h>
 #include <string.h>
 
 static int failed;
@@ -77,6 +78,70 @@ static void try_rows(void)
     same("signed 2^32 - 1", bim_signed(0xffffffffu), -1);
 }
 
+/* 1 type, no attribute rows, 2 particle rows, 19 words; then in form 2, from word 19 on, D 2 and S 3, and each later word its own index,
+ * but for row 1's substitutes, which are the two from 1 on. */
+static void try_past_rows(void)
+{
+    uint8_t table[4 * 35];
+    uint32_t i;
+    memset(table, 0, sizeof table);
+    for (i = 16; i < 35; i++)
+        table[4 * i + 3] = (uint8_t)i;
+    table[3] = 2;
+    table[7] = 1;
+    table[15] = 2;
+    table[4 * 19 + 3] = 2;
+    table[4 * 20 + 3] = 3;
+    table[4 * 33 + 3] = 1;
+    table[4 * 34 + 3] = 2;
+    same("form", bim_form(table), 2);
+    same("rows' end", bim_rows_end(table), 19);
+    same("derivations", bim_derivations(table), 2);
+    same("substitutes", bim_substitutes(table), 3);
+    same("derived entry", bim_derived(table, 1), 22);
+    same("substitute's name", bim_substitute(table, 2).name, 27);
+    same("substitute's type", bim_substitute(table, 2).type, 28);
+    same("type's first entry", bim_type_derived(table, 0).first, 29);
+    same("type's entries", bim_type_derived(table, 0).count, 30);
+    same("row's first substitute", bim_row_substitutes(table, 0).first, 31);
+    same("row's substitutes", bim_row_substitutes(table, 0).count, 32);
+    same("words", bim_row_substitutes_at(table, 2), 35);
+    same("codes by substitutes", bim_row_has_codes(table, 1, BIM_MODE_ALWAYS), 1);
+    table[4 * 34 + 3] = 0;
+    table[4 * 17 + 3] = 0;
+    same("no codes without casting", bim_row_has_codes(table, 1, BIM_MODE_ALWAYS), 0);
+    same("codes by derived types", bim_row_has_codes(table, 1, BIM_CASTING + BIM_MODE_NEVER), 1);
+    table[4 * 30 + 3] = 0;
+    same("no codes", bim_row_has_codes(table, 1, BIM_CASTING + BIM_MODE_ALWAYS), 0);
+    same("name of no substitute", bim_name_in_effect(table, 1, 0), 16);
+    same("name of substitute 1", bim_name_in_effect(table, 1, 1), 25);
+    same("name of substitute 2", bim_name_in_effect(table, 1, 2), 27);
+}
+
+/* The same rows in form 1, in a buffer that ends with them: what would stand past them is 0 and is not looked at (make sanitized). */
+static void try_no_past_rows(void)
+{
+    uint8_t *table = (uint8_t *)calloc(19, 4);
+    if (table == NULL)
+        abort();
+    table[3] = 1;
+    table[7] = 1;
+    table[15] = 2;
+    same("form", bim_form(table), 1);
+    same("no derivations", bim_derivations(table), 0);
+    same("no substitutes", bim_substitutes(table), 0);
+    same("type's first entry of none", bim_type_derived(table, 0).first, 0);
+    same("type's entries, none", bim_type_derived(table, 0).count, 0);
+    same("row's first substitute of none", bim_row_substitutes(table, 1).first, 0);
+    same("row's substitutes, none", bim_row_substitutes(table, 1).count, 0);
+    same("no codes in form 1", bim_row_has_codes(table, 1, BIM_CASTING + BIM_MODE_ALWAYS), 0);
+    same("no derived entry", bim_derived(table, 0), 0);
+    same("no substitute's name", bim_substitute(table, 0).name, 0);
+    same("no substitute's type", bim_substitute(table, 0).type, 0);
+    same("the row's name", bim_name_in_effect(table, 1, 0), 0);
+    free(table);
+}
+
 static void try_names(void)
 {
     uint32_t one, other;
@@ -125,6 +190,8 @@ int main(void)
     try_area();
     try_events();
     try_rows();
+    try_past_rows();
+    try_no_past_rows();
     try_names();
     try_calls();
     try_bits();

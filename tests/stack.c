@@ -1,6 +1,7 @@
 /* The stack that each call needs: stack VECTORS.. Each call runs on a stack of its own, painted before, between two pages that cannot be
  * touched; the deepest byte that lost its paint tells. Asked are the vectors, and chains of rows as deep as may be opened and deeper: every
- * pattern of up to four kinds of row over and over, with attributes and a text inside the last element, written in every mode, read back.
+ * pattern of up to four kinds of row over and over, with attributes and a text inside the last element, written in every mode, read back. In
+ * the modes with type codes every element but the root is substituted, and could be cast.
  * Prints the most bytes for each call, and where; exit status 1 where that is over BIM_STACK (include/bim.h). */
 #define _XOPEN_SOURCE 700
 #define _DEFAULT_SOURCE
@@ -79,11 +80,29 @@ static uint32_t kind_at(uint32_t pattern, uint32_t length, uint32_t i)
     return pattern >> 2 * (i % length) & 3;
 }
 
+/* The words past the rows: every type but the first may be cast to that, and every element's one substitute is of its own type. */
+static void chain_codes(uint32_t pattern, uint32_t length, uint32_t rows)
+{
+    const uint32_t counts[] = {1, rows + 2, 0}, none[] = {0, 0}, derived[] = {0, 1};
+    uint32_t i;
+    add_row(&asked.table, counts, 3);
+    for (i = 0; i < rows + 2; i++) {
+        const uint32_t substitute[] = {9, i < rows ? i + 2 : 1};
+        add_row(&asked.table, substitute, 2);
+    }
+    for (i = 0; i < rows + 3; i++)
+        add_row(&asked.table, i == 0 ? none : derived, 2);
+    for (i = 0; i < rows + 2; i++) {
+        const uint32_t own[] = {i, 1};
+        add_row(&asked.table, i < rows && kind_at(pattern, length, i) != BIM_ELEMENT ? none : own, 2);
+    }
+}
+
 /* A table of so many rows, each inside the one before. Type 0 is a text, type 1 the last element's with an attribute and a text, type 2 + i
  * that of element row i with an attribute and row i + 1; the root's type has row 0. */
-static void chain_table(uint32_t pattern, uint32_t length, uint32_t rows)
+static void chain_table(uint32_t pattern, uint32_t length, uint32_t rows, uint32_t codes)
 {
-    const uint32_t header[] = {1, rows + 3, 1, rows + 2}, text[] = {1, BIM_SIMPLE, 0, 0, BIM_TEXT, 0, 0};
+    const uint32_t header[] = {codes ? 2 : 1, rows + 3, 1, rows + 2}, text[] = {1, BIM_SIMPLE, 0, 0, BIM_TEXT, 0, 0};
     const uint32_t leaf[] = {1, BIM_SIMPLE, 0, 1, BIM_TEXT, 0, 0}, attribute[] = {7, 0, 0};
     uint32_t i;
     asked.table.length = 0;
@@ -105,6 +124,8 @@ static void chain_table(uint32_t pattern, uint32_t length, uint32_t rows)
         const uint32_t last[] = {BIM_ELEMENT, 5, 1, 0};
         add_row(&asked.table, last, 4);
     }
+    if (codes)
+        chain_codes(pattern, length, rows);
     asked.root_name = 1;
     asked.root_type = rows + 2;
 }
@@ -115,10 +136,13 @@ static void add_event(uint32_t kind, uint32_t p, uint32_t q)
     add_row(&asked.events, event, 4);
 }
 
-/* A Start with its attribute, a text of two bytes. */
-static void add_start(uint32_t name, uint32_t coded)
+/* A Start, the Cast of an element of this type where it has codes, and its attribute, a text of two bytes. */
+static void add_start(uint32_t name, uint32_t type)
 {
-    add_event(BIM_KIND_START, name, coded);
+    const uint32_t lengths = asked.mode % BIM_CASTING;
+    add_event(BIM_KIND_START, name, lengths > 0);
+    if (asked.mode != lengths && name != asked.root_name)
+        add_event(BIM_KIND_CAST, type, 1);
     add_event(BIM_KIND_ATTRIBUTE, 7, 1);
     add_event(BIM_KIND_VALUE, 2, 0);
     asked.texts.length += 2;
@@ -130,18 +154,18 @@ static void chain_list(uint32_t pattern, uint32_t length, uint32_t rows, uint32_
     uint32_t i, open = 2;
     asked.events.length = asked.texts.length = 0;
     asked.mode = mode;
-    add_start(1, mode > 0);
+    add_start(asked.root_name, asked.root_type);
     for (i = 0; i < rows; i++) {
         const uint32_t kind = kind_at(pattern, length, i);
         if (kind == BIM_ELEMENT) {
-            add_start(3, mode > 0);
+            add_start(3, i + 2);
             open++;
         } else if (kind == BIM_CHOICE)
             add_event(BIM_KIND_PICK, 0, 0);
         else if (kind == BIM_OCCURS)
             add_event(BIM_KIND_TIMES, 1, 0);
     }
-    add_start(5, mode > 0);
+    add_start(5, 1);
     add_event(BIM_KIND_VALUE, 2, 0);
     asked.texts.length += 2;
     for (i = 0; i < open; i++)
@@ -150,21 +174,21 @@ static void chain_list(uint32_t pattern, uint32_t length, uint32_t rows, uint32_
         memcpy(asked.texts.at + i, "\xc3\xa9", 2);
 }
 
-/* Both calls on a chain; answers whether it was accepted. */
-static int measure_chain(uint32_t pattern, uint32_t length, uint32_t rows)
+/* Both calls on a chain, in the modes with type codes or in those without; answers whether it was accepted. */
+static int measure_chain(uint32_t pattern, uint32_t length, uint32_t rows, uint32_t codes)
 {
     static const char letters[] = "ESCO";
     int accepted = 1;
     uint32_t i, mode;
-    chain_table(pattern, length, rows);
-    snprintf(asked.name, sizeof asked.name, "the table of %lu rows", (unsigned long)rows);
+    chain_table(pattern, length, rows, codes);
+    snprintf(asked.name, sizeof asked.name, "the table of %lu rows, form %d", (unsigned long)rows, codes ? 2 : 1);
     asked.asked = CHECK;
     measure();
-    for (mode = 0; mode < 3; mode++) {
+    for (mode = codes; mode < codes + 3; mode++) {
         int at = snprintf(asked.name, sizeof asked.name, "%lu rows, ", (unsigned long)rows);
         for (i = 0; i < length; i++)
             at += snprintf(asked.name + at, 2, "%c", letters[kind_at(pattern, length, i)]);
-        snprintf(asked.name + at, 32, " over and over, mode %lu", (unsigned long)mode);
+        snprintf(asked.name + at, 48, " over and over, mode %lu", (unsigned long)mode);
         chain_list(pattern, length, rows, mode);
         asked.asked = WRITE;
         measure();
@@ -185,14 +209,15 @@ static int measure_chain(uint32_t pattern, uint32_t length, uint32_t rows)
 
 static void measure_chains(void)
 {
-    uint32_t length, pattern, rows;
-    for (length = 1; length <= MOST_PATTERN; length++)
-        for (pattern = 0; pattern < (uint32_t)1 << 2 * length; pattern++)
-            for (rows = LONGEST; rows <= LONGEST + 2; rows++)
-                if (measure_chain(pattern, length, rows) != (rows == LONGEST)) {
-                    fprintf(stderr, "%s: the limit is elsewhere\n", asked.name);
-                    exit(2);
-                }
+    uint32_t codes, length, pattern, rows;
+    for (codes = 0; codes <= BIM_CASTING; codes += BIM_CASTING)
+        for (length = 1; length <= MOST_PATTERN; length++)
+            for (pattern = 0; pattern < (uint32_t)1 << 2 * length; pattern++)
+                for (rows = LONGEST; rows <= LONGEST + 2; rows++)
+                    if (measure_chain(pattern, length, rows, codes) != (rows == LONGEST)) {
+                        fprintf(stderr, "%s: the limit is elsewhere\n", asked.name);
+                        exit(2);
+                    }
 }
 
 int main(int argc, char **argv)

@@ -17,9 +17,9 @@ static void print_name(uint32_t name)
 }
 
 /* ", 1 type", ", 2 types". */
-static void print_count(const char *what, uint32_t count)
+static void print_count(const char *one, const char *more, uint32_t count)
 {
-    printf(", %lu %s%s", (unsigned long)count, what, count == 1 ? "" : "s");
+    printf(", %lu %s", (unsigned long)count, count == 1 ? one : more);
 }
 
 /* "row 3", "rows 1 to 2". */
@@ -92,6 +92,53 @@ static void print_particle(uint32_t row)
     putchar('\n');
 }
 
+static void print_derived_entry(uint32_t i)
+{
+    printf("word %-4lu derived entry %lu: type %lu, ", (unsigned long)bim_derived_at(table, i), (unsigned long)i,
+           (unsigned long)bim_derived(table, i));
+    print_content(bim_type_row(table, bim_derived(table, i)));
+    putchar('\n');
+}
+
+static void print_substitute(uint32_t i)
+{
+    const struct bim_substitute it = bim_substitute(table, i);
+    printf("word %-4lu substitute %lu: element ", (unsigned long)bim_substitute_at(table, i), (unsigned long)i);
+    print_name(it.name);
+    printf(" of type %lu\n", (unsigned long)it.type);
+}
+
+/* The types that a type's elements may be cast to, in the order of their codes; nothing where there is none. */
+static void print_type_derived(uint32_t type)
+{
+    const struct bim_span span = bim_type_derived(table, type);
+    uint32_t i;
+    if (span.count == 0)
+        return;
+    printf("word %-4lu type %lu may be cast to type%s", (unsigned long)bim_type_derived_at(table, type), (unsigned long)type,
+           span.count == 1 ? "" : "s");
+    for (i = 0; i < span.count; i++)
+        printf("%s %lu", i == 0 ? "" : ",", (unsigned long)bim_derived(table, span.first + i));
+    putchar('\n');
+}
+
+/* The elements that may stand for a row's, in the order of their codes; nothing where there is none. */
+static void print_row_substitutes(uint32_t row)
+{
+    const struct bim_span span = bim_row_substitutes(table, row);
+    uint32_t i;
+    if (span.count == 0)
+        return;
+    printf("word %-4lu row %lu, element ", (unsigned long)bim_row_substitutes_at(table, row), (unsigned long)row);
+    print_name(bim_particle_row(table, row).p);
+    printf(", may be substituted by");
+    for (i = 0; i < span.count; i++) {
+        fputs(i == 0 ? " " : ", ", stdout);
+        print_name(bim_substitute(table, span.first + i).name);
+    }
+    putchar('\n');
+}
+
 int main(int argc, char **argv)
 {
     size_t bytes;
@@ -112,9 +159,13 @@ int main(int argc, char **argv)
         return 1;
     }
     printf("right: %lu words", (unsigned long)(bytes / 4));
-    print_count("type", bim_types(table));
-    print_count("attribute row", bim_attributes(table));
-    print_count("particle row", bim_particles(table));
+    print_count("type", "types", bim_types(table));
+    print_count("attribute row", "attribute rows", bim_attributes(table));
+    print_count("particle row", "particle rows", bim_particles(table));
+    if (bim_form(table) == 2) {
+        print_count("derived entry", "derived entries", bim_derivations(table));
+        print_count("substitute", "substitutes", bim_substitutes(table));
+    }
     putchar('\n');
     for (row = 0; row < bim_types(table); row++)
         print_type(row);
@@ -122,5 +173,13 @@ int main(int argc, char **argv)
         print_attribute(row);
     for (row = 0; row < bim_particles(table); row++)
         print_particle(row);
+    for (row = 0; row < bim_derivations(table); row++)
+        print_derived_entry(row);
+    for (row = 0; row < bim_substitutes(table); row++)
+        print_substitute(row);
+    for (row = 0; row < bim_types(table); row++)
+        print_type_derived(row);
+    for (row = 0; row < bim_particles(table); row++)
+        print_row_substitutes(row);
     return 0;
 }

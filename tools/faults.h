@@ -66,11 +66,19 @@ static int fault_below(struct sentence *s, const char *what, uint32_t word, uint
     return 1;
 }
 
-static int fault_rows(struct sentence *s, uint32_t first, uint32_t count, uint32_t there)
+static int fault_first(struct sentence *s, const char *what, uint32_t first, uint32_t there)
+{
+    if (first <= there)
+        return 0;
+    say(s, "%s %lu is over the %lu there are", what, (unsigned long)first, (unsigned long)there);
+    return 1;
+}
+
+static int fault_span(struct sentence *s, const char *one, const char *more, uint32_t first, uint32_t count, uint32_t there)
 {
     if (first <= there && count <= there - first)
         return 0;
-    say(s, "%lu row%s from %lu pass%s the %lu there are", (unsigned long)count, count == 1 ? "" : "s", (unsigned long)first,
+    say(s, "%lu %s from %lu pass%s the %lu there are", (unsigned long)count, count == 1 ? one : more, (unsigned long)first,
         count == 1 ? "es" : "", (unsigned long)there);
     return 1;
 }
@@ -87,11 +95,31 @@ static int fault_header(struct sentence *s, uint32_t i, uint32_t word)
 {
     static const char *const words[] = {"first word", "types", "attribute rows", "particle rows"};
     say(s, "header, %s: ", words[i]);
-    if (i == 0 && word != 1) {
-        say(s, "%lu, not 1", (unsigned long)word);
+    if (i == 0) {
+        if (word == 1 || word == 2)
+            return 0;
+        say(s, "%lu, neither form 1 nor form 2", (unsigned long)word);
         return 1;
     }
-    return i == 1 ? fault_between(s, "", word, 1, 256) : i > 1 && fault_most(s, word, 1024);
+    return i == 1 ? fault_between(s, "", word, 1, BIM_MOST_TYPES) : fault_most(s, word, BIM_MOST_PARTICLES);
+}
+
+/* How many words the rows ask for, and in form 2 what stands past them: D and S count as 0 where they are not there. */
+static int fault_words(struct sentence *s, const uint8_t *table, uint32_t words)
+{
+    const uint32_t past = bim_rows_end(table);
+    uint64_t derivations, substitutes;
+    say(s, "%lu words, and a header of %lu, %lu and %lu rows", (unsigned long)words, (unsigned long)bim_types(table),
+        (unsigned long)bim_attributes(table), (unsigned long)bim_particles(table));
+    if (bim_form(table) == 1) {
+        say(s, " asks for %lu", (unsigned long)past);
+        return 1;
+    }
+    derivations = past < words ? bim_table_word(table, past) : 0;
+    substitutes = past + 1 < words ? bim_table_word(table, past + 1) : 0;
+    say(s, ", %llu derived entries and %llu substitutes asks for %llu", (unsigned long long)derivations, (unsigned long long)substitutes,
+        (unsigned long long)(past + 2 + derivations + 2 * substitutes + 2 * (bim_types(table) + bim_particles(table))));
+    return 1;
 }
 
 static int fault_length(struct sentence *s, const uint8_t *table, size_t bytes)
@@ -104,9 +132,7 @@ static int fault_length(struct sentence *s, const uint8_t *table, size_t bytes)
     else if (bytes < 16)
         say(s, "%lu words, and the header alone has 4", (unsigned long)(bytes / 4));
     else
-        say(s, "%lu words, and a header of %lu, %lu and %lu rows asks for %lu", (unsigned long)(bytes / 4),
-            (unsigned long)bim_types(table), (unsigned long)bim_attributes(table), (unsigned long)bim_particles(table),
-            (unsigned long)bim_particle_at(table, bim_particles(table)));
+        return fault_words(s, table, (uint32_t)(bytes / 4));
     return 1;
 }
 
@@ -131,7 +157,7 @@ static int fault_content(struct sentence *s, const uint8_t *table, struct bim_ty
         return 1;
     }
     if (type.a == BIM_ENUMERATION && i == 5)
-        return fault_between(s, " values", word, 1, 65536);
+        return fault_between(s, " values", word, 1, BIM_MOST_VALUES);
     return fault_zero(s, word, "kind", simple_name(type.a));
 }
 
@@ -147,12 +173,8 @@ static int fault_type(struct sentence *s, const uint8_t *table, uint32_t row, ui
             return 0;
         say(s, "%lu is none of 0 empty, 1 simple, 2 particles", (unsigned long)type.content);
         return 1;
-    case 2:
-        if (type.first_attribute <= bim_attributes(table))
-            return 0;
-        say(s, "row %lu is over the %lu there are", (unsigned long)type.first_attribute, (unsigned long)bim_attributes(table));
-        return 1;
-    case 3: return fault_rows(s, type.first_attribute, type.attributes, bim_attributes(table));
+    case 2: return fault_first(s, "row", type.first_attribute, bim_attributes(table));
+    case 3: return fault_span(s, "row", "rows", type.first_attribute, type.attributes, bim_attributes(table));
     default: return fault_content(s, table, type, i);
     }
 }
@@ -164,7 +186,7 @@ static int fault_attribute(struct sentence *s, const uint8_t *table, uint32_t ro
     struct bim_type type;
     say(s, "attribute row %lu, %s: ", (unsigned long)row, words[i]);
     if (i == 0)
-        return fault_most(s, attribute.name, 65535);
+        return fault_most(s, attribute.name, BIM_MOST_NAME);
     if (i == 1)
         return fault_mark(s, attribute.required);
     if (fault_below(s, "type", attribute.type, bim_types(table)))
@@ -186,9 +208,11 @@ static int fault_child(struct sentence *s, uint32_t child, uint32_t row, uint32_
     return 1;
 }
 
+/* The particle rows by name. */
+static const char *const particle_names[] = {"element", "sequence", "choice", "occurs"};
+
 static int fault_particle(struct sentence *s, const uint8_t *table, uint32_t row, uint32_t i)
 {
-    static const char *const kinds[] = {"element", "sequence", "choice", "occurs"};
     static const char *const words[4][3] = {{"name", "type", "last word"},
                                             {"first child", "number of children", "last word"},
                                             {"first child", "number of children", "last word"},
@@ -200,26 +224,101 @@ static int fault_particle(struct sentence *s, const uint8_t *table, uint32_t row
             (unsigned long)it.kind);
         return it.kind > BIM_OCCURS;
     }
-    say(s, "particle row %lu, %s, %s: ", (unsigned long)row, kinds[it.kind], words[it.kind][i - 1]);
+    say(s, "particle row %lu, %s, %s: ", (unsigned long)row, particle_names[it.kind], words[it.kind][i - 1]);
     if (it.kind == BIM_ELEMENT)
-        return i == 1   ? fault_most(s, it.p, 65535)
+        return i == 1   ? fault_most(s, it.p, BIM_MOST_NAME)
                : i == 2 ? fault_below(s, "type", it.q, bim_types(table))
-                        : fault_zero(s, it.r, "an", kinds[it.kind]);
+                        : fault_zero(s, it.r, "an", particle_names[it.kind]);
     if (i == 1)
         return fault_child(s, it.p, row, there);
     if (it.kind != BIM_OCCURS) {
         if (i == 3)
-            return fault_zero(s, it.r, "a", kinds[it.kind]);
-        return fault_between(s, "", it.q, it.kind == BIM_SEQUENCE ? 1 : 2, 64) || fault_rows(s, it.p, it.q, there);
+            return fault_zero(s, it.r, "a", particle_names[it.kind]);
+        return fault_between(s, "", it.q, it.kind == BIM_SEQUENCE ? 1 : 2, 64) || fault_span(s, "row", "rows", it.p, it.q, there);
     }
     if (i == 2)
-        return fault_most(s, it.q, 65535);
+        return fault_most(s, it.q, BIM_MOST_TIMES);
     if (fault_between(s, "", it.r, 1, BIM_UNBOUNDED))
         return 1;
     if (it.q <= it.r)
         return 0;
     say(s, "%lu is under the least, %lu", (unsigned long)it.r, (unsigned long)it.q);
     return 1;
+}
+
+/* The words past the rows: each part is looked at only where all before it is right, so that its place is known. */
+static int fault_counts(struct sentence *s, const uint8_t *table, uint32_t i)
+{
+    say(s, i == 0 ? "derived entries: " : "substitutes: ");
+    return i == 0 ? fault_most(s, bim_derivations(table), BIM_MOST_DERIVATIONS)
+                  : fault_most(s, bim_substitutes(table), BIM_MOST_SUBSTITUTES);
+}
+
+static int fault_substitute(struct sentence *s, const uint8_t *table, uint32_t at, uint32_t i)
+{
+    const struct bim_substitute it = bim_substitute(table, at);
+    say(s, "substitute %lu, %s: ", (unsigned long)at, i == 0 ? "name" : "type");
+    return i == 0 ? fault_most(s, it.name, BIM_MOST_NAME) : fault_below(s, "type", it.type, bim_types(table));
+}
+
+/* A type's derived types are each there once, and it is none of them itself. */
+static int fault_once(struct sentence *s, const uint8_t *table, uint32_t type, struct bim_span span)
+{
+    uint32_t i, before;
+    for (i = span.first; i < span.first + span.count; i++) {
+        const uint32_t derived = bim_derived(table, i);
+        if (derived == type) {
+            say(s, "type %lu stands among them itself", (unsigned long)type);
+            return 1;
+        }
+        for (before = span.first; before < i; before++)
+            if (bim_derived(table, before) == derived) {
+                say(s, "type %lu stands among them twice", (unsigned long)derived);
+                return 1;
+            }
+    }
+    return 0;
+}
+
+static int fault_type_derived(struct sentence *s, const uint8_t *table, uint32_t type, uint32_t i)
+{
+    const struct bim_span span = bim_type_derived(table, type);
+    const uint32_t there = bim_derivations(table);
+    say(s, "of type %lu, %s: ", (unsigned long)type, i == 0 ? "first derived entry" : "number of derived entries");
+    if (i == 0)
+        return fault_first(s, "entry", span.first, there);
+    return fault_span(s, "entry", "entries", span.first, span.count, there) || fault_once(s, table, type, span);
+}
+
+static int fault_row_substitutes(struct sentence *s, const uint8_t *table, uint32_t row, uint32_t i)
+{
+    const struct bim_span span = bim_row_substitutes(table, row);
+    const uint32_t there = bim_substitutes(table), kind = bim_particle_row(table, row).kind;
+    say(s, "of particle row %lu, %s: ", (unsigned long)row, i == 0 ? "first substitute" : "number of substitutes");
+    if (kind != BIM_ELEMENT)
+        return fault_zero(s, i == 0 ? span.first : span.count, kind == BIM_OCCURS ? "an" : "a", particle_names[kind]);
+    return i == 0 ? fault_first(s, "substitute", span.first, there)
+                  : fault_span(s, "substitute", "substitutes", span.first, span.count, there);
+}
+
+static int fault_past_rows(struct sentence *s, const uint8_t *table, uint32_t place)
+{
+    uint32_t at = bim_rows_end(table);
+    if (place < at + 2)
+        return fault_counts(s, table, place - at);
+    at = bim_derived_at(table, 0);
+    if (place < bim_substitute_at(table, 0)) {
+        say(s, "derived entry %lu: ", (unsigned long)(place - at));
+        return fault_below(s, "type", bim_derived(table, place - at), bim_types(table));
+    }
+    at = bim_substitute_at(table, 0);
+    if (place < bim_type_derived_at(table, 0))
+        return fault_substitute(s, table, (place - at) / 2, (place - at) % 2);
+    at = bim_type_derived_at(table, 0);
+    if (place < bim_row_substitutes_at(table, 0))
+        return fault_type_derived(s, table, (place - at) / 2, (place - at) % 2);
+    at = bim_row_substitutes_at(table, 0);
+    return fault_row_substitutes(s, table, (place - at) / 2, (place - at) % 2);
 }
 
 /* What is wrong at the word that was named; answers 0 where no reason was found, which the tests show never to be. */
@@ -238,7 +337,9 @@ static int fault_in_words(struct sentence *s, const uint8_t *table, size_t bytes
     if (place < bim_particle_at(table, 0))
         return fault_attribute(s, table, (place - at) / 3, (place - at) % 3);
     at = bim_particle_at(table, 0);
-    return fault_particle(s, table, (place - at) / 4, (place - at) % 4);
+    if (place < bim_rows_end(table))
+        return fault_particle(s, table, (place - at) / 4, (place - at) % 4);
+    return fault_past_rows(s, table, place);
 }
 
 #endif

@@ -1,4 +1,5 @@
-/* Compares two table files by their held marks.
+/* Compares two table files by their held marks. A mark bears on every element whose effective type it is: those of the type, substitutes
+ * among them, and those that may be cast to it.
  *
  *     holds [-n NAMES] ONE OTHER
  *
@@ -29,14 +30,31 @@ static int is_mark(uint32_t i)
     return i >= 4 && i < bim_attribute_at(tables[0], 0) && (i - 4) % 7 == 0;
 }
 
-/* The elements of a type, by name, as the curator knows them. */
-static void print_elements(uint32_t type)
+/* Whether an element of the one type may be cast to the other. */
+static int may_be_cast(uint32_t from, uint32_t to)
 {
-    uint32_t row, count = 0;
+    const struct bim_span span = bim_type_derived(tables[0], from);
+    uint32_t i;
+    for (i = 0; i < span.count; i++)
+        if (bim_derived(tables[0], span.first + i) == to)
+            return 1;
+    return 0;
+}
+
+/* The elements that are of a type, by name, as the curator knows them, or those that may be cast to it: of each row its own element and
+ * the substitutes that may stand for it. */
+static void print_elements(uint32_t type, int cast)
+{
+    uint32_t row, substitute, count = 0;
     for (row = 0; row < bim_particles(tables[0]); row++) {
         const struct bim_particle it = bim_particle_row(tables[0], row);
-        if (it.kind == BIM_ELEMENT && it.q == type)
-            printf("%s%s", count++ == 0 ? ", of element " : ", ", name_of(it.p));
+        const struct bim_span span = bim_row_substitutes(tables[0], row);
+        for (substitute = 0; it.kind == BIM_ELEMENT && substitute <= span.count; substitute++) {
+            const uint32_t own = substitute == 0 ? it.q : bim_substitute(tables[0], span.first + substitute - 1).type;
+            if (cast ? may_be_cast(own, type) : own == type)
+                printf("%s%s", count++ > 0 ? ", " : cast ? ", by a cast of element " : ", of element ",
+                       name_of(bim_name_in_effect(tables[0], row, substitute)));
+        }
     }
 }
 
@@ -47,7 +65,8 @@ static uint32_t print_held(char **paths, int holder)
     for (type = 0; type < bim_types(tables[0]); type++)
         if (bim_type_row(tables[holder], type).held && !bim_type_row(tables[1 - holder], type).held) {
             printf("type %lu, held in %s alone", (unsigned long)type, paths[holder]);
-            print_elements(type);
+            print_elements(type, 0);
+            print_elements(type, 1);
             putchar('\n');
             count++;
         }

@@ -65,7 +65,7 @@ pub struct Answer {
     pub number: u32,
     /// 0 on acceptance.
     pub place: u64,
-    /// Length coding: 0, 1 or 2.
+    /// Length coding, 0, 1 or 2, and 4 more with casting.
     pub mode: u32,
     /// Events stored or used.
     pub events: usize,

@@ -11,7 +11,7 @@ pub const TABLE: u32 = 1;
 pub const ROOT: u32 = 2;
 /// The payload is empty or over 8,192 bytes.
 pub const PAYLOAD_SIZE: u32 = 3;
-/// The mode byte is none of the three.
+/// The mode byte is none of the three, and none of the three with casting where the table has derivations.
 pub const MODE_BYTE: u32 = 4;
 /// An item passes the innermost declared end, or the payload's.
 pub const PAST_END: u32 = 5;
@@ -47,7 +47,7 @@ pub const BLANK: u32 = 19;
 pub const OUTSIDE_ROW: u32 = 20;
 /// The payload is over 8,192 bytes or the lent room.
 pub const PAYLOAD_ROOM: u32 = 21;
-/// The write mode is over 2.
+/// The write mode is none of 0, 1, 2, and none of 4, 5, 6 where the table has derivations.
 pub const WRITE_MODE: u32 = 22;
 /// Text bytes are short, or left over.
 pub const TEXT_BYTES: u32 = 23;
@@ -68,8 +68,10 @@ pub const KIND_PICK: u32 = 4;
 pub const KIND_TIMES: u32 = 5;
 /// 0, 0, taking no bits.
 pub const KIND_END: u32 = 6;
-/// Name, type; all bits of the element.
+/// Name, effective type; all bits of the element.
 pub const KIND_BLANK: u32 = 7;
+/// Effective type, substitute from 1 or 0; bits of both codes.
+pub const KIND_CAST: u32 = 8;
 
 // A type's content.
 
@@ -123,7 +125,7 @@ pub const MOST_EVENTS: usize = 2048;
 /// The most bytes of a payload.
 pub const MOST_PAYLOAD: usize = 8192;
 /// The most bytes of a table.
-pub const MOST_TABLE: usize = 35_856;
+pub const MOST_TABLE: usize = 58_392;
 /// The most names of a path.
 pub const MOST_NAMES: usize = 64;
 /// The greatest word: places stop there.
@@ -131,6 +133,8 @@ pub const MOST_WORD: u32 = 4_294_967_295;
 
 // What the headers have no name for.
 
+/// Added to a mode of length coding: types may be cast.
+pub const CASTING: u32 = 4;
 /// The modes of length coding: none.
 pub const MODE_NEVER: u32 = 0;
 /// Where an element's flag says so.
@@ -143,12 +147,23 @@ pub const MODE_NEVER_BYTE: u8 = 0x0f;
 pub const MODE_OPTIONAL_BYTE: u8 = 0x4f;
 /// Of mode 2.
 pub const MODE_ALWAYS_BYTE: u8 = 0x8f;
-/// The mode bytes, by mode.
-pub const MODE_BYTES: [u8; 3] = [MODE_NEVER_BYTE, MODE_OPTIONAL_BYTE, MODE_ALWAYS_BYTE];
+/// What casting adds to the first byte.
+pub const CASTING_BYTE: u8 = 0x10;
+/// Every mode with its byte, those without casting first.
+pub const MODES: [(u32, u8); 6] = [
+    (MODE_NEVER, MODE_NEVER_BYTE),
+    (MODE_OPTIONAL, MODE_OPTIONAL_BYTE),
+    (MODE_ALWAYS, MODE_ALWAYS_BYTE),
+    (CASTING + MODE_NEVER, CASTING_BYTE | MODE_NEVER_BYTE),
+    (CASTING + MODE_OPTIONAL, CASTING_BYTE | MODE_OPTIONAL_BYTE),
+    (CASTING + MODE_ALWAYS, CASTING_BYTE | MODE_ALWAYS_BYTE),
+];
 /// The words of an event.
 pub const EVENT_WORDS: usize = EVENT / 4;
-/// The first word of every table.
-pub const TABLE_MARK: u32 = 1;
+/// The first word of a table without derived types and substitutes.
+pub const FORM_PLAIN: u32 = 1;
+/// The first word of a table with them.
+pub const FORM_CASTS: u32 = 2;
 /// The words of a table before its first row.
 pub const HEADER: usize = 4;
 /// The words of a type row.
@@ -163,6 +178,10 @@ pub const MOST_TYPES: usize = 256;
 pub const MOST_ATTRIBUTES: usize = 1024;
 /// The most particle rows.
 pub const MOST_PARTICLES: usize = 1024;
+/// The most derived entries.
+pub const MOST_DERIVATIONS: usize = 1024;
+/// The most substitutes.
+pub const MOST_SUBSTITUTES: usize = 1024;
 /// The most words of a table.
 pub const MOST_TABLE_WORDS: usize = MOST_TABLE / 4;
 /// The most child rows of a sequence or choice.

@@ -45,6 +45,14 @@ pub fn worked() -> &'static Read {
     }
 }
 
+/// The reading of the example of casting and substitution.
+pub fn cast() -> &'static Read {
+    match named("cast") {
+        Call::Read(read) => read,
+        other => panic!("no reading: {other:?}"),
+    }
+}
+
 /// The writing of the worked list.
 pub fn worked_list() -> &'static Write {
     match named("worked list") {
@@ -53,10 +61,11 @@ pub fn worked_list() -> &'static Write {
     }
 }
 
-/// The largest table: 256 types, 1,024 attribute rows, 1,024 particle rows.
-pub fn largest_table() -> &'static [u32] {
-    match named("the largest table") {
-        Call::Table(table) => table,
+/// The largest tables of both forms: 256 types, 1,024 attribute rows, 1,024 particle rows; the second with 1,024 derived entries
+/// and 1,024 substitutes.
+pub fn largest_tables() -> [&'static [u32]; 2] {
+    ["the largest table", "the largest table of form 2"].map(|name| match named(name) {
+        Call::Table(table) => &table[..],
         other => panic!("no table: {other:?}"),
-    }
+    })
 }

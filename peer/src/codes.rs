@@ -110,6 +110,29 @@ pub fn write8(value: u32) -> Option<Code> {
     }
 }
 
+/// None or one of `choices`, counted from 1: a flag and, where it is 1, the code of the choice. No choices take no bits.
+#[inline]
+pub fn read_one_of(choices: u32, payload: &[u8], end: usize, at: usize) -> Result<Taken, u32> {
+    if choices == 0 {
+        return Ok(Taken { value: 0, bits: 0 });
+    }
+    if fixed(payload, end, at, 1)? == 0 {
+        return Ok(Taken { value: 0, bits: 1 });
+    }
+    let code = read_choice(choices, payload, end, at + 1)?;
+    Ok(Taken { value: code.value + 1, bits: code.bits + 1 })
+}
+
+/// The code of none, 0, or of one of `choices`, counted from 1.
+#[inline]
+pub fn write_one_of(choices: u32, which: u32) -> Option<Code> {
+    match (choices, which) {
+        (0, 0) => Some(Code::NONE),
+        (_, 0) => Some(Code::new(0, 1)),
+        _ => write_choice(choices, which - 1).map(|code| Code::new(1, 1).then(code)),
+    }
+}
+
 /// A number below `choices` in their width; one that is not below is 14.
 #[inline]
 pub fn read_choice(choices: u32, payload: &[u8], end: usize, at: usize) -> Result<Taken, u32> {

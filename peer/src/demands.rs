@@ -9,7 +9,28 @@ use crate::call::{Call, Read, Write, READER, WRITER};
 use crate::cases::Case;
 use crate::model;
 use crate::rows::held_word;
+use crate::tally::Numbers;
 use crate::{reader, table, tally, writer};
+
+/// The refusals that substitution and casting have of their own, by the item that is refused as `model` names it.
+#[rustfmt::skip]
+pub const CASTS: [Numbers; 29] = [
+    ("table: D", &[bim::TABLE]), ("table: S", &[bim::TABLE]), ("table: derived entry", &[bim::TABLE]),
+    ("table: substitute's name", &[bim::TABLE]), ("table: substitute's type", &[bim::TABLE]),
+    ("table: first derived", &[bim::TABLE]), ("table: derived past D", &[bim::TABLE]),
+    ("table: derived from itself", &[bim::TABLE]), ("table: derived twice", &[bim::TABLE]),
+    ("table: first substitute", &[bim::TABLE]), ("table: substitutes past S", &[bim::TABLE]),
+    ("table: no element", &[bim::TABLE]),
+    ("casting, no derivations", &[bim::MODE_BYTE, bim::WRITE_MODE]),
+    ("mode 3", &[bim::WRITE_MODE]), ("mode over 6", &[bim::WRITE_MODE]),
+    ("substitution flag", &[bim::PAST_END]), ("substitution code", &[bim::PAST_END, bim::NO_SUCH_CODE]),
+    ("cast flag", &[bim::PAST_END]), ("cast code", &[bim::PAST_END, bim::NO_SUCH_CODE]),
+    ("element with codes", &[bim::EVENT_ROOM, bim::NOT_HELD]),
+    ("element of another type", &[bim::EVENT_ROOM, bim::NOT_HELD]), ("cast event", &[bim::EVENT_ROOM]),
+    ("no event for the codes", &[bim::NO_READING]), ("no cast", &[bim::NO_READING, bim::BLANK]),
+    ("written element with codes", &[bim::NOT_HELD]), ("written element of another type", &[bim::NOT_HELD]),
+    ("stray cast", &[bim::NO_READING]), ("substitute", &[bim::OUTSIDE_ROW]), ("effective type", &[bim::OUTSIDE_ROW]),
+];
 
 /// What the run has met so far.
 #[derive(Default)]
@@ -20,6 +41,8 @@ pub struct Tally {
     pub tables: [u64; 2],
     /// Accepted readings with a Blank.
     pub blanks: u64,
+    /// What was refused of substitution and casting.
+    pub casts: tally::Tally,
     /// Accepted readings without one, written back to the same bytes.
     pub identical: u64,
     /// What the pairs of tables showed.
@@ -27,6 +50,11 @@ pub struct Tally {
 }
 
 impl Tally {
+    /// Whether every refusal that substitution and casting have of their own was met; tells those that were not.
+    pub fn casts_are_whole(&self) -> bool {
+        self.casts.has_met(&CASTS)
+    }
+
     /// Whether reader and writer were met with every number that they can answer; tells those that were not.
     pub fn is_whole(&self) -> bool {
         // 24 is the C boundary's.
@@ -87,6 +115,9 @@ pub fn check_table(tally: &mut Tally, words: &[u32]) -> Result<Option<usize>, St
     tally.tables[usize::from(fault.is_some())] += 1;
     let expected = model::check_table(words);
     demand(fault == expected, || format!("table check says {fault:?}, the model {expected:?}"))?;
+    if let Some(part) = fault.and_then(|word| model::part(words, word)) {
+        tally.casts.count(part, bim::TABLE);
+    }
     Ok(fault)
 }
 
@@ -104,20 +135,36 @@ pub fn read(tally: &mut Tally, call: &Read) -> Result<Outcome, String> {
     demand(spare_is_zero, || format!("demand 1: spare output is not 0: {answer:?}"))?;
     let outcome = Outcome { answer, events, texts };
     let room = call.event_words / 4;
-    let expected = model::read(&call.table, name, of_type, &call.payload, room, call.text_room);
+    let model::Told { reading: expected, item, unseen } =
+        model::read(&call.table, name, of_type, &call.payload, room, call.text_room);
     let got = reading_of(&outcome);
     demand(got == expected, || format!("demand 2: the reader gives {got:?}, the model {expected:?}"))?;
+    if !item.is_empty() {
+        tally.casts.count(item, answer.number);
+    }
     if answer.is_accepted() {
         let list = outcome.list();
         let sum: usize = list.iter().map(|event| event[3] as usize).sum();
         demand(sum + 8 == answer.bits, || format!("the events' bits and 8 are not the bits used: {answer:?}"))?;
         if list.iter().any(|event| event[0] == bim::KIND_BLANK) {
             tally.blanks += 1;
+            blanks_unseen(call, &outcome, &unseen)?;
         } else {
             written_back(tally, call, &outcome)?;
         }
     }
     Ok(outcome)
+}
+
+/// A Blank's codes are the only bits of it that are looked at: with all others turned over, the reading is the same.
+fn blanks_unseen(call: &Read, outcome: &Outcome, unseen: &[std::ops::Range<usize>]) -> Result<(), String> {
+    let mut payload = call.payload.clone();
+    unseen.iter().cloned().flatten().for_each(|bit| payload[bit / 8] ^= 0x80 >> (bit % 8));
+    let mut events = vec![0xdddd_dddd; call.event_words];
+    let mut texts = vec![0xdd; call.text_room];
+    let answer = reader::read(&call.table, call.root.0, call.root.1, &payload, &mut events, &mut texts);
+    let turned = Outcome { answer, events, texts };
+    demand(turned == *outcome, || format!("a Blank is looked into: {outcome:?} turns into {turned:?}"))
 }
 
 /// An outcome in the model's words.
@@ -162,7 +209,10 @@ pub fn write(tally: &mut Tally, call: &Write) -> Result<(Answer, Vec<u8>), Strin
     })?;
     let bytes = answer.bits.div_ceil(8);
     demand(payload[bytes..].iter().all(|&byte| byte == 0), || format!("demand 1: spare payload is not 0: {answer:?}"))?;
-    let expected = model::write(&call.table, name, of_type, call.mode, &call.events, &call.texts, call.room);
+    let (expected, item) = model::write(&call.table, name, of_type, call.mode, &call.events, &call.texts, call.room);
+    if !item.is_empty() {
+        tally.casts.count(item, answer.number);
+    }
     let got = if answer.is_accepted() {
         Ok((payload[..bytes].to_vec(), answer.bits))
     } else {
@@ -199,6 +249,7 @@ struct Span {
     /// All its bits.
     bits: usize,
     name: u32,
+    /// The effective type.
     of_type: usize,
     /// Whether a length is coded.
     has_length: bool,
@@ -217,7 +268,7 @@ fn spans(words: &[u32], root: (u32, u32), list: &[[u32; 4]]) -> Vec<Span> {
     walk.spans
 }
 
-/// The types of the elements of a list that its table has, the root's first.
+/// The effective types of the elements of a list that its table has, the root's first.
 pub fn element_types(words: &[u32], root: (u32, u32), list: &[[u32; 4]]) -> Vec<usize> {
     spans(words, root, list).iter().map(|span| span.of_type).collect()
 }
@@ -251,6 +302,11 @@ impl SpanWalk<'_> {
         let index = self.spans.len();
         let (first, place, text) = (self.next, self.place, self.text);
         let head = self.take();
+        let of_type = match head[0] {
+            bim::KIND_BLANK => head[2] as usize,
+            _ if self.list[self.next][0] == bim::KIND_CAST => self.take()[1] as usize,
+            _ => of_type,
+        };
         self.spans.push(Span {
             first,
             last: first,

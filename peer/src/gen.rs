@@ -7,7 +7,7 @@ use crate::bim;
 use crate::call::{Read, Write};
 use crate::model::{bits5, bits_of, bytes_of, count_bits, groups, value_bits, width};
 use crate::rng::Rng;
-use crate::rows::{choice, complex, element, held_word, occurs, sequence, simple, Rows, NOTHING};
+use crate::rows::{choice, complex, element, held_word, occurs, sequence, simple, Casts, Rows, NOTHING};
 use crate::table::{Particle, Table};
 
 /// The costs from here on are as good as endless.
@@ -72,7 +72,7 @@ fn parameters(rng: &mut Rng, kind: u32) -> (u32, u32) {
     }
 }
 
-/// A right table, all of it held.
+/// A right table, all of it held; every other one has derived types and substitutes, or at least room for them.
 pub fn table(rng: &mut Rng) -> Vec<u32> {
     let types = rng.within(1, 9);
     let particles = if rng.one_in(6) { 0 } else { rng.within(1, 14) };
@@ -108,8 +108,53 @@ pub fn table(rng: &mut Rng) -> Vec<u32> {
     }
     let simple: Vec<_> = (0..types).filter(|&index| rows[index][1] == bim::SIMPLE && rows[index][3] == 0).collect();
     let attributes = (0..attributes).map(|_| [name(rng), u32::from(rng.one_in(2)), rng.pick(&simple) as u32]).collect();
-    let particles = (0..particles).map(|row| particle(rng, row, particles, types)).collect();
-    Rows { types: rows, attributes, particles }.words()
+    let particles: Vec<_> = (0..particles).map(|row| particle(rng, row, particles, types)).collect();
+    let casts = rng.one_in(2).then(|| casts(rng, types, &particles));
+    Rows { types: rows, attributes, particles, casts }.words()
+}
+
+/// Right derived types and substitutes: pairs that overlap, entries that no pair has, and at times none at all.
+fn casts(rng: &mut Rng, types: usize, particles: &[[u32; 4]]) -> Casts {
+    // Any types, or round all of them: a long list of different ones is then common.
+    let (round, start) = (rng.one_in(2), rng.below(types));
+    let number = few(rng);
+    let entry = |index| if round { (start + index) % types } else { rng.below(types) } as u32;
+    let entries: Vec<_> = (0..number).map(entry).collect();
+    let substitutes: Vec<_> = (0..few(rng)).map(|_| [name(rng), rng.below(types) as u32]).collect();
+    let pair = |rng: &mut Rng, all: usize| {
+        // Often near the first, so that there are several.
+        let first = rng.within(0, all).min(rng.within(0, all));
+        let count = rng.pick(&[0, 1, 1, 2, 3, 3, 5, all, all]).min(all - first);
+        (first, count)
+    };
+    let of_type = |of_type: usize| {
+        let (first, mut count) = pair(rng, entries.len());
+        // Neither the type itself nor any other twice: the pair ends before.
+        let among = &entries[first..first + count];
+        let wrong = |at: usize| among[at] == of_type as u32 || among[..at].contains(&among[at]);
+        count = (0..count).find(|&at| wrong(at)).unwrap_or(count);
+        [first as u32, count as u32]
+    };
+    let of_types = (0..types).map(of_type).collect();
+    let of_row = |row: &[u32; 4]| match row[0] {
+        bim::ELEMENT => {
+            let (first, count) = pair(rng, substitutes.len());
+            [first as u32, count as u32]
+        }
+        _ => [0, 0],
+    };
+    let of_rows = particles.iter().map(of_row).collect();
+    Casts { entries, substitutes, of_types, of_rows }
+}
+
+/// How many entries or substitutes: none, one, or some.
+fn few(rng: &mut Rng) -> usize {
+    match rng.below(6) {
+        0 => 0,
+        1 => 1,
+        2 => rng.within(2, 20),
+        _ => rng.within(2, 9),
+    }
 }
 
 fn name(rng: &mut Rng) -> u32 {
@@ -140,9 +185,22 @@ fn particle(rng: &mut Rng, row: usize, rows: usize, types: usize) -> [u32; 4] {
     [kind, first as u32, number as u32, 0]
 }
 
-/// One word of a table changed, or its length. The table is not empty.
+/// One word of a table changed, or its length, or its form, or as many entries as may be and more. The table is not empty.
 pub fn damage_table(rng: &mut Rng, words: &mut Vec<u32>) {
-    match rng.below(12) {
+    match rng.below(14) {
+        12 => words[0] = rng.pick(&[bim::FORM_PLAIN, bim::FORM_CASTS, 3]),
+        13 if words[0] == bim::FORM_CASTS && Table::new(words).is_ok() => {
+            let mut rows = Rows::of(words);
+            if let Some(casts) = &mut rows.casts {
+                let most = bim::MOST_DERIVATIONS + rng.below(2);
+                if rng.one_in(2) {
+                    casts.entries.resize(most, 0);
+                } else {
+                    casts.substitutes.resize(most, [1, 0]);
+                }
+            }
+            *words = rows.words();
+        }
         0 => {
             let length = rng.below(words.len() + 1);
             words.truncate(length);
@@ -188,7 +246,8 @@ impl Costs {
         for _ in 0..table.types() + table.particles() {
             for row in (0..table.particles()).rev() {
                 let cost = match table.particle_row(row) {
-                    Particle::Element { of_type, .. } => costs.types[of_type],
+                    // One more where it has codes.
+                    Particle::Element { of_type, .. } => costs.types[of_type] + 1,
                     Particle::Sequence { first, number } => costs.rows[first..first + number].iter().sum(),
                     Particle::Choice { first, number } => 1 + costs.cheapest(first, number).1,
                     Particle::Occurs { child, least, .. } => 1 + u64::from(least) * costs.rows[child],
@@ -280,15 +339,20 @@ pub fn deep_table(rng: &mut Rng) -> Vec<u32> {
     }
     // Two elements end the chain, since its last row may be a choice.
     rows.particles.extend([element(2, 1), element(3, 1)]);
+    rows.casts = rng.one_in(4).then(|| casts(rng, rows.types.len(), &rows.particles));
     rows.words()
 }
 
-/// A table that has lists, and a sample of them.
+/// A table that has lists, and a sample of them; every third one is sought among those with codes.
 pub fn table_and_sample(rng: &mut Rng, quirk: usize) -> (Vec<u32>, Sample) {
+    let mut tries = if rng.one_in(3) { 6 } else { 0 };
     loop {
         let table = table(rng);
         if let Some(sample) = sample(rng, &table, quirk) {
-            return (table, sample);
+            if tries == 0 || sample.events.iter().any(|event| event[0] == bim::KIND_CAST) {
+                return (table, sample);
+            }
+            tries -= 1;
         }
     }
 }
@@ -316,13 +380,21 @@ pub fn sample(rng: &mut Rng, words: &[u32], quirk: usize) -> Option<Sample> {
 fn sample_of(rng: &mut Rng, words: &[u32], root: (u32, u32), quirk: usize, open: usize) -> Option<Sample> {
     let table = Table::new(words).ok()?;
     let costs = Costs::of(&table);
-    let mode = rng.below(3) as u32;
+    let mut mode = rng.below(3) as u32;
+    if table.derivations() > 0 && !rng.one_in(4) {
+        mode += bim::CASTING;
+    }
     let budget = if rng.one_in(20) { 400 } else { rng.within(0, 60) as u64 };
     let mut maker = Maker { table, costs, rng, mode, budget, quirk, events: vec![], texts: vec![] };
-    let body = maker.element(root.0, root.1 as usize, open)?;
-    let mut bits = bits_of(bim::MODE_BYTES[mode as usize].into(), 8);
+    let body = maker.element(None, root.0, root.1 as usize, open)?;
+    let mut bits = bits_of(mode_byte(mode).into(), 8);
     bits.extend(body);
     Some(Sample { root, mode, events: maker.events, texts: maker.texts, bits })
+}
+
+/// The byte of a mode that there is.
+fn mode_byte(mode: u32) -> u8 {
+    bim::MODES.iter().find(|(number, _)| *number == mode).map_or(0, |(_, byte)| *byte)
 }
 
 struct Maker<'a> {
@@ -362,13 +434,17 @@ impl Maker<'_> {
         self.events.push([kind, p, q, bits.len() as u32]);
     }
 
-    fn element(&mut self, name: u32, of_type: usize, open: usize) -> Option<Vec<bool>> {
+    fn element(&mut self, particle: Option<usize>, name: u32, of_type: usize, open: usize) -> Option<Vec<bool>> {
         let open = open.checked_sub(1)?;
         let index = self.events.len();
-        let has_length = self.mode == bim::MODE_ALWAYS || (self.mode == bim::MODE_OPTIONAL && !self.rng.one_in(3));
+        let lengths = self.mode % bim::CASTING;
+        let has_length = lengths == bim::MODE_ALWAYS || (lengths == bim::MODE_OPTIONAL && !self.rng.one_in(3));
         self.events.push([bim::KIND_START, name, u32::from(has_length), 0]);
+        let (of_type, mut body) = match particle {
+            Some(row) => self.codes(row, of_type),
+            None => (of_type, vec![]),
+        };
         let row = self.table.type_row(of_type);
-        let mut body = vec![];
         for attribute in row.first_attribute..row.first_attribute + row.attributes {
             let attribute = self.table.attribute_row(attribute);
             let present = attribute.required || self.rng.one_in(2);
@@ -386,7 +462,7 @@ impl Maker<'_> {
         }
         self.events.push([bim::KIND_END, 0, 0, 0]);
         let mut head = vec![];
-        if self.mode == bim::MODE_OPTIONAL {
+        if lengths == bim::MODE_OPTIONAL {
             head.push(has_length);
         }
         if has_length {
@@ -400,6 +476,38 @@ impl Maker<'_> {
         self.events[index][3] = head.len() as u32;
         head.extend(body);
         Some(head)
+    }
+
+    /// A substitute, where its list may become so much longer, and a cast likewise; gives the effective type and the codes.
+    fn codes(&mut self, row: usize, own: usize) -> (usize, Vec<bool>) {
+        let mut bits = vec![];
+        let substitutes: Vec<_> = self.table.substitutes(row).iter().map(|pair| pair[1] as usize).collect();
+        let (default, substitute) = self.one_of(own, &substitutes, &mut bits);
+        let casting = self.mode >= bim::CASTING;
+        let derived: Vec<_> = self.table.derived(default).iter().filter(|_| casting).map(|&one| one as usize).collect();
+        let (of_type, _) = self.one_of(default, &derived, &mut bits);
+        if !bits.is_empty() {
+            self.push(bim::KIND_CAST, of_type as u32, substitute, &bits);
+        }
+        (of_type, bits)
+    }
+
+    /// One of these types, or the default, with its number; the code that says so, at times one that names nothing.
+    fn one_of(&mut self, default: usize, types: &[usize], bits: &mut Vec<bool>) -> (usize, u32) {
+        if types.is_empty() {
+            return (default, 0);
+        }
+        let which = self.rng.below(types.len());
+        let extra = self.costs.types[types[which]].saturating_sub(self.costs.types[default]);
+        let taken = !self.rng.one_in(3) && self.spend(extra);
+        bits.push(taken);
+        if !taken {
+            return (default, 0);
+        }
+        let size = width(types.len() as i64);
+        let code = if self.odd() || self.odd() { self.rng.pick(&[types.len(), usize::MAX]) } else { which };
+        bits.extend(bits_of(code as u64, size));
+        (types[which], which as u32 + 1)
     }
 
     /// A value word that its row has, and its bits.
@@ -475,7 +583,7 @@ impl Maker<'_> {
 
     fn particle(&mut self, row: usize, open: usize) -> Option<Vec<bool>> {
         match self.table.particle_row(row) {
-            Particle::Element { name, of_type } => self.element(name, of_type, open),
+            Particle::Element { name, of_type } => self.element(Some(row), name, of_type, open),
             Particle::Sequence { first, number } => {
                 let open = open.checked_sub(1)?;
                 let mut bits = vec![];
@@ -565,7 +673,9 @@ pub fn damage_payload(rng: &mut Rng, payload: &mut Vec<u8>) {
             payload.pop();
         }
         2 => payload.push(if rng.one_in(2) { 0 } else { rng.word() as u8 }),
-        3 if !payload.is_empty() => payload[0] = rng.pick(&[0x0f, 0x4f, 0x8f, 0xcf, 0x1f, 0x2f, 0x07]),
+        3 if !payload.is_empty() => {
+            payload[0] = rng.pick(&[0x0f, 0x4f, 0x8f, 0xcf, 0x1f, 0x5f, 0x9f, 0xdf, 0x2f, 0x07]);
+        }
         4 if !payload.is_empty() => {
             // A 1 in the last byte hits the padding as often as anything.
             let last = payload.len() - 1;
@@ -585,7 +695,7 @@ pub fn damage_payload(rng: &mut Rng, payload: &mut Vec<u8>) {
 /// Random bytes behind a mode byte, small numbers being more common so that lengths are not hopeless.
 pub fn noise(rng: &mut Rng) -> Vec<u8> {
     let length = rng.within(0, 40);
-    let mut payload = vec![rng.pick(&[0x0f, 0x4f, 0x8f, 0x8f])];
+    let mut payload = vec![rng.pick(&[0x0f, 0x4f, 0x8f, 0x8f, 0x0f, 0x4f, 0x8f, 0x1f, 0x5f, 0x9f])];
     payload.extend((0..length).map(|_| (rng.word() & rng.word() & rng.word()) as u8));
     payload
 }
@@ -593,7 +703,7 @@ pub fn noise(rng: &mut Rng) -> Vec<u8> {
 /// A list with one word or event changed, or its texts.
 pub fn damage_list(rng: &mut Rng, events: &mut Vec<[u32; 4]>, texts: &mut Vec<u8>) {
     let at = rng.below(events.len());
-    match rng.below(12) {
+    match rng.below(16) {
         0 => {
             events.remove(at);
         }
@@ -616,7 +726,8 @@ pub fn damage_list(rng: &mut Rng, events: &mut Vec<[u32; 4]>, texts: &mut Vec<u8
             let byte = rng.below(texts.len());
             texts[byte] = rng.word() as u8;
         }
-        8 => events[at][0] = rng.below(9) as u32,
+        8 => events[at][0] = rng.below(10) as u32,
+        12..=15 => damage_cast(rng, events),
         _ => {
             let column = rng.within(1, 2);
             events[at][column] = match rng.below(3) {
@@ -625,5 +736,33 @@ pub fn damage_list(rng: &mut Rng, events: &mut Vec<[u32; 4]>, texts: &mut Vec<u8
                 _ => edge_word(rng),
             };
         }
+    }
+}
+
+/// One of the events that tell effective types changed or lost, or one put behind a Start.
+fn damage_cast(rng: &mut Rng, events: &mut Vec<[u32; 4]>) {
+    let behind = |events: &[[u32; 4]], kind: u32| -> Vec<_> {
+        events.iter().enumerate().filter(|(_, event)| event[0] == kind).map(|(at, _)| at).collect()
+    };
+    let casts = behind(events, bim::KIND_CAST);
+    if casts.is_empty() || rng.one_in(6) {
+        let starts = behind(events, bim::KIND_START);
+        if !starts.is_empty() {
+            events.insert(rng.pick(&starts) + 1, [bim::KIND_CAST, rng.below(9) as u32, rng.below(3) as u32, 0]);
+        }
+        return;
+    }
+    let at = rng.pick(&casts);
+    match rng.below(8) {
+        0 => {
+            events.remove(at);
+        }
+        1 => events.truncate(at),
+        2 => events[at][0] = bim::KIND_BLANK,
+        3 => events[at][2] = edge_word(rng),
+        4 => events[at][1] = edge_word(rng),
+        5 => events[at][2] = rng.below(9) as u32,
+        6 => events[at][1] = rng.below(9) as u32,
+        _ => events[at][2] = events[at][2].wrapping_add(rng.pick(&[1, u32::MAX])),
     }
 }

@@ -67,6 +67,7 @@ fn guide_table(rating_held: bool) -> Vec<u32> {
             occurs(16, 0, 3),             // 15 up to three satellites
             element(name::SATELLITE, 13), // 16
         ],
+        casts: None,
     };
     rows.words()
 }

@@ -6,9 +6,9 @@ use crate::writer;
 /// Events and texts so far.
 #[derive(Clone)]
 pub struct List {
-    /// The mode of length coding.
+    /// The mode.
     pub mode: u32,
-    /// Whether, in mode 1, an element of this name has a length.
+    /// Whether, where lengths are optional, an element of this name has a length.
     sized: fn(u32) -> bool,
     /// The events, their fourth words 0.
     pub events: Vec<[u32; 4]>,
@@ -17,7 +17,7 @@ pub struct List {
 }
 
 impl List {
-    /// An empty list; in mode 1 the elements that are `sized` have a length.
+    /// An empty list; where lengths are optional, the elements that are `sized` have one.
     pub fn new(mode: u32, sized: fn(u32) -> bool) -> Self {
         List { mode, sized, events: vec![], texts: vec![] }
     }
@@ -29,8 +29,14 @@ impl List {
 
     /// Start.
     pub fn start(&mut self, name: u32) -> &mut Self {
-        let coded = self.mode == bim::MODE_ALWAYS || self.mode == bim::MODE_OPTIONAL && (self.sized)(name);
+        let lengths = self.mode % bim::CASTING;
+        let coded = lengths == bim::MODE_ALWAYS || lengths == bim::MODE_OPTIONAL && (self.sized)(name);
         self.event(bim::KIND_START, name, coded.into())
+    }
+
+    /// The effective type, and the substitute from 1 or 0.
+    pub fn cast(&mut self, of_type: u32, substitute: u32) -> &mut Self {
+        self.event(bim::KIND_CAST, of_type, substitute)
     }
 
     /// An attribute, absent or with its value.

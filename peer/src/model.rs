@@ -10,6 +10,8 @@ const ATTRIBUTE_ROW: i64 = bim::ATTRIBUTE_ROW as i64;
 const PARTICLE_ROW: i64 = bim::PARTICLE_ROW as i64;
 const UNBOUNDED: i64 = bim::UNBOUNDED as i64;
 const MOST_TIMES: i64 = bim::MOST_TIMES as i64;
+const MOST_DERIVATIONS: i64 = bim::MOST_DERIVATIONS as i64;
+const MOST_SUBSTITUTES: i64 = bim::MOST_SUBSTITUTES as i64;
 
 /// What the model answers.
 #[derive(Clone, Debug, PartialEq, Eq)]
@@ -44,7 +46,7 @@ pub fn check_table(words: &[u32]) -> Option<usize> {
     let given = words.len();
     for (index, &word) in words.iter().enumerate().take(bim::HEADER) {
         let good = match index {
-            0 => word == bim::TABLE_MARK,
+            0 => word == bim::FORM_PLAIN || word == bim::FORM_CASTS,
             1 => word != 0 && word as usize <= bim::MOST_TYPES,
             2 => word as usize <= bim::MOST_ATTRIBUTES,
             _ => word as usize <= bim::MOST_PARTICLES,
@@ -57,10 +59,41 @@ pub fn check_table(words: &[u32]) -> Option<usize> {
         return Some(given);
     }
     let rows = Rows { words };
-    if given as i64 != rows.particles_from() + PARTICLE_ROW * rows.p() {
+    let wanted = if words[0] == bim::FORM_PLAIN { rows.counts_from() } else { rows.row_pairs_from() + 2 * rows.p() };
+    if given as i64 != wanted || given > bim::MOST_TABLE_WORDS {
         return Some(given);
     }
     (bim::HEADER..given).find(|&index| !rows.word_good(index as i64))
+}
+
+/// What the word at `index` of a table is, from the counts of entries on; of a count of derived entries, also why it may be wrong.
+pub fn part(words: &[u32], index: usize) -> Option<&'static str> {
+    let (rows, index) = (Rows { words }, index as i64);
+    if words.len() < bim::HEADER || index < rows.counts_from() || index >= words.len() as i64 {
+        return None;
+    }
+    let odd = |from: i64| (index - from) % 2 == 1;
+    Some(match index {
+        _ if index == rows.counts_from() => "table: D",
+        _ if index == rows.counts_from() + 1 => "table: S",
+        _ if index < rows.substitutes_from() => "table: derived entry",
+        _ if index < rows.type_pairs_from() && odd(rows.substitutes_from()) => "table: substitute's type",
+        _ if index < rows.type_pairs_from() => "table: substitute's name",
+        _ if index < rows.row_pairs_from() && odd(rows.type_pairs_from()) => {
+            let of_type = (index - rows.type_pairs_from()) / 2;
+            if rows.at(index - 1) + rows.at(index) > rows.at(rows.counts_from()) {
+                "table: derived past D"
+            } else if rows.derived(of_type).contains(&of_type) {
+                "table: derived from itself"
+            } else {
+                "table: derived twice"
+            }
+        }
+        _ if index < rows.row_pairs_from() => "table: first derived",
+        _ if rows.of_particle((index - rows.row_pairs_from()) / 2, 0) as u32 != bim::ELEMENT => "table: no element",
+        _ if odd(rows.row_pairs_from()) => "table: substitutes past S",
+        _ => "table: first substitute",
+    })
 }
 
 /// A table as bare words, everything in 64-bit signed numbers.
@@ -87,6 +120,41 @@ impl Rows<'_> {
     }
     fn particles_from(&self) -> i64 {
         self.attributes_from() + ATTRIBUTE_ROW * self.a()
+    }
+    /// A word that a table need not have: 0 past its end.
+    fn late(&self, index: i64) -> i64 {
+        self.words.get(index as usize).map_or(0, |&word| word.into())
+    }
+    fn counts_from(&self) -> i64 {
+        self.particles_from() + PARTICLE_ROW * self.p()
+    }
+    fn entries_from(&self) -> i64 {
+        self.counts_from() + 2
+    }
+    fn substitutes_from(&self) -> i64 {
+        self.entries_from() + self.late(self.counts_from())
+    }
+    fn type_pairs_from(&self) -> i64 {
+        self.substitutes_from() + 2 * self.late(self.counts_from() + 1)
+    }
+    fn row_pairs_from(&self) -> i64 {
+        self.type_pairs_from() + 2 * self.t()
+    }
+    /// The types derived from a type, in order.
+    fn derived(&self, of_type: i64) -> Vec<i64> {
+        let pair = self.type_pairs_from() + 2 * of_type;
+        let first = self.entries_from() + self.late(pair);
+        (first..first + self.late(pair + 1)).map(|entry| self.late(entry)).collect()
+    }
+    /// The types of a particle row's substitutes, in order.
+    fn substitutes(&self, row: i64) -> Vec<i64> {
+        let pair = self.row_pairs_from() + 2 * row;
+        let first = self.substitutes_from() + 2 * self.late(pair);
+        (0..self.late(pair + 1)).map(|index| self.late(first + 2 * index + 1)).collect()
+    }
+    /// Whether an element of this row has a code at all.
+    fn has_codes(&self, row: i64, casting: bool) -> bool {
+        !self.substitutes(row).is_empty() || casting && !self.derived(self.of_particle(row, 2)).is_empty()
     }
     fn of_type(&self, row: i64, column: i64) -> i64 {
         self.at(HEADER + TYPE_ROW * row + column)
@@ -128,8 +196,11 @@ impl Rows<'_> {
                 _ => word < self.t() && self.of_type(word, 1) as u32 == bim::SIMPLE && self.of_type(word, 3) == 0,
             };
         }
-        let row = (index - self.particles_from()) / PARTICLE_ROW;
         let before = self.at(index - 1);
+        if index >= self.counts_from() {
+            return self.cast_word_good(index, word, before);
+        }
+        let row = (index - self.particles_from()) / PARTICLE_ROW;
         let children = |least: i64| word >= least && word <= bim::MOST_CHILDREN.into() && before + word <= self.p();
         match ((index - self.particles_from()) % PARTICLE_ROW, self.of_particle(row, 0) as u32) {
             (0, _) => word <= bim::OCCURS.into(),
@@ -145,9 +216,46 @@ impl Rows<'_> {
     }
 }
 
+impl Rows<'_> {
+    /// Whether a word behind the rows is right.
+    fn cast_word_good(&self, index: i64, word: i64, before: i64) -> bool {
+        let (d, s) = (self.at(self.counts_from()), self.at(self.counts_from() + 1));
+        if index < self.entries_from() {
+            return word <= if index == self.counts_from() { MOST_DERIVATIONS } else { MOST_SUBSTITUTES };
+        }
+        if index < self.substitutes_from() {
+            return word < self.t();
+        }
+        if index < self.type_pairs_from() {
+            let is_name = (index - self.substitutes_from()) % 2 == 0;
+            return if is_name { word <= bim::MOST_NAME.into() } else { word < self.t() };
+        }
+        if index < self.row_pairs_from() {
+            let of_type = (index - self.type_pairs_from()) / 2;
+            if (index - self.type_pairs_from()) % 2 == 0 {
+                return word <= d;
+            }
+            if before + word > d {
+                return false;
+            }
+            let mut all = self.derived(of_type);
+            all.push(of_type);
+            return (0..all.len()).all(|at| !all[..at].contains(&all[at]));
+        }
+        let row = (index - self.row_pairs_from()) / 2;
+        if self.of_particle(row, 0) as u32 != bim::ELEMENT {
+            return word == 0;
+        }
+        let is_first = (index - self.row_pairs_from()) % 2 == 0;
+        word + if is_first { 0 } else { before } <= s
+    }
+}
+
 /// What is still to be read or written, the next on top.
 enum Task {
     Element {
+        /// The particle row; the root has none.
+        row: Option<i64>,
         name: i64,
         of_type: i64,
         wall: usize,
@@ -279,6 +387,23 @@ impl<'a> Fetch<'a> {
         Ok(value)
     }
 
+    /// A flag where there is something to choose from; where it is 1, the type that is chosen and its number from 1. `item` is
+    /// then whichever was looked at.
+    fn one_of(
+        &mut self,
+        types: &[i64],
+        items: [&'static str; 2],
+        item: &mut &'static str,
+    ) -> Result<Option<(i64, i64)>, u32> {
+        *item = items[0];
+        if types.is_empty() || self.bit()? == 0 {
+            return Ok(None);
+        }
+        *item = items[1];
+        let number = self.below(types.len() as i64)?;
+        Ok(Some((types[number as usize], number + 1)))
+    }
+
     /// The count of an occurs row, by the cases of 001, 8.5.2.2.5.2.
     pub fn count(&mut self, least: i64, most: i64) -> Result<i64, u32> {
         if least == 0 && most == 1 {
@@ -348,8 +473,8 @@ pub fn read(
     payload: &[u8],
     event_room: usize,
     text_room: usize,
-) -> Reading {
-    let refused = |number, place| Reading::Refused { number, place, path: vec![] };
+) -> Told {
+    let refused = |number, place| Told::early(Reading::Refused { number, place, path: vec![] });
     if let Some(word) = check_table(table) {
         return refused(bim::TABLE, word);
     }
@@ -360,13 +485,20 @@ pub fn read(
     if payload.is_empty() || payload.len() > bim::MOST_PAYLOAD {
         return refused(bim::PAYLOAD_SIZE, 0);
     }
-    if !bim::MODE_BYTES.contains(&payload[0]) {
+    let Some(&(mode, _)) = bim::MODES.iter().find(|(_, byte)| *byte == payload[0]) else {
         return refused(bim::MODE_BYTE, 0);
+    };
+    if mode >= bim::CASTING && rows.late(rows.counts_from()) == 0 {
+        return Told { item: "casting, no derivations", ..refused(bim::MODE_BYTE, 0) };
     }
     let mut agenda = Agenda {
         rows,
-        mode: u32::from(payload[0] >> 6),
+        lengths: mode & 3,
+        casting: mode & 4 != 0,
+        item: "",
+        unseen: vec![],
         tasks: vec![Task::Element {
+            row: None,
             name: root_name.into(),
             of_type: root_type.into(),
             wall: 8 * payload.len(),
@@ -385,13 +517,35 @@ pub fn read(
             Err(Fault::Here(number)) => (number, agenda.at),
             Err(Fault::At(number, place)) => (number, place),
         };
-        return Reading::Refused { number, place, path: agenda.path };
+        return Told {
+            reading: Reading::Refused { number, place, path: agenda.path },
+            item: agenda.item,
+            unseen: agenda.unseen,
+        };
     }
     let left: Vec<_> = (agenda.at..8 * payload.len()).map(|at| payload[at / 8] >> (7 - at % 8) & 1).collect();
     if left.len() > 7 || left.contains(&1) {
         return refused(bim::LEFT_OVER, agenda.at);
     }
-    Reading::Accepted { mode: agenda.mode, events: agenda.events, texts: agenda.texts, bits: agenda.at }
+    let reading = Reading::Accepted { mode, events: agenda.events, texts: agenda.texts, bits: agenda.at };
+    Told { reading, item: "", unseen: agenda.unseen }
+}
+
+/// A reading, and what else is to be told of it.
+pub struct Told {
+    /// The answer.
+    pub reading: Reading,
+    /// The item that was refused, of those that have to do with substitution and casting.
+    pub item: &'static str,
+    /// The bits that no reading looks at: from a Blank's codes to its end.
+    pub unseen: Vec<std::ops::Range<usize>>,
+}
+
+impl Told {
+    /// Before the first item.
+    fn early(reading: Reading) -> Self {
+        Told { reading, item: "", unseen: vec![] }
+    }
 }
 
 /// A refusal at the item's own first bit, or elsewhere.
@@ -408,7 +562,11 @@ impl From<u32> for Fault {
 
 struct Agenda<'a> {
     rows: Rows<'a>,
-    mode: u32,
+    lengths: u32,
+    casting: bool,
+    /// What is looked at, where it has to do with codes.
+    item: &'static str,
+    unseen: Vec<std::ops::Range<usize>>,
     tasks: Vec<Task>,
     event_room: usize,
     text_room: usize,
@@ -432,12 +590,12 @@ impl Agenda<'_> {
     fn step(&mut self, task: Task, payload: &[u8]) -> Result<(), Fault> {
         let rows = self.rows;
         match task {
-            Task::Element { name, of_type, wall, depth } => {
+            Task::Element { row, name, of_type, wall, depth } => {
                 if depth > bim::MOST_OPEN {
                     return Err(Fault::Here(bim::DEPTH));
                 }
                 let mut fetch = Fetch::new(payload, wall, self.at);
-                let coded = match self.mode {
+                let coded = match self.lengths {
                     bim::MODE_NEVER => false,
                     bim::MODE_OPTIONAL => fetch.fixed(1)? == 1,
                     _ => true,
@@ -447,15 +605,41 @@ impl Agenda<'_> {
                 if length.is_some_and(|length| body + length > wall) {
                     return Err(Fault::Here(bim::LENGTH));
                 }
+                let declared = length.map(|length| (body, body + length));
+                let wall = declared.map_or(wall, |(_, end)| end);
+                let (own, mut number) = (of_type, 0);
+                let mut of_type = of_type;
+                let mut fetch = Fetch::new(payload, wall, body);
+                if let Some(row) = row.filter(|&row| rows.has_codes(row, self.casting)) {
+                    let at_codes = |number| Fault::At(number, body);
+                    let items = ["substitution flag", "substitution code"];
+                    let substitutes = rows.substitutes(row);
+                    if let Some(chosen) = fetch.one_of(&substitutes, items, &mut self.item).map_err(at_codes)? {
+                        (of_type, number) = chosen;
+                    }
+                    let derived = if self.casting { rows.derived(of_type) } else { vec![] };
+                    let items = ["cast flag", "cast code"];
+                    if let Some((cast, _)) = fetch.one_of(&derived, items, &mut self.item).map_err(at_codes)? {
+                        of_type = cast;
+                    }
+                    self.item = if of_type == own { "element with codes" } else { "element of another type" };
+                }
+                let codes_end = fetch.at;
                 if rows.of_type(of_type, 0) == 0 {
-                    let length = length.ok_or(bim::NOT_HELD)?;
-                    return self.store(bim::KIND_BLANK, name, of_type, body + length);
+                    let (_, end) = declared.ok_or(bim::NOT_HELD)?;
+                    self.unseen.push(codes_end..end);
+                    self.store(bim::KIND_BLANK, name, of_type, end)?;
+                    self.item = "";
+                    return Ok(());
                 }
                 self.store(bim::KIND_START, name, coded.into(), body)?;
                 self.path.push(name as u16);
-                let declared = length.map(|length| (body, body + length));
+                if codes_end > body {
+                    self.item = "cast event";
+                    self.store(bim::KIND_CAST, of_type, number, codes_end)?;
+                }
+                self.item = "";
                 self.tasks.push(Task::Close { declared });
-                let wall = declared.map_or(wall, |(_, end)| end);
                 push_body(&rows, &mut self.tasks, of_type, wall, depth);
             }
             Task::Attribute { row, wall } => {
@@ -481,7 +665,7 @@ impl Agenda<'_> {
                 let word = |column| rows.of_particle(row, column);
                 let mut fetch = Fetch::new(payload, wall, self.at);
                 if word(0) as u32 == bim::ELEMENT {
-                    self.tasks.push(Task::Element { name: word(1), of_type: word(2), wall, depth });
+                    self.tasks.push(Task::Element { row: Some(row), name: word(1), of_type: word(2), wall, depth });
                     return Ok(());
                 }
                 if depth > bim::MOST_OPEN {
@@ -594,7 +778,7 @@ pub fn count_bits(least: i64, most: i64, count: u32) -> Option<Vec<bool>> {
     Some(bits)
 }
 
-/// Writes into `room` bytes.
+/// Writes into `room` bytes. Besides, the item that was refused, of those that have to do with substitution and casting.
 pub fn write(
     table: &[u32],
     root_name: u32,
@@ -603,51 +787,64 @@ pub fn write(
     events: &[u32],
     texts: &[u8],
     room: usize,
-) -> Writing {
+) -> (Writing, &'static str) {
     if let Some(word) = check_table(table) {
-        return Err((bim::TABLE, word));
+        return (Err((bim::TABLE, word)), "");
     }
     let rows = Rows { words: table };
     if i64::from(root_type) >= rows.t() || root_name > bim::MOST_NAME {
-        return Err((bim::ROOT, 0));
+        return (Err((bim::ROOT, 0)), "");
     }
-    if mode > bim::MODE_ALWAYS {
-        return Err((bim::WRITE_MODE, 0));
+    let Some(&(_, byte)) = bim::MODES.iter().find(|(number, _)| *number == mode) else {
+        return (Err((bim::WRITE_MODE, 0)), if mode == 3 { "mode 3" } else { "mode over 6" });
+    };
+    if mode >= bim::CASTING && rows.late(rows.counts_from()) == 0 {
+        return (Err((bim::WRITE_MODE, 0)), "casting, no derivations");
     }
     let count = events.len() / 4;
     if !events.len().is_multiple_of(4) || count > bim::MOST_EVENTS {
-        return Err((bim::NO_READING, count));
+        return (Err((bim::NO_READING, count)), "");
     }
+    let root = Task::Element { row: None, name: root_name.into(), of_type: root_type.into(), wall: 0, depth: 1 };
     let mut walk = Walk {
         rows,
-        mode,
+        lengths: mode & 3,
+        casting: mode & 4 != 0,
+        item: "",
         events,
         next: 0,
         left: texts,
-        tasks: vec![Task::Element { name: root_name.into(), of_type: root_type.into(), wall: 0, depth: 1 }],
-        bodies: vec![(None, bits_of(bim::MODE_BYTES[mode as usize].into(), 8))],
+        tasks: vec![root],
+        bodies: vec![(None, bits_of(byte.into(), 8))],
     };
     while let Some(task) = walk.tasks.pop() {
-        walk.step(task).map_err(|number| (number, walk.next))?;
+        if let Err(number) = walk.step(task) {
+            let found = events.get(4 * walk.next).copied();
+            let item = if walk.item.is_empty() && found == Some(bim::KIND_CAST) { "stray cast" } else { walk.item };
+            return (Err((number, walk.next)), item);
+        }
     }
     if walk.next < count {
         let number = if events[4 * walk.next] == bim::KIND_BLANK { bim::BLANK } else { bim::NO_READING };
-        return Err((number, walk.next));
+        return (Err((number, walk.next)), "");
     }
     if !walk.left.is_empty() {
-        return Err((bim::TEXT_BYTES, count));
+        return (Err((bim::TEXT_BYTES, count)), "");
     }
     let bits = &walk.bodies[0].1;
     let bytes = bytes_of(bits);
     if bytes.len() > bim::MOST_PAYLOAD || bytes.len() > room {
-        return Err((bim::PAYLOAD_ROOM, 0));
+        return (Err((bim::PAYLOAD_ROOM, 0)), "");
     }
-    Ok((bytes, bits.len()))
+    (Ok((bytes, bits.len())), "")
 }
 
 struct Walk<'a> {
     rows: Rows<'a>,
-    mode: u32,
+    lengths: u32,
+    casting: bool,
+    /// What is looked at, where it has to do with codes.
+    item: &'static str,
     events: &'a [u32],
     next: usize,
     left: &'a [u8],
@@ -681,24 +878,66 @@ impl Walk<'_> {
         }
     }
 
+    /// The event of both codes, of a row that has any: gives the effective type.
+    fn cast(&mut self, row: i64, own: i64) -> Result<i64, u32> {
+        self.item = "no event for the codes";
+        self.peek()?;
+        self.item = "no cast";
+        let (p, q) = self.want(bim::KIND_CAST)?;
+        let (p, q) = (i64::from(p), i64::from(q));
+        let types = self.rows.substitutes(row);
+        self.item = "substitute";
+        if q > types.len() as i64 {
+            return Err(bim::OUTSIDE_ROW);
+        }
+        let default = if q == 0 { own } else { types[q as usize - 1] };
+        let derived = if self.casting { self.rows.derived(default) } else { vec![] };
+        self.item = "effective type";
+        if p != default && !derived.contains(&p) {
+            return Err(bim::OUTSIDE_ROW);
+        }
+        let mut bits = vec![];
+        // 0 is none, and takes no more than the flag.
+        for (choices, number) in
+            [(types.len(), q), (derived.len(), derived.iter().position(|&one| one == p).map_or(0, |at| at as i64 + 1))]
+        {
+            if choices > 0 {
+                bits.push(number > 0);
+            }
+            if number > 0 {
+                bits.extend(bits_of(number as u64 - 1, width(choices as i64)));
+            }
+        }
+        self.put(bits);
+        self.next += 1;
+        self.item = if p == own { "written element with codes" } else { "written element of another type" };
+        Ok(p)
+    }
+
     fn step(&mut self, task: Task) -> Result<(), u32> {
         let rows = self.rows;
         match task {
-            Task::Element { name, of_type, wall, depth } => {
+            Task::Element { row, name, of_type, wall, depth } => {
                 self.peek()?;
                 if depth > bim::MOST_OPEN {
                     return Err(bim::DEPTH);
                 }
                 let (p, q) = self.want(bim::KIND_START)?;
-                let flags: &[u32] = [&[0][..], &[0, 1], &[1]][self.mode as usize];
+                let flags: &[u32] = [&[0][..], &[0, 1], &[1]][self.lengths as usize];
                 if i64::from(p) != name || !flags.contains(&q) {
                     return Err(bim::NO_READING);
                 }
-                if rows.of_type(of_type, 0) == 0 {
-                    return Err(bim::NOT_HELD);
-                }
                 self.next += 1;
                 self.bodies.push((Some(q), vec![]));
+                let (mut of_type, start) = (of_type, self.next - 1);
+                if let Some(row) = row.filter(|&row| rows.has_codes(row, self.casting)) {
+                    of_type = self.cast(row, of_type)?;
+                }
+                if rows.of_type(of_type, 0) == 0 {
+                    self.next = start;
+                    return Err(bim::NOT_HELD);
+                }
+                self.item = "";
                 self.tasks.push(Task::Close { declared: None });
                 push_body(&rows, &mut self.tasks, of_type, wall, depth);
             }
@@ -742,7 +981,7 @@ impl Walk<'_> {
             Task::Particle { row, wall, depth } => {
                 let word = |column| rows.of_particle(row, column);
                 if word(0) as u32 == bim::ELEMENT {
-                    self.tasks.push(Task::Element { name: word(1), of_type: word(2), wall, depth });
+                    self.tasks.push(Task::Element { row: Some(row), name: word(1), of_type: word(2), wall, depth });
                     return Ok(());
                 }
                 self.peek()?;
@@ -788,7 +1027,7 @@ impl Walk<'_> {
                 }
                 self.next += 1;
                 if let Some((Some(coded), body)) = self.bodies.pop() {
-                    if self.mode == bim::MODE_OPTIONAL {
+                    if self.lengths == bim::MODE_OPTIONAL {
                         self.put(vec![coded == 1]);
                     }
                     if coded == 1 {

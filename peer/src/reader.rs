@@ -6,7 +6,7 @@
 use crate::answer::{refusal, Answer, Path, Refusal};
 use crate::bim;
 use crate::bits::{copy_bytes, fixed, load64};
-use crate::codes::{read_choice, read_occurs, strict5};
+use crate::codes::{read_choice, read_occurs, read_one_of, strict5};
 use crate::table::{Particle, Table, Type};
 use crate::value;
 
@@ -26,13 +26,19 @@ pub fn read(
     answer
 }
 
-/// The length coding mode of a mode byte: 0F, 4F or 8F.
-pub fn mode_of(byte: u8) -> Option<u32> {
-    match byte {
-        bim::MODE_NEVER_BYTE => Some(bim::MODE_NEVER),
-        bim::MODE_OPTIONAL_BYTE => Some(bim::MODE_OPTIONAL),
-        bim::MODE_ALWAYS_BYTE => Some(bim::MODE_ALWAYS),
-        _ => None,
+/// The mode of a mode byte: 0F, 4F or 8F, and 1F, 5F or 9F where the table has derivations.
+pub fn mode_of(byte: u8, derivations: usize) -> Option<u32> {
+    let casting = byte & bim::CASTING_BYTE != 0;
+    let mode = match byte & !bim::CASTING_BYTE {
+        bim::MODE_NEVER_BYTE => bim::MODE_NEVER,
+        bim::MODE_OPTIONAL_BYTE => bim::MODE_OPTIONAL,
+        bim::MODE_ALWAYS_BYTE => bim::MODE_ALWAYS,
+        _ => return None,
+    };
+    match casting {
+        false => Some(mode),
+        true if derivations > 0 => Some(bim::CASTING + mode),
+        true => None,
     }
 }
 
@@ -56,7 +62,7 @@ fn check_call<'a>(
     if payload.is_empty() || payload.len() > bim::MOST_PAYLOAD {
         return Err(refusal(bim::PAYLOAD_SIZE, 0));
     }
-    let mode = mode_of(payload[0]).ok_or(refusal(bim::MODE_BYTE, 0))?;
+    let mode = mode_of(payload[0], table.derivations()).ok_or(refusal(bim::MODE_BYTE, 0))?;
     Ok((table, mode))
 }
 
@@ -76,7 +82,8 @@ fn read_into(
     let mut reader =
         Reader { table, payload, mode, at: 8, events, room, stored: 0, texts, used: 0, path: Path::empty() };
     let end = 8 * payload.len();
-    let read = reader.element(root_name, root_type as usize, end, bim::MOST_OPEN).and_then(|()| reader.padding(end));
+    let read =
+        reader.element(None, root_name, root_type as usize, end, bim::MOST_OPEN).and_then(|()| reader.padding(end));
     match read {
         Ok(()) => Answer::accepted(mode, reader.stored, reader.used, reader.at),
         Err(refusal) => Answer::refused(refusal, reader.path),
@@ -107,12 +114,35 @@ struct Head {
     body: usize,
 }
 
+/// An element's substitution and type code, behind its head.
+struct Codes {
+    /// The effective type.
+    of_type: usize,
+    /// Counted from 1, or 0.
+    substitute: u32,
+    /// Of both codes; 0 where the element has neither.
+    bits: usize,
+}
+
 impl Reader<'_> {
-    /// An element and all in it. `end` is the wall around it; `open` counts the rows that may still be opened.
-    fn element(&mut self, name: u32, of_type: usize, end: usize, open: usize) -> Result<(), Refusal> {
+    /// An element and all in it. `particle` is its row, which the root has not; `end` is the wall around it; `open` counts
+    /// the rows that may still be opened.
+    fn element(
+        &mut self,
+        particle: Option<usize>,
+        name: u32,
+        of_type: usize,
+        end: usize,
+        open: usize,
+    ) -> Result<(), Refusal> {
         let open = self.enter(open)?;
         let first = self.at;
         let head = self.head(end)?;
+        let codes = match particle {
+            Some(row) => self.codes(row, of_type, &head).map_err(|number| refusal(number, head.body))?,
+            None => Codes { of_type, substitute: 0, bits: 0 },
+        };
+        let of_type = codes.of_type;
         let row = self.table.type_row(of_type);
         if !row.held {
             if !head.has_length {
@@ -125,6 +155,10 @@ impl Reader<'_> {
         self.store(first, [bim::KIND_START, name, u32::from(head.has_length)], head.body - first)?;
         self.at = head.body;
         self.path.push(name);
+        if codes.bits > 0 {
+            self.store(self.at, [bim::KIND_CAST, of_type as u32, codes.substitute], codes.bits)?;
+            self.at += codes.bits;
+        }
         self.attributes(&row, head.end)?;
         self.content(&row, head.end, open)?;
         if head.has_length && self.at != head.end {
@@ -139,7 +173,7 @@ impl Reader<'_> {
     fn head(&self, end: usize) -> Result<Head, Refusal> {
         let refused = |number| refusal(number, self.at);
         let mut body = self.at;
-        let has_length = match self.mode {
+        let has_length = match self.mode % bim::CASTING {
             bim::MODE_NEVER => false,
             bim::MODE_OPTIONAL => {
                 let flag = fixed(self.payload, end, body, 1).map_err(refused)?;
@@ -157,6 +191,23 @@ impl Reader<'_> {
             return Err(refused(bim::LENGTH));
         }
         Ok(Head { has_length, end: body + length.value as usize, body })
+    }
+
+    /// Substitution code, then type code, of the element of this row: 5 and 14 of each.
+    fn codes(&self, row: usize, of_type: usize, head: &Head) -> Result<Codes, u32> {
+        let substitutes = self.table.substitutes(row);
+        let substitute = read_one_of(substitutes.len() as u32, self.payload, head.end, head.body)?;
+        let default = match substitute.value {
+            0 => of_type,
+            number => substitutes[number as usize - 1][1] as usize,
+        };
+        let derived = if self.mode >= bim::CASTING { self.table.derived(default) } else { &[] };
+        let cast = read_one_of(derived.len() as u32, self.payload, head.end, head.body + substitute.bits)?;
+        let of_type = match cast.value {
+            0 => default,
+            number => derived[number as usize - 1] as usize,
+        };
+        Ok(Codes { of_type, substitute: substitute.value, bits: substitute.bits + cast.bits })
     }
 
     fn attributes(&mut self, row: &Type, end: usize) -> Result<(), Refusal> {
@@ -206,7 +257,7 @@ impl Reader<'_> {
     fn particle(&mut self, row: usize, end: usize, open: usize) -> Result<(), Refusal> {
         match self.table.particle_row(row) {
             // The row is opened with its element, once.
-            Particle::Element { name, of_type } => self.element(name, of_type, end, open),
+            Particle::Element { name, of_type } => self.element(Some(row), name, of_type, end, open),
             Particle::Sequence { first, number } => {
                 let open = self.enter(open)?;
                 (first..first + number).try_for_each(|child| self.particle(child, end, open))

@@ -12,6 +12,21 @@ pub struct Rows {
     pub attributes: Vec<[u32; 3]>,
     /// Four words each.
     pub particles: Vec<[u32; 4]>,
+    /// What a table of form 2 has besides.
+    pub casts: Option<Casts>,
+}
+
+/// Derived types and substitutes. Pairs that are not given are 0, 0.
+#[derive(Clone, Default)]
+pub struct Casts {
+    /// Derived entries, each a type.
+    pub entries: Vec<u32>,
+    /// Name and type each.
+    pub substitutes: Vec<[u32; 2]>,
+    /// First entry and number of them, by type.
+    pub of_types: Vec<[u32; 2]>,
+    /// First substitute and number of them, by particle row.
+    pub of_rows: Vec<[u32; 2]>,
 }
 
 /// Where the held mark of a type stands.
@@ -57,19 +72,22 @@ impl Rows {
     pub fn of(words: &[u32]) -> Self {
         let (header, rows) = words.split_at(bim::HEADER);
         let (types, rows) = rows.split_at(bim::TYPE_ROW * header[1] as usize);
-        let (attributes, particles) = rows.split_at(bim::ATTRIBUTE_ROW * header[2] as usize);
+        let (attributes, rows) = rows.split_at(bim::ATTRIBUTE_ROW * header[2] as usize);
+        let (particles, casts) = rows.split_at(bim::PARTICLE_ROW * header[3] as usize);
         Rows {
             types: types.as_chunks().0.to_vec(),
             attributes: attributes.as_chunks().0.to_vec(),
             particles: particles.as_chunks().0.to_vec(),
+            casts: (header[0] == bim::FORM_CASTS).then(|| Casts::of(casts, header[1] as usize)),
         }
     }
 
     /// The table's words.
     pub fn words(&self) -> Vec<u32> {
-        let header =
-            [bim::TABLE_MARK, self.types.len() as u32, self.attributes.len() as u32, self.particles.len() as u32];
-        [&header[..], &self.types.concat(), &self.attributes.concat(), &self.particles.concat()].concat()
+        let form = if self.casts.is_some() { bim::FORM_CASTS } else { bim::FORM_PLAIN };
+        let header = [form, self.types.len() as u32, self.attributes.len() as u32, self.particles.len() as u32];
+        let casts = self.casts.as_ref().map_or(vec![], |casts| casts.words(self.types.len(), self.particles.len()));
+        [&header[..], &self.types.concat(), &self.attributes.concat(), &self.particles.concat(), &casts].concat()
     }
 
     /// The same rows, and behind them valid ones of every kind that nothing refers to, up to `types` types and `rows`
@@ -110,11 +128,60 @@ impl Rows {
                 _ => occurs(child(&mut rng, 1), rng.below(3) as u32, if rng.one_in(2) { bim::UNBOUNDED } else { 9 }),
             });
         }
+        if let Some(casts) = &mut all.casts {
+            casts.fill(&mut rng, all.types.len() as u32, &all.particles);
+        }
         all
     }
 
-    /// Filled up to the 8,964 words of the largest table.
+    /// Filled up to the largest table of its form: 8,964 words, or 14,598.
     pub fn largest(&self) -> Self {
         self.filled(bim::MOST_TYPES, bim::MOST_PARTICLES)
+    }
+}
+
+impl Casts {
+    /// Those of a right table's words behind its rows.
+    fn of(words: &[u32], types: usize) -> Self {
+        let (counts, words) = words.split_at(2);
+        let (entries, words) = words.split_at(counts[0] as usize);
+        let (substitutes, words) = words.split_at(2 * counts[1] as usize);
+        let (of_types, of_rows) = words.split_at(2 * types);
+        let pairs = |words: &[u32]| words.as_chunks().0.to_vec();
+        Casts {
+            entries: entries.to_vec(),
+            substitutes: pairs(substitutes),
+            of_types: pairs(of_types),
+            of_rows: pairs(of_rows),
+        }
+    }
+
+    fn words(&self, types: usize, particles: usize) -> Vec<u32> {
+        let counts = [self.entries.len() as u32, self.substitutes.len() as u32];
+        let pairs = |given: &[[u32; 2]], number| {
+            let mut pairs = given.to_vec();
+            pairs.resize(number, [0, 0]);
+            pairs.concat()
+        };
+        let (of_types, of_rows) = (pairs(&self.of_types, types), pairs(&self.of_rows, particles));
+        [&counts[..], &self.entries, &self.substitutes.concat(), &of_types, &of_rows].concat()
+    }
+
+    /// Entries and substitutes up to as many as there may be, and pairs of the types and elements that have none.
+    fn fill(&mut self, rng: &mut Rng, types: u32, particles: &[[u32; 4]]) {
+        // From 2T on, which is past what is given, the entries go round all types: those behind a type's own are others.
+        while self.entries.len() < bim::MOST_DERIVATIONS {
+            self.entries.push(self.entries.len() as u32 % types);
+        }
+        while self.substitutes.len() < bim::MOST_SUBSTITUTES {
+            self.substitutes.push([rng.below(65_536) as u32, rng.below(types as usize) as u32]);
+        }
+        for of_type in self.of_types.len() as u32..types {
+            self.of_types.push([2 * types + of_type + 1, rng.below(types.min(9) as usize) as u32]);
+        }
+        for row in &particles[self.of_rows.len()..] {
+            let count = rng.below(9) as u32;
+            self.of_rows.push(if row[0] == bim::ELEMENT { [rng.below(1000) as u32, count] } else { [0, 0] });
+        }
     }
 }

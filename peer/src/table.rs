@@ -9,6 +9,8 @@ pub struct Table<'a> {
     types: usize,
     attributes: usize,
     particles: usize,
+    derivations: usize,
+    substitutes: usize,
 }
 
 /// A type row.
@@ -84,7 +86,7 @@ pub fn check(words: &[u32]) -> Result<(), usize> {
 /// Judges the header words that are there; `Err` is the first at fault.
 pub fn check_header(words: &[u32]) -> Result<(), usize> {
     let good: [fn(u32) -> bool; bim::HEADER] = [
-        |mark| mark == bim::TABLE_MARK,
+        |form| [bim::FORM_PLAIN, bim::FORM_CASTS].contains(&form),
         |types| (1..=bim::MOST_TYPES as u32).contains(&types),
         |attributes| attributes <= bim::MOST_ATTRIBUTES as u32,
         |particles| particles <= bim::MOST_PARTICLES as u32,
@@ -111,13 +113,66 @@ impl<'a> Table<'a> {
         let &[_, types, attributes, particles, ..] = words else {
             return Err(words.len());
         };
-        let table =
-            Table { words, types: types as usize, attributes: attributes as usize, particles: particles as usize };
-        demand(words.len() == table.particle_word(table.particles), words.len())?;
-        (0..table.types).try_for_each(|row| table.check_type(row))?;
-        (0..table.attributes).try_for_each(|row| table.check_attribute(row))?;
-        (0..table.particles).try_for_each(|row| table.check_particle(row))?;
+        let (types, attributes, particles) = (types as usize, attributes as usize, particles as usize);
+        let mut table = Table { words, types, attributes, particles, derivations: 0, substitutes: 0 };
+        let rows = table.particle_word(particles);
+        let mut length = rows;
+        if words[0] == bim::FORM_CASTS {
+            // A count that is not there is 0: the length is wrong then.
+            let count = |at: usize| words.get(at).map_or(0, |&count| count as usize);
+            (table.derivations, table.substitutes) = (count(rows), count(rows + 1));
+            length = table.row_pair(particles);
+        }
+        demand(words.len() == length && length <= bim::MOST_TABLE_WORDS, words.len())?;
+        (0..types).try_for_each(|row| table.check_type(row))?;
+        (0..attributes).try_for_each(|row| table.check_attribute(row))?;
+        (0..particles).try_for_each(|row| table.check_particle(row))?;
+        if length > rows {
+            demand(table.derivations <= bim::MOST_DERIVATIONS, rows)?;
+            demand(table.substitutes <= bim::MOST_SUBSTITUTES, rows + 1)?;
+            table.check_entries()?;
+            (0..types).try_for_each(|of_type| table.check_derived(of_type))?;
+            (0..particles).try_for_each(|row| table.check_substitutes(row))?;
+        }
         Ok(table)
+    }
+
+    /// Derived entries and substitutes.
+    fn check_entries(&self) -> Result<(), usize> {
+        for entry in self.derived_word(0)..self.derived_word(self.derivations) {
+            demand((self.words[entry] as usize) < self.types, entry)?;
+        }
+        for at in (0..self.substitutes).map(|index| self.substitute_word(index)) {
+            demand(self.words[at] <= bim::MOST_NAME, at)?;
+            demand((self.words[at + 1] as usize) < self.types, at + 1)?;
+        }
+        Ok(())
+    }
+
+    /// The pair of a type: its entries are there, each once, and it is none of them.
+    fn check_derived(&self, of_type: usize) -> Result<(), usize> {
+        let at = self.type_pair(of_type);
+        let (first, count) = (self.words[at] as usize, self.words[at + 1] as usize);
+        demand(first <= self.derivations, at)?;
+        demand(count <= self.derivations - first, at + 1)?;
+        let mut met = [false; bim::MOST_TYPES];
+        met[of_type] = true;
+        for entry in first..first + count {
+            let derived = self.words[self.derived_word(entry)] as usize;
+            demand(!met[derived], at + 1)?;
+            met[derived] = true;
+        }
+        Ok(())
+    }
+
+    /// The pair of a particle row: an element's substitutes are there, and no other row has any.
+    fn check_substitutes(&self, row: usize) -> Result<(), usize> {
+        let at = self.row_pair(row);
+        let element = matches!(self.particle_row(row), Particle::Element { .. });
+        let most = if element { self.substitutes } else { 0 };
+        let (first, count) = (self.words[at] as usize, self.words[at + 1] as usize);
+        demand(first <= most, at)?;
+        demand(count <= most - first, at + 1)
     }
 
     fn check_type(&self, row: usize) -> Result<(), usize> {
@@ -201,6 +256,51 @@ impl<'a> Table<'a> {
 
     fn particle_word(&self, row: usize) -> usize {
         self.attribute_word(self.attributes) + bim::PARTICLE_ROW * row
+    }
+
+    fn derived_word(&self, entry: usize) -> usize {
+        self.particle_word(self.particles) + 2 + entry
+    }
+
+    fn substitute_word(&self, index: usize) -> usize {
+        self.derived_word(self.derivations) + 2 * index
+    }
+
+    fn type_pair(&self, of_type: usize) -> usize {
+        self.substitute_word(self.substitutes) + 2 * of_type
+    }
+
+    fn row_pair(&self, row: usize) -> usize {
+        self.type_pair(self.types) + 2 * row
+    }
+
+    /// The pair of words at `at`, zeros in a table that has no pairs.
+    fn pair(&self, at: usize) -> (usize, usize) {
+        match self.words.get(at..at + 2) {
+            Some(pair) => (pair[0] as usize, pair[1] as usize),
+            None => (0, 0),
+        }
+    }
+
+    /// D.
+    pub fn derivations(&self) -> usize {
+        self.derivations
+    }
+
+    /// The types derived from a type, which is below T.
+    #[inline]
+    pub fn derived(&self, of_type: usize) -> &'a [u32] {
+        let (first, count) = self.pair(self.type_pair(of_type));
+        let words = self.words;
+        words.get(self.derived_word(first)..self.derived_word(first + count)).unwrap_or(&[])
+    }
+
+    /// The substitutes of a particle row, which is below P: name and type of each.
+    #[inline]
+    pub fn substitutes(&self, row: usize) -> &'a [[u32; 2]] {
+        let (first, count) = self.pair(self.row_pair(row));
+        let words = self.words;
+        words.get(self.substitute_word(first)..self.substitute_word(first + count)).unwrap_or(&[]).as_chunks().0
     }
 
     /// T.

@@ -169,7 +169,7 @@ fn damaged_list(tally: &mut Tally, rng: &mut Rng) -> Result<(), String> {
         call.events.pop();
     }
     if rng.below(10) == 0 {
-        call.mode = rng.below(5) as u32;
+        call.mode = rng.below(9) as u32;
     }
     match rng.below(30) {
         0 => call.root.1 = gen::edge_word(rng),
@@ -201,7 +201,7 @@ fn damaged_table(tally: &mut Tally, rng: &mut Rng) -> Result<(), String> {
     let read = Read { table: table.clone(), root, payload: gen::noise(rng), event_words: 400, text_room: 100 };
     let read = demands::read(tally, &read)?.answer;
     let events = vec![bim::KIND_START, root.0, 0, 0, bim::KIND_END, 0, 0, 0];
-    let list = Write { table, root, mode: rng.below(4) as u32, events, texts: vec![], room: 40 };
+    let list = Write { table, root, mode: rng.below(8) as u32, events, texts: vec![], room: 40 };
     let written = demands::write(tally, &list)?.0;
     for answer in [read, written] {
         let named = (answer.number == bim::TABLE).then_some(answer.place as usize);
@@ -223,7 +223,7 @@ fn noise(tally: &mut Tally, rng: &mut Rng) -> Result<(), String> {
     two_tables(tally, &first, &call)?;
     // The same bits as a list.
     let events: Vec<_> = (0..4 * rng.below(6)).map(|_| rng.below(9) as u32).collect();
-    let mode = rng.below(3) as u32;
+    let mode = rng.below(7) as u32;
     demands::write(tally, &Write { table: call.table, root, mode, events, texts: vec![], room: 40 }).map(drop)
 }
 

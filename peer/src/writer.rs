@@ -5,7 +5,7 @@
 use crate::answer::{refusal, Answer, Path, Refusal};
 use crate::bim;
 use crate::bits::{BitWriter, Code};
-use crate::codes::{write5, write_choice, write_occurs};
+use crate::codes::{write5, write_choice, write_occurs, write_one_of};
 use crate::reader::check_root;
 use crate::table::{Particle, Table, Type};
 use crate::utf8;
@@ -51,7 +51,10 @@ fn answer(written: Result<Answer, Refusal>, payload: &mut [u8]) -> Answer {
 /// What can be refused before the list is looked at: 1, 2, 22.
 fn check_call(table: &[u32], root_name: u32, root_type: u32, mode: u32) -> Result<Table<'_>, Refusal> {
     let table = check_root(table, root_name, root_type)?;
-    if mode > bim::MODE_ALWAYS {
+    if mode >= 2 * bim::CASTING
+        || mode % bim::CASTING > bim::MODE_ALWAYS
+        || mode >= bim::CASTING && table.derivations() == 0
+    {
         return Err(refusal(bim::WRITE_MODE, 0));
     }
     Ok(table)
@@ -76,7 +79,7 @@ fn write_into(
 ) -> Result<Answer, Refusal> {
     let count = events.len() / bim::EVENT_WORDS;
     let mut walk = Walk { table, mode, events, texts, next: 0, used: 0, bits: 8, pieces: Vec::with_capacity(count) };
-    walk.element(root_name, root_type as usize, bim::MOST_OPEN)?;
+    walk.element(None, root_name, root_type as usize, bim::MOST_OPEN)?;
     if walk.next < count {
         let number = if walk.event()?.kind == bim::KIND_BLANK { bim::BLANK } else { bim::NO_READING };
         return Err(refusal(number, walk.next));
@@ -89,7 +92,10 @@ fn write_into(
         return Err(refusal(bim::PAYLOAD_ROOM, 0));
     }
     let mut out = BitWriter::new(payload);
-    out.put(Code::new(u32::from(bim::MODE_BYTES[mode as usize]), 8));
+    // The two bits of length coding lie on top; the other modes' bytes are that of mode 0 besides.
+    let casting = if mode >= bim::CASTING { bim::CASTING_BYTE } else { 0 };
+    let mode_byte = (mode % bim::CASTING) << 6 | u32::from(casting | bim::MODE_NEVER_BYTE);
+    out.put(Code::new(mode_byte, 8));
     let mut rest = texts;
     for piece in &walk.pieces {
         out.put(piece.code);
@@ -131,29 +137,35 @@ struct Walk<'a> {
 }
 
 impl Walk<'_> {
-    fn element(&mut self, name: u32, of_type: usize, open: usize) -> Result<(), Refusal> {
+    /// An element and all in it; the root has no row of its own, and no codes.
+    fn element(&mut self, particle: Option<usize>, name: u32, of_type: usize, open: usize) -> Result<(), Refusal> {
         let open = self.enter(open)?;
-        let row = self.table.type_row(of_type);
+        let index = self.next;
         let start = self.take(bim::KIND_START, |event| {
-            let flag_good = match self.mode {
+            let flag_good = match self.mode % bim::CASTING {
                 bim::MODE_NEVER => event.q == 0,
                 bim::MODE_OPTIONAL => event.q <= 1,
                 _ => event.q == 1,
             };
             event.p == name && flag_good
         })?;
-        if !row.held {
-            return self.refuse(bim::NOT_HELD);
-        }
         let piece = self.pieces.len();
         self.put(Code::NONE);
         let before = self.bits;
+        let of_type = match particle {
+            Some(row) => self.cast(row, of_type)?,
+            None => of_type,
+        };
+        let row = self.table.type_row(of_type);
+        if !row.held {
+            return Err(refusal(bim::NOT_HELD, index));
+        }
         self.attributes(&row)?;
         self.content(&row, open)?;
         self.take(bim::KIND_END, |event| event.p == 0 && event.q == 0)?;
         self.put(Code::NONE);
 
-        let flag = if self.mode == bim::MODE_OPTIONAL { Code::new(start.q, 1) } else { Code::NONE };
+        let flag = if self.mode % bim::CASTING == bim::MODE_OPTIONAL { Code::new(start.q, 1) } else { Code::NONE };
         let length = if start.q == 1 {
             // 2,048 texts of 4,095 bytes stay far below 2^32 bits.
             write5((self.bits - before) as u32)
@@ -164,6 +176,33 @@ impl Walk<'_> {
         self.pieces[piece].code = code;
         self.bits += code.width as usize;
         Ok(())
+    }
+
+    /// The effective type of this row's element, by the event that tells it where the row has codes: 18, 19, 20.
+    fn cast(&mut self, row: usize, of_type: usize) -> Result<usize, Refusal> {
+        let derived_from = |of_type| if self.mode >= bim::CASTING { self.table.derived(of_type) } else { &[] };
+        let substitutes = self.table.substitutes(row);
+        if substitutes.is_empty() && derived_from(of_type).is_empty() {
+            return Ok(of_type);
+        }
+        let event = self.take(bim::KIND_CAST, |_| true)?;
+        let Some(substitute) = write_one_of(substitutes.len() as u32, event.q) else {
+            return self.refuse(bim::OUTSIDE_ROW);
+        };
+        let default = match event.q {
+            0 => of_type as u32,
+            number => substitutes[number as usize - 1][1],
+        };
+        let derived = derived_from(default as usize);
+        let number = match derived.iter().position(|&entry| entry == event.p) {
+            _ if event.p == default => 0,
+            Some(index) => index as u32 + 1,
+            None => return self.refuse(bim::OUTSIDE_ROW),
+        };
+        // The number is that of an entry, so that there is a code.
+        let cast = write_one_of(derived.len() as u32, number).unwrap_or(Code::NONE);
+        self.put(substitute.then(cast));
+        Ok(event.p as usize)
     }
 
     fn attributes(&mut self, row: &Type) -> Result<(), Refusal> {
@@ -210,7 +249,7 @@ impl Walk<'_> {
 
     fn particle(&mut self, row: usize, open: usize) -> Result<(), Refusal> {
         match self.table.particle_row(row) {
-            Particle::Element { name, of_type } => self.element(name, of_type, open),
+            Particle::Element { name, of_type } => self.element(Some(row), name, of_type, open),
             Particle::Sequence { first, number } => {
                 let open = self.enter(open)?;
                 (first..first + number).try_for_each(|child| self.particle(child, open))

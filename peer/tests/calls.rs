@@ -37,6 +37,10 @@ faults! {
     BlankShort,
     /// Texts of a blanked element are kept.
     BlankTexts,
+    /// Substitutes are counted from 0.
+    SubstituteFrom0,
+    /// Codes that say no have no event.
+    CastLeftOut,
     /// What lies behind the payload is read.
     ReadsOn,
     /// A refused writing leaves a byte.
@@ -49,13 +53,19 @@ faults! {
     LateBlank,
     /// A list over 2,048 events has its place one off.
     LongListPlace,
+    /// A type that is not derived is 18.
+    NotDerived,
 }
 use Fault::*;
 
 struct StandIn(Fault);
 
+fn first_of(kind: u32, events: &mut [u8]) -> Option<&mut [u8]> {
+    events.chunks_exact_mut(16).find(|event| event[..4] == kind.to_be_bytes())
+}
+
 fn blank_in(events: &mut [u8]) -> Option<&mut [u8]> {
-    events.chunks_exact_mut(16).find(|event| event[..4] == bim::KIND_BLANK.to_be_bytes())
+    first_of(bim::KIND_BLANK, events)
 }
 
 /// Reads where a faulty library would. The bench lends every buffer between guards, so that the byte is there.
@@ -117,6 +127,17 @@ impl Calls for StandIn {
                     blank[15] = blank[15].wrapping_sub(1);
                 }
             }
+            SubstituteFrom0 => {
+                if let Some(cast) = first_of(bim::KIND_CAST, events) {
+                    cast[11] = cast[11].saturating_sub(1);
+                }
+            }
+            CastLeftOut => {
+                let cast = events.chunks_exact(16).position(|event| event[..4] == bim::KIND_CAST.to_be_bytes());
+                if let Some(at) = cast.filter(|&at| events[16 * at + 11] == 0) {
+                    events.copy_within(16 * at + 16.., 16 * at);
+                }
+            }
             BlankTexts if number == bim::ACCEPTED && blank_in(events).is_some() => {
                 let used = u32::from_be_bytes(area[12..16].try_into().unwrap()) as usize;
                 if let Some(byte) = texts.get_mut(used) {
@@ -146,6 +167,12 @@ impl Calls for StandIn {
             }
             LateBlank if number == bim::BLANK && area[..4] == ((events.len() / 16 - 1) as u32).to_be_bytes() => {
                 number = bim::NO_READING
+            }
+            NotDerived if number == bim::OUTSIDE_ROW => {
+                let at = 16 * u32::from_be_bytes(area[..4].try_into().unwrap()) as usize;
+                if events[at..at + 4] == bim::KIND_CAST.to_be_bytes() {
+                    number = bim::NO_READING;
+                }
             }
             LongListPlace if number == bim::NO_READING && events.len() / 16 > bim::MOST_EVENTS => {
                 area[3] = area[3].wrapping_add(1)

@@ -6,7 +6,9 @@ use common::{worked_table, WORKED_PAYLOAD};
 use peer::answer::{refusal, Answer, Path};
 use peer::bim;
 use peer::call::Read;
+use peer::cases;
 use peer::demands::{self, judge_pair, Outcome, Pair, Tally};
+use peer::rows::held_word;
 use peer::trials::{trial, KINDS};
 
 #[test]
@@ -20,6 +22,33 @@ fn the_demands_hold_for_some_thousand_seeds() {
     }
     assert!(!kinds.contains(&0), "{kinds:?}");
     assert!(tally.met.has_met(&[("reader", &[bim::ACCEPTED]), ("writer", &[bim::ACCEPTED])]) && tally.blanks > 0);
+}
+
+#[test]
+fn demand_3_goes_by_effective_types() {
+    let cast = cases::cast();
+    let without = |of_type: usize| {
+        let mut table = cast.table.clone();
+        table[held_word(of_type)] = 0;
+        table
+    };
+    let read =
+        |table: &[u32]| demands::read(&mut Tally::default(), &Read { table: table.to_vec(), ..cast.clone() }).unwrap();
+    let second = read(&cast.table);
+    let judge = |table: &[u32], first: &Outcome| judge_pair(table, &cast.table, cast.root, first, &second);
+    // Element 11 is of type 1 and cast to type 2; element 12 is of type 3, and its substitute of type 1.
+    let first = read(&without(2));
+    assert_eq!(judge(&without(2), &first), Ok(Pair::Blanked));
+    assert_eq!(judge(&without(3), &read(&without(3))), Ok(Pair::Neither), "no element is of type 3 in effect");
+    assert!(judge(&without(2), &second).is_err(), "nothing blanked");
+    assert!(judge(&without(3), &first).is_err(), "blanked, and held");
+    let blank = first.list().iter().position(|event| event[0] == bim::KIND_BLANK).unwrap();
+    let mut by_row = first.clone();
+    by_row.events[4 * blank + 2] = 1;
+    assert!(judge(&without(2), &by_row).is_err(), "a Blank of the row's type");
+    let mut codes_left = first.clone();
+    codes_left.events[4 * blank + 3] -= 3;
+    assert!(judge(&without(2), &codes_left).is_err(), "a Blank without the bits of its codes");
 }
 
 #[test]

@@ -119,10 +119,14 @@ fn a_table_of_odd_bytes_is_1_at_its_whole_words_after_its_header() {
     assert_eq!(check(&table[..15]), (1, 3));
     // The second header word is not whole, so it is not judged.
     assert_eq!(check(&[0, 0, 0, 1, 0xff]), (1, 1));
-    assert_eq!(check(&[0, 0, 0, 2, 0xff]), (1, 0));
-    let mut large = big_endian(&[1, 256, 1024, 1024]);
-    large.resize(4 * 8965, 0);
-    assert_eq!(check(&large), (1, 8965));
+    assert_eq!(check(&[0, 0, 0, 2, 0xff]), (1, 1));
+    assert_eq!(check(&[0, 0, 0, 3, 0xff]), (1, 0));
+    // A word over the most: of no row behind the header is anything said.
+    let mut large = big_endian(&[2, 256, 1024, 1024, 7]);
+    large.resize(4 * 14_599, 0);
+    assert_eq!(check(&large), (1, 14_599));
+    large[0] = 1;
+    assert_eq!(check(&large), (1, 0));
 }
 
 #[test]

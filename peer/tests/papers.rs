@@ -110,9 +110,9 @@ fn worked_example_as_the_listing_program_prints_it() {
     assert_eq!(listing(&input), "refused 17 68\n");
     input.resize(head + 8193, 0);
     assert_eq!(listing(&input), "refused 3 0\n");
-    // 8,965 words, all there, are over the limit whatever their header says; 8,964 are the table check's to judge.
-    for (count, place) in [(8965_u32, 0), (8964, 8964)] {
-        let mut many = vec![0; 4 + 4 * 8965 + 8];
+    // 14,599 words, all there, are over the limit whatever their header says; 14,598 are the table check's to judge.
+    for (count, place) in [(14_599_u32, 0), (14_598, 14_598)] {
+        let mut many = vec![0; 4 + 4 * 14_599 + 8];
         many[..4].copy_from_slice(&count.to_be_bytes());
         many[7] = 1;
         many[11] = 1;

@@ -1,17 +1,19 @@
 -- DEMAND 3 of `bim_read`, both halves.
 use Prim.Native.Nat.{ℕ, _+_, _*_, _/_, _≤_}
 use mathlib.Core.Path.{_≡_, refl, sym, ap, _∙_}
-use mathlib.Core.Bool.{Bool}
+use mathlib.Core.Bool.{Bool, true, false, cond}
 use mathlib.Core.List.{List, [], _∷_, _++_}
 use mathlib.Core.Option.{Option, none, some}
 use native.Mathlib.Omega.{arith}
 use lib.ListN.{length, length-append}
+use Rattle.numbers.specs.Kind as kinds
 use Rattle.numbers.specs.Limit.{mostNames, mostWord}
 use Rattle.table.specs.First.Verdict.{right}
 use Rattle.buffers.specs.Bytes.{wordsOf}
-use Rattle.model.specs.Model.{Mark, Nodes, Path, Plan}
-use Rattle.model.specs.Items.{Mode}
-use Rattle.model.specs.Grammar.{Is, nothing, an-item, an-element, a-blank}
+use Rattle.model.specs.Model.{event, Types, codes, Mark, Nodes, Path, Plan}
+use Rattle.model.specs.Model.Nodes.{leaf}
+use Rattle.model.specs.Items.{Lengths, Mode}
+use Rattle.model.specs.Grammar.{castIn, Is, nothing, an-item, an-element, a-blank}
 use Rattle.model.proofs.Plain.{item-plain}
 use Rattle.theorems.specs.Less.{outermost, replaced, firstBare}
 use Rattle.theorems.specs.Open.{StillOpen, Excuse}
@@ -39,20 +41,31 @@ unfolding model.saysLess less outcome eventsBack textsLeft
 tells-less e x mode none tree used = refl
 tells-less e x mode (some (m, π)) tree used = refl
 
+-- the codes' event is no Blank
+open-past-cast : {new : ℕ → Bool} {p : ℕ} {ρ π : Path} (y : Types) (at t k n : ℕ) (i : Nodes) → StillOpen new p ρ π (castIn y at t k n i) → StillOpen new p ρ π i
+unfolding castIn
+open-past-cast {new} {p} {ρ} {π} y at t k n i = go (codes y)
+  where
+    go : (u : Bool) → StillOpen new p ρ π (cond u (leaf at (event kinds.cast t k n) [] i) i) → StillOpen new p ρ π i
+    go true (StillOpen.here e f b lo hi) = absurd (omega arith)
+    go true (StillOpen.past o) = o
+    go false o = o
+
 -- a place in an element that a tree shows as a Blank is one of the tree's
-open-within : {mode : Mode} {held : ℕ → Bool} {P : Plan} {at : ℕ} {ns : Nodes} {w : List ℕ}
+open-within : {mode : Lengths} {held : ℕ → Bool} {P : Plan} {at : ℕ} {ns : Nodes} {w : List ℕ}
     (new : ℕ → Bool) (p : ℕ) (ρ π : Path) → Is mode held P at ns w → StillOpen new p ρ π ns
     → p ≤ at + length w
 open-within new p ρ π (an-item {i} {v} {w} {x} h j) (StillOpen.here k n b lo hi) = absurd (item-plain i v (length w) k)
 open-within new p ρ π (an-item {i} {v} {w} {x} h j) (StillOpen.past o) =
     let r = open-within new p ρ π j o in omega (arith, length-append w x)
-open-within new p ρ π (an-element {s} {w} {x} h z g m j) (StillOpen.inside o) =
-    let r = open-within new p ρ _ g o in omega (arith, length-append s w, length-append (s ++ w) x)
-open-within new p ρ π (an-element {s} {w} {x} h z g m j) (StillOpen.beyond o) =
-    let r = open-within new p ρ π j o in omega (arith, length-append (s ++ w) x)
-open-within new p ρ π (a-blank {s} {x} w h z u j) (StillOpen.here k n b lo hi) = omega (arith, length-append (s ++ w) x)
-open-within new p ρ π (a-blank {s} {x} w h z u j) (StillOpen.past o) =
-    let r = open-within new p ρ π j o in omega (arith, length-append (s ++ w) x)
+open-within new p ρ π (an-element {t} {k} {y} {at} {s} {c} {w} {x} {i} h d z g m j) (StillOpen.inside o) =
+    let r = open-within new p ρ _ g (open-past-cast y (at + length s) t k (length c) i o) in
+    omega (arith, length-append s c, length-append c w, length-append s (c ++ w), length-append (s ++ (c ++ w)) x)
+open-within new p ρ π (an-element {s} {c} {w} {x} h d z g m j) (StillOpen.beyond o) =
+    let r = open-within new p ρ π j o in omega (arith, length-append (s ++ (c ++ w)) x)
+open-within new p ρ π (a-blank {s} {c} {x} w h d z u j) (StillOpen.here k n b lo hi) = omega (arith, length-append (s ++ (c ++ w)) x)
+open-within new p ρ π (a-blank {s} {c} {x} w h d z u j) (StillOpen.past o) =
+    let r = open-within new p ρ π j o in omega (arith, length-append (s ++ (c ++ w)) x)
 
 word-small : (p : ℕ) → p ≤ mostWord → placeWord p ≡ p
 word-small p h = omega arith

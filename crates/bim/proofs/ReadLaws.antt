@@ -11,7 +11,8 @@ use Rattle.table.specs.First.{Verdict}
 use Rattle.table.specs.First.Verdict.{right, wrong}
 use Rattle.table.specs.Valid.{verdict}
 use Rattle.table.specs.Rows.{heldOf, tableOf}
-use Rattle.model.specs.Model.{events, rooted}
+use Rattle.model.specs.Model.{events}
+use Rattle.model.specs.Entries.{planOf}
 use Rattle.model.specs.Whole.{Reply, Outcome, outcome, reading, afterVerdict, afterAsked, asked, payload, eventsLeft, textsLeft, eventWords, filled}
 use Rattle.model.specs.Whole.Reply.{accepted, declined}
 use Rattle.model.proofs.Entries.{words-length as event-words}
@@ -30,7 +31,7 @@ same-room : (l : List ℕ) (name type : ℕ) (s : List ℕ) (e x : ℕ) → read
 unfolding reading
 same-room l name type s e x =
     let h : min (e / 4 / 4) mostEvents ≡ min (slotWords e / 4) mostEvents = omega arith in
-    ap (λ (n : ℕ). afterVerdict (verdict l) (afterAsked (asked (tableOf l .types) name type) (payload (heldOf l) (rooted (tableOf l) name type) s (record { slots = n; bytes = x })))) h
+    ap (λ (n : ℕ). afterVerdict (verdict l) (afterAsked (asked (tableOf l .types) name type) (payload (heldOf l) (planOf l name type) (tableOf l .derivations) s (record { slots = n; bytes = x })))) h
 
 -- what the reading of the words lent tells of the reading of the bytes
 pub record Read (R R′ : Reply) (k m e x : ℕ) : Type 0 where

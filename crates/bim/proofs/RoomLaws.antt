@@ -6,9 +6,9 @@ use mathlib.Core.List.{List}
 use native.Mathlib.Omega.{arith}
 use Rattle.numbers.specs.Refusal.{eventRoom}
 use Rattle.model.specs.Model.{Plan, Nodes, Path}
-use Rattle.model.specs.Items.{Mode}
-use Rattle.model.specs.Read.{Room, roomLess, lessOne}
-use Rattle.model.proofs.Readings.{Extent, Goes, an-item, an-element, a-blank, nothing, more, Stop, too-deep, no-item, no-bytes, no-slot, no-head, unheld, no-start, no-blank, Refuses, here, inside, unmet, no-end, later}
+use Rattle.model.specs.Items.{Lengths}
+use Rattle.model.specs.Read.{Room, roomLess}
+use Rattle.model.proofs.Readings.{Extent, roomIn, Goes, an-item, an-element, a-blank, nothing, more, Stop, too-deep, no-item, no-bytes, no-slot, no-head, unheld, no-start, no-blank, Refuses, here, no-codes, no-cast, inside, unmet, no-end, later}
 use Rattle.model.specs.Whole.{Reply, outcome, roomOf, reading}
 use Rattle.model.proofs.Replies.{Replies, no-table, no-root, no-mode, stopped, unpadded, whole, reading-replies, replies-reading}
 
@@ -17,13 +17,13 @@ record Wider (r r′ : Room) : Type 0 where
   slots : r .slots ≤ r′ .slots
   bytes : r .bytes ≡ r′ .bytes
 
-module _ {b : ℕ → ℕ} {mode : Mode} {held : ℕ → Bool} where
+module _ {b : ℕ → ℕ} {mode : Lengths} {held : ℕ → Bool} where
   goes-wider : {x : Extent} {P Q : Plan} {r : Room} {wall at q : ℕ} {ns : Nodes} → Goes b mode held x P r wall at ns q Q
       → (r′ : Room) → Wider r r′ → Goes b mode held x P r′ wall at ns q Q
   goes-wider (an-item e h k) r′ w = an-item {r = r′} e (omega arith) (omega arith)
-  goes-wider (an-element x g e h) r′ w =
-      an-element {r = r′} x (goes-wider g (lessOne r′) (record { slots = omega arith; bytes = w .bytes })) e (omega arith)
-  goes-wider (a-blank n e z h) r′ w = a-blank {r = r′} n e z (omega arith)
+  goes-wider (an-element x z g e h) r′ w =
+      an-element {r = r′} x z (goes-wider g (roomIn b mode held x r′) (record { slots = omega arith; bytes = omega arith })) e (omega arith)
+  goes-wider (a-blank n x e z h) r′ w = a-blank {r = r′} n x e z (omega arith)
   goes-wider nothing r′ w = nothing
   goes-wider (more {ns} f g) r′ w =
       more (goes-wider f r′ w) (goes-wider g (roomLess r′ ns) (record { slots = omega arith; bytes = omega arith }))
@@ -35,18 +35,20 @@ module _ {b : ℕ → ℕ} {mode : Mode} {held : ℕ → Bool} where
   stop-wider (no-bytes e h) r′ w z = no-bytes e (omega arith)
   stop-wider (no-slot e h k) r′ w z = absurd (z refl)
   stop-wider (no-head e) r′ w z = no-head e
-  stop-wider (unheld e y) r′ w z = unheld e y
-  stop-wider (no-start x k) r′ w z = absurd (z refl)
-  stop-wider (no-blank n e y k) r′ w z = absurd (z refl)
+  stop-wider (unheld x e y) r′ w z = unheld x e y
+  stop-wider (no-start x y k) r′ w z = absurd (z refl)
+  stop-wider (no-blank n x e y k) r′ w z = absurd (z refl)
 
   refuses-wider : {P : Plan} {r : Room} {π ρ : Path} {wall at n p : ℕ} → Refuses b mode held P r π wall at n p ρ
       → (r′ : Room) → Wider r r′ → (n ≡ eventRoom → ⊥) → Refuses b mode held P r′ π wall at n p ρ
   refuses-wider (here x) r′ w z = here (stop-wider x r′ w z)
-  refuses-wider (inside x s d) r′ w z =
-      inside {r = r′} x (omega arith) (refuses-wider d (lessOne r′) (record { slots = omega arith; bytes = w .bytes }) z)
-  refuses-wider (unmet x s g e) r′ w z =
-      unmet {r = r′} x (omega arith) (goes-wider g (lessOne r′) (record { slots = omega arith; bytes = w .bytes })) e
-  refuses-wider (no-end x s g e h) r′ w z = absurd (z refl)
+  refuses-wider (no-codes h e c) r′ w z = no-codes h e c
+  refuses-wider (no-cast x y c s) r′ w z = absurd (z refl)
+  refuses-wider (inside x y s d) r′ w z =
+      inside {r = r′} x y (omega arith) (refuses-wider d (roomIn b mode held x r′) (record { slots = omega arith; bytes = omega arith }) z)
+  refuses-wider (unmet x y s g e) r′ w z =
+      unmet {r = r′} x y (omega arith) (goes-wider g (roomIn b mode held x r′) (record { slots = omega arith; bytes = omega arith })) e
+  refuses-wider (no-end x y s g e h) r′ w z = absurd (z refl)
   refuses-wider (later {ns} f d) r′ w z =
       later (goes-wider f r′ w) (refuses-wider d (roomLess r′ ns) (record { slots = omega arith; bytes = omega arith }) z)
 

@@ -1,5 +1,5 @@
 -- A table whose length is wrong, judged by its first four words: what the calls lend of it to the word functions.
-use Prim.Native.Nat.{ℕ, zero, suc, _/_, _%_, _≤_, _<_, min}
+use Prim.Native.Nat.{ℕ, zero, suc, _+_, _/_, _%_, _≤_, _<_, min}
 use mathlib.Core.Path.{_≡_, refl, sym, ap, subst, _∙_}
 use mathlib.Core.List.{List, [], _∷_, _++_}
 use mathlib.Core.Bool.{Bool, true, false, cond, _&&_, true≢false}
@@ -10,11 +10,12 @@ use lib.ListN.{length, take, drop, getD, length-take, List·getD-eq-default}
 use lib.Seq.{take-all}
 use Rattle.numbers.specs.Limit.{mostTypes, mostAttributes, mostParticles, mostTableWords}
 use Rattle.signed.proofs.Laws.{ordered}
-use Rattle.table.specs.Words.{sizeOf, wordAt, typesIn, attributesIn, particlesIn}
-use Rattle.table.specs.First.{Verdict, first, judge, _then_}
+use Rattle.table.specs.Words.{plainForm, castForm, wordAt, typesIn}
+use Rattle.table.specs.First.{Verdict, first, _then_}
 use Rattle.table.specs.First.Verdict.{right, wrong}
 use Rattle.table.proofs.FirstLaws.{then-right, then-wrong, right-every, wrong-fails}
-use Rattle.table.specs.Valid.{given, headerWords, verdict, verdictFrom}
+use Rattle.table.specs.Valid.{given, headerWords, Sized, verdict, verdictFrom}
+use Rattle.table.proofs.Laws.{unsized, rows-within}
 use Rattle.buffers.specs.Bytes.{wordsOf}
 use Rattle.buffers.proofs.BytesLaws.{words-length, loaded-front}
 use Rattle.bim.specs.Calls.{tableVerdict}
@@ -45,23 +46,9 @@ given-most l i least most e =
 
 -- where every header word that is given is right
 module _ (l : List ℕ) (e : first 0 (headerWords l) ≡ right) where
-  pub size-most : sizeOf (typesIn l) (attributesIn l) (particlesIn l) ≤ mostTableWords
-  unfolding headerWords
-  size-most =
-      let h = right-every 0 (headerWords l) e in
-      let t = given-most l 1 1 mostTypes (h .1 .0) in
-      let a = given-most l 2 0 mostAttributes (h .1 .1 .0) in
-      let p = given-most l 3 0 mostParticles (h .1 .1 .1 .0) in
-      omega arith
-
   some-type : 1 < length l → 1 ≤ typesIn l
   unfolding headerWords
   some-type h = given-within l 1 1 mostTypes (right-every 0 (headerWords l) e .1 .0) h .0
-
-  -- another length is named at the number of words
-  unsized : (length l ≡ sizeOf (typesIn l) (attributesIn l) (particlesIn l) → ⊥) → verdict l ≡ wrong (length l)
-  unfolding verdict verdictFrom judge _then_
-  unsized n = then-right _ _ e ∙ rw (ne-eqb _ _ n)
 
 -- the header's verdict comes first
 header-first : (l : List ℕ) (i : ℕ) → first 0 (headerWords l) ≡ wrong i → verdict l ≡ wrong i
@@ -78,7 +65,7 @@ unfolding headerWords
 header-given l i e = let f = wrong-fails 0 (headerWords l) i e in at (f .0) (f .1 .fails) (omega (arith, f .1 .place))
   where
     at : (j : ℕ) → getD (headerWords l) j true ≡ false → i ≡ j → i < length l
-    at zero g k = rw k (given-false l 0 1 1 g)
+    at zero g k = rw k (given-false l 0 plainForm castForm g)
     at (suc zero) g k = rw k (given-false l 1 1 mostTypes g)
     at (suc (suc zero)) g k = rw k (given-false l 2 0 mostAttributes g)
     at (suc (suc (suc zero))) g k = rw k (given-false l 3 0 mostParticles g)
@@ -94,7 +81,7 @@ unfolding _then_
 too-long l h = go (first 0 (headerWords l)) refl
   where
     go : (v : Verdict) → first 0 (headerWords l) ≡ v → verdict l ≡ headed l (length l)
-    go right e = unsized l e (λ z. let m = size-most l e in omega arith) ∙ sym (rw e)
+    go right e = unsized l e (λ z. let m = z .few in omega arith) ∙ sym (rw e)
     go (wrong i) e = header-first l i e ∙ sym (rw e)
 
 -- So four words are enough: they are no table, and tell the header's fault or the length's.
@@ -107,8 +94,11 @@ unfolding _then_
 four-words l m = go (first 0 (headerWords l)) refl
   where
     -- with a type or without, the size is over four or the words are fewer
-    no-table : first 0 (headerWords (take 4 l)) ≡ right → length (take 4 l) ≡ sizeOf (typesIn (take 4 l)) (attributesIn (take 4 l)) (particlesIn (take 4 l)) → ⊥
-    no-table f z = let t = some-type (take 4 l) f (omega arith) in omega (arith, length-take 4 l)
+    no-table : first 0 (headerWords (take 4 l)) ≡ right → Sized (take 4 l) → ⊥
+    no-table f z =
+        let least = rows-within (take 4 l) z in
+        let t = some-type (take 4 l) f (omega arith) in
+        omega (arith, length-take 4 l)
 
     go : (v : Verdict) → first 0 (headerWords l) ≡ v → (i : ℕ) × Four l m i
     go right e =

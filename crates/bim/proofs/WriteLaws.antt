@@ -17,7 +17,7 @@ use Rattle.table.specs.First.Verdict.{right, wrong}
 use Rattle.table.specs.Valid.{verdict}
 use Rattle.table.specs.Rows.{tableOf}
 use Rattle.model.specs.Items.{Mode}
-use Rattle.model.specs.Whole.{Made, outcomeMade, payloadLeft, writing, verdictMade, orUnmade, asked, modeAsked, shaped}
+use Rattle.model.specs.Whole.{Made, outcomeMade, payloadLeft, writing, verdictMade, orUnmade, asked, modeNumber, modesFor, modeBy, modeAsked, shaped}
 use Rattle.model.specs.Whole.Made.{unmade}
 use Rattle.buffers.specs.Bytes.{wordsOf}
 use Rattle.buffers.proofs.BytesLaws.{words-length}
@@ -33,12 +33,19 @@ guards-two true true n e = let z : _≡_ {A = ℕ} 0 1 = cc in absurd (omega ari
 guards-two true false n e = cc
 guards-two false v n e = cc
 
-mode-fault : (mode n : ℕ) → modeAsked mode ≡ fault n → n ≡ refusal.writeMode
+by-fault : (l : List Mode) (mode n : ℕ) → modeBy modeNumber l mode refusal.writeMode ≡ fault n → n ≡ refusal.writeMode
+unfolding modeBy
+by-fault [] mode n e = cc
+by-fault (m ∷ l) mode n e = go (eqb mode (modeNumber m)) e (by-fault l mode n)
+  where
+    go : (t : Bool) → cond t (got m) (modeBy modeNumber l mode refusal.writeMode) ≡ fault n
+        → (modeBy modeNumber l mode refusal.writeMode ≡ fault n → n ≡ refusal.writeMode) → n ≡ refusal.writeMode
+    go true e f = let z : _≡_ {A = ℕ} 0 1 = cc in absurd (omega arith)
+    go false e f = f e
+
+mode-fault : (D mode n : ℕ) → modeAsked D mode ≡ fault n → n ≡ refusal.writeMode
 unfolding modeAsked
-mode-fault zero n e = let z : _≡_ {A = ℕ} 0 1 = cc in absurd (omega arith)
-mode-fault (suc zero) n e = let z : _≡_ {A = ℕ} 0 1 = cc in absurd (omega arith)
-mode-fault (suc (suc zero)) n e = let z : _≡_ {A = ℕ} 0 1 = cc in absurd (omega arith)
-mode-fault (suc (suc (suc k))) n e = cc
+mode-fault D mode n e = by-fault (modesFor D) mode n e
 
 -- a list of another shape than the words that stand for it
 module _ (l : List ℕ) (name type mode : ℕ) where
@@ -75,12 +82,12 @@ module _ (l : List ℕ) (name type mode : ℕ) where
 
   pub unlisted-is : Unlisted
   unfolding unlisted verdictMade orUnmade
-  unlisted-is = by-verdict (verdict l) (asked (tableOf l .types) name type) (modeAsked mode) refl refl refl
+  unlisted-is = by-verdict (verdict l) (asked (tableOf l .types) name type) (modeAsked (tableOf l .derivations) mode) refl refl refl
     where
-      by-verdict : (v : Verdict) (a : Res Unit) (m : Res Mode) → verdict l ≡ v → asked (tableOf l .types) name type ≡ a → modeAsked mode ≡ m → Unlisted
+      by-verdict : (v : Verdict) (a : Res Unit) (m : Res Mode) → verdict l ≡ v → asked (tableOf l .types) name type ≡ a → modeAsked (tableOf l .derivations) mode ≡ m → Unlisted
       by-verdict (wrong i) a m e f g = early 1 i (λ z. omega arith) (λ n. rw e)
       by-verdict right (fault k) m e f g = early k 0 (λ z. omega (arith, asked-two (tableOf l .types) k f)) (λ n. rw (e, f))
-      by-verdict right (got u) (fault k) e f g = early k 0 (λ z. omega (arith, mode-fault mode k g)) (λ n. rw (e, f, g))
+      by-verdict right (got u) (fault k) e f g = early k 0 (λ z. omega (arith, mode-fault (tableOf l .derivations) mode k g)) (λ n. rw (e, f, g))
       by-verdict right (got u) (got m) e f g = late (λ n. rw (e, f, g))
 
 -- what the writing of the words lent tells of the writing of the bytes

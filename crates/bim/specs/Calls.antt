@@ -72,7 +72,7 @@ readCall t name type s e x area =
 unfoldable pub unlisted : List ℕ → ℕ → ℕ → ℕ → ℕ → Made
 unlisted l name type mode n =
     verdictMade (verdict l)
-    (orUnmade (asked (tableOf l .types) name type) (λ u. orUnmade (modeAsked mode) (λ m. unmade noReading n)))
+    (orUnmade (asked (tableOf l .types) name type) (λ u. orUnmade (modeAsked (tableOf l .derivations) mode) (λ m. unmade noReading n)))
 
 unfoldable pub writeList : List ℕ → ℕ → ℕ → ℕ → List ℕ → List ℕ → ℕ → Made
 writeList l name type mode e x room =

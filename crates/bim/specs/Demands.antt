@@ -3,7 +3,7 @@
 -- Bits), so that what is said of these is said of the calls. proofs/Demands.antt has the theorems `demand1`,
 -- `demand2`, `demand3`. An area of another size than areaBytes (bitsArea of the bit reader's calls) is demand 1's:
 -- nothing is accepted with it.
-use Prim.Native.Nat.{ℕ, _+_, _*_, _/_, _%_, _≤_, _<_, min}
+use Prim.Native.Nat.{ℕ, _+_, _-_, _*_, _/_, _%_, _≤_, _<_, min}
 use mathlib.Core.Path.{_≡_}
 use mathlib.Core.Logic.{_↔_}
 use mathlib.Core.Bool.{Bool, true}
@@ -13,15 +13,16 @@ use lib.ListN.{length, getD, take}
 use Rattle.numbers.specs.Refusal.{areaSize, notHeld}
 use Rattle.numbers.specs.Kind as kinds
 use Rattle.numbers.specs.Limit.{bitsArea, event, mostNames, mostOpen, mostPayload, mostWord}
-use Rattle.table.specs.Rows.{Row, tableOf, heldOf}
+use Rattle.table.specs.Rows.{tableOf, heldOf}
 use Rattle.table.specs.Held.{Alike}
 use Rattle.value.specs.Simple.{AllBytes}
 use Rattle.buffers.specs.Bytes.{wordsOf, bytesOf, wordFrom, halfFrom}
-use Rattle.model.specs.Model.{Mark, Nodes, Path, events, texts}
+use Rattle.model.specs.Model.{Mark, Nodes, Path, events, texts, tableIn}
+use Rattle.model.specs.Model as model
 use Rattle.model.specs.Items.{Mode}
 use Rattle.model.specs.Trees.{total}
 use Rattle.model.specs.Write.{bare}
-use Rattle.theorems.specs.Content.{Model, row}
+use Rattle.theorems.specs.Content.{Model, one}
 use Rattle.theorems.specs.Follows.{Follows}
 use Rattle.model.specs.Blanks.{Exact}
 use Rattle.theorems.specs.Less.{outermost, replaced, firstBare}
@@ -126,8 +127,8 @@ pub record Reads (t : List ℕ) (name type : ℕ) (s : List ℕ) (e x : ℕ) : T
   -- content models and occurrence bounds; Blanks of types that are not held, elements of types that are; true bit
   -- counts
   pub follows :
-      Model (tableOf (wordsOf t)) mode (heldOf (wordsOf t)) mostOpen (row (Row.element name type))
-      (map bare (events tree)) (texts tree)
+      Model (tableIn (mode .casting) (tableOf (wordsOf t))) (mode .lengths) (heldOf (wordsOf t)) (mostOpen - 1)
+      (one name (model.only type)) (map bare (events tree)) (texts tree)
   pub blanks : Exact (heldOf (wordsOf t)) tree
   pub counts : 8 + total (events tree) ≡ used
 

@@ -12,7 +12,7 @@ use Rattle.numbers.specs.Refusal as refusal
 use Rattle.numbers.specs.Limit.{mostTableWords}
 use Rattle.signed.proofs.Laws.{ordered}
 use Rattle.table.specs.First.{first, judge, _then_}
-use Rattle.table.specs.Valid.{given, headerWords, verdict, verdictFrom}
+use Rattle.table.specs.Valid.{given, headerWords, verdict, verdictFrom, lengthRight, formSize}
 use Rattle.model.specs.Whole.{Reply, reading, afterVerdict}
 use Rattle.model.specs.Whole.Reply.{declined}
 use Rattle.reader.specs.Answers.{Replies}
@@ -24,7 +24,7 @@ use Rattle.list.specs.Listing.{countIn, nameAt, typeAt, payloadAt, table
 module _ (W B : ℕ) (r : Answer) (E T : List ℕ) where
   -- no words at all
   none-is : (name type : ℕ) (s : List ℕ) → reading [] name type s W B ≡ declined refusal.table 0 []
-  unfolding reading afterVerdict verdict verdictFrom first judge _then_ headerWords given
+  unfolding reading afterVerdict verdict verdictFrom first judge _then_ headerWords given lengthRight formSize
   none-is name type s = refl
 
   pub none-read : (name type : ℕ) (s : List ℕ) → Replies (reading [] name type s W B) W B r E T → Replies (declined refusal.table 0 []) W B r E T

@@ -1,15 +1,15 @@
 -- The entries taken apart: a table that is right, a root that is known, then the payload; and for the writing the mode, the list's shape,
 -- then the walk and the room.
 use Prim.Native.Nat.{ℕ, zero, suc, _+_, _*_, _/_, _%_, _<_, _≤_, min}
-use mathlib.Core.Path.{_≡_, refl, ap, _∙_}
-use mathlib.Core.Bool.{Bool, true, false, cond}
-use mathlib.Core.List.{List, [], _∷_, map}
+use mathlib.Core.Path.{_≡_, refl, sym, ap, _∙_}
+use mathlib.Core.Bool.{Bool, true, false, cond, true≢false}
+use mathlib.Core.List.{List, [], _∷_, _++_, map}
 use native.Mathlib.Omega.{arith}
 use borrow.Author.Tests.{le-leb, leb-true, eq-eqb, eqb-true}
 use lib.Dec.{eqb, leb}
 use lib.ListN.{length, getD}
 use Rattle.numbers.specs.Refusal as refusal
-use Rattle.numbers.specs.Refusal.{noReading, payloadRoom}
+use Rattle.numbers.specs.Refusal.{noReading, payloadRoom, writeMode}
 use Rattle.numbers.specs.Limit.{mostEvents, mostName, mostPayload}
 use Rattle.wire.specs.Res.{Res, got, fault, guard, atMost, Ensures}
 use Rattle.wire.proofs.Res.{gives, stops, under, under-then}
@@ -18,11 +18,16 @@ use Rattle.table.specs.First.Verdict.{right, wrong}
 use Rattle.table.specs.Valid.{verdict}
 use Rattle.table.specs.Rows.{tableOf, heldOf}
 use Rattle.model.specs.Model.{Event, Plan, Nodes}
-use Rattle.model.specs.Items.{Mode}
+use Rattle.model.specs.Items.{Lengths, Mode}
 use Rattle.model.specs.Write.{Bare, bare, Out, write}
 use Rattle.model.specs.Pack.{pack}
-use Rattle.model.specs.Whole.{modeByte, modeNumber, accepted, payload, asked, roomOf, afterAsked, afterVerdict, reading, eventWords, Made, made, unmade, eventAt, eventsFrom, roomed, spent, modeAsked, shaped, written, orUnmade, verdictMade, writing}
+use Rattle.model.specs.Whole.{mode, lengthsNumber, modeByte, modeNumber, plainModes, castModes, modesFor, modeBy, accepted, payload, asked, roomOf, afterAsked, afterVerdict, reading, eventWords, Made, made, unmade, eventAt, eventsFrom, roomed, spent, modeAsked, shaped, written, orUnmade, verdictMade, writing}
 use Rattle.model.specs.Entries.{Entered, planOf, Shaped, listOf}
+
+-- of each of a list
+abbrev Each : (Mode → Type 0) → List Mode → Type 0
+Each Q [] = Unit
+Each Q (m ∷ l) = Q m × Each Q l
 
 guarded : (t : Bool) (e : ℕ) → Ensures (guard t e) (λ u. t ≡ true)
 unfolding guard
@@ -47,37 +52,73 @@ asked-then types name type h k = under-then refusal.root h (at-most-then name mo
 
 module _ (l : List ℕ) (name type : ℕ) where
   module _ (s : List ℕ) (words bytes : ℕ) where
-    pub reading-entered : Entered l name type → reading l name type s words bytes ≡ payload (heldOf l) (planOf l name type) s (roomOf words bytes)
+    pub reading-entered : Entered l name type → reading l name type s words bytes ≡ payload (heldOf l) (planOf l name type) (tableOf l .derivations) s (roomOf words bytes)
     unfolding reading afterVerdict afterAsked
     reading-entered h = rw (h .table-right, asked-then (tableOf l .types) name type (h .type-known) (h .name-small))
 
     -- what is accepted has entered
     pub record Accepted (mode : Mode) (ns : Nodes) (q : ℕ) : Type 0 where
       pub enters : Entered l name type
-      pub reads : payload (heldOf l) (planOf l name type) s (roomOf words bytes) ≡ accepted mode ns q
+      pub reads : payload (heldOf l) (planOf l name type) (tableOf l .derivations) s (roomOf words bytes) ≡ accepted mode ns q
 
     pub reading-found : (mode : Mode) (ns : Nodes) (q : ℕ) → reading l name type s words bytes ≡ accepted mode ns q → Accepted mode ns q
     unfolding reading afterVerdict afterAsked
     reading-found mode ns q e = go (verdict l) (asked (tableOf l .types) name type) refl (asked-found (tableOf l .types) name type) e
       where
         go : (v : Verdict) (a : Res Unit) → verdict l ≡ v → Ensures a (λ u. (type < tableOf l .types) × (name ≤ mostName))
-            → afterVerdict v (afterAsked a (payload (heldOf l) (planOf l name type) s (roomOf words bytes))) ≡ accepted mode ns q → Accepted mode ns q
+            → afterVerdict v (afterAsked a (payload (heldOf l) (planOf l name type) (tableOf l .derivations) s (roomOf words bytes))) ≡ accepted mode ns q → Accepted mode ns q
         go right (got u) r h e = let k = h .says u refl in record { enters = record { table-right = r; type-known = k .0; name-small = k .1 }; reads = e }
         go right (fault n) r h e = absurd (let z : _≡_ {A = ℕ} 0 1 = cc in omega arith)
         go (wrong i) a r h e = absurd (let z : _≡_ {A = ℕ} 0 1 = cc in omega arith)
 
-pub mode-asked : (m : Mode) → modeAsked (modeNumber m) ≡ got m
-unfolding modeAsked modeNumber
-mode-asked Mode.never = refl
-mode-asked Mode.optional = refl
-mode-asked Mode.always = refl
+-- a mode, by its number or its byte; type codes only where the table has derivations
+pub record Known (f : Mode → ℕ) (D x : ℕ) (m : Mode) : Type 0 where
+  pub is : x ≡ f m
+  pub casts : m .casting ≡ true → 0 < D
 
-pub asked-mode : (n : ℕ) → Ensures (modeAsked n) (λ m. n ≡ modeNumber m)
-unfolding modeAsked modeNumber
-asked-mode zero = gives refl
-asked-mode (suc zero) = gives refl
-asked-mode (suc (suc zero)) = gives refl
-asked-mode (suc (suc (suc k))) = stops
+by-found : (f : Mode → ℕ) (Q : Mode → Type 0) (l : List Mode) (x e : ℕ) → Each Q l → Ensures (modeBy f l x e) (λ m. (x ≡ f m) × Q m)
+unfolding modeBy
+by-found f Q [] x e h = stops
+by-found f Q (m ∷ l) x e h = go (eqb x (f m)) refl (by-found f Q l x e (h .1))
+  where
+    go : (t : Bool) → eqb x (f m) ≡ t → Ensures (modeBy f l x e) (λ m. (x ≡ f m) × Q m) → Ensures (cond t (got m) (modeBy f l x e)) (λ m. (x ≡ f m) × Q m)
+    go true z r = gives (eqb-true x (f m) z, h .0)
+    go false z r = r
+
+pub mode-known : (f : Mode → ℕ) (D x e : ℕ) → Ensures (modeBy f (modesFor D) x e) (Known f D x)
+unfolding modesFor
+mode-known f zero x e = record {
+  says = λ m z. let h = by-found f (λ m. m .casting ≡ true → 0 < 0) plainModes x e (plain, (plain, (plain, tt))) .says m z in record { is = h .0; casts = h .1 };
+}
+  where
+    plain : false ≡ true → 0 < 0
+    plain z = absurd (true≢false (sym z))
+mode-known f (suc D) x e = record {
+  says = λ m z. let h = by-found f (λ m. m .casting ≡ true → 0 < suc D) (plainModes ++ castModes) x e (some, (some, (some, (some, (some, (some, tt)))))) .says m z in record { is = h .0; casts = h .1 };
+}
+  where
+    some : {u : Bool} → u ≡ true → 0 < suc D
+    some z = omega arith
+
+pub mode-asked : (D : ℕ) (m : Mode) → (m .casting ≡ true → 0 < D) → modeAsked D (modeNumber m) ≡ got m
+unfolding modeAsked modeNumber modeBy modesFor lengthsNumber
+mode-asked D m h = go D (m .lengths) (m .casting) h
+  where
+    go : (D : ℕ) (k : Lengths) (c : Bool) → (c ≡ true → 0 < D) → modeAsked D (modeNumber (mode k c)) ≡ got (mode k c)
+    go zero Lengths.never false h = refl
+    go zero Lengths.optional false h = refl
+    go zero Lengths.always false h = refl
+    go (suc D) Lengths.never false h = refl
+    go (suc D) Lengths.optional false h = refl
+    go (suc D) Lengths.always false h = refl
+    go (suc D) Lengths.never true h = refl
+    go (suc D) Lengths.optional true h = refl
+    go (suc D) Lengths.always true h = refl
+    go zero k true h = absurd (let z = h refl in omega arith)
+
+pub asked-mode : (D n : ℕ) → Ensures (modeAsked D n) (Known modeNumber D n)
+unfolding modeAsked
+asked-mode D n = mode-known modeNumber D n writeMode
 
 shaped-then : (L : List ℕ) (m : Made) → Shaped L → shaped L m ≡ m
 unfolding shaped
@@ -97,21 +138,21 @@ module _ (held : ℕ → Bool) (P : Plan) (mode : Mode) (M : List Bare) (T : Lis
   -- what is made: the walk's bits, nothing left over, within the room
   pub record Writing (s : List ℕ) (n : ℕ) : Type 0 where
     pub bits : List ℕ
-    pub writes : write mode held P M T ≡ Out.wrote bits [] []
+    pub writes : write (mode .lengths) held P M T ≡ Out.wrote bits [] []
     pub bytes : s ≡ modeByte mode ∷ pack bits
     pub used : n ≡ 8 + length bits
     pub fits : 1 + (length bits + 7) / 8 ≤ min room mostPayload
 
   pub written-found : (s : List ℕ) (n : ℕ) → written held P mode M T room ≡ made s n → Writing s n
   unfolding written spent roomed
-  written-found s n e = go (write mode held P M T) refl e
+  written-found s n e = go (write (mode .lengths) held P M T) refl e
     where
-      roomy : (w : List ℕ) (t : Bool) → write mode held P M T ≡ Out.wrote w [] [] → leb (1 + (length w + 7) / 8) (min room mostPayload) ≡ t
+      roomy : (w : List ℕ) (t : Bool) → write (mode .lengths) held P M T ≡ Out.wrote w [] [] → leb (1 + (length w + 7) / 8) (min room mostPayload) ≡ t
           → cond t (made (modeByte mode ∷ pack w) (8 + length w)) (unmade payloadRoom 0) ≡ made s n → Writing s n
       roomy w true h x e = record { bits = w; writes = h; bytes = cc; used = cc; fits = leb-true _ _ x }
       roomy w false h x e = absurd (let z : _≡_ {A = ℕ} 0 1 = cc in omega arith)
 
-      go : (o : Out) → write mode held P M T ≡ o → spent (length M) o (roomed room mode) ≡ made s n → Writing s n
+      go : (o : Out) → write (mode .lengths) held P M T ≡ o → spent (length M) o (roomed room mode) ≡ made s n → Writing s n
       go (Out.wrote w [] []) h e = roomy w (leb (1 + (length w + 7) / 8) (min room mostPayload)) h refl e
       go (Out.wrote w [] (x ∷ U)) h e = absurd (let z : _≡_ {A = ℕ} 0 1 = cc in omega arith)
       go (Out.wrote w (x ∷ N) U) h e = absurd (let z : _≡_ {A = ℕ} 0 1 = cc in omega arith)
@@ -122,23 +163,24 @@ module _ (held : ℕ → Bool) (P : Plan) (mode : Mode) (M : List Bare) (T : Lis
   written-then s n h = rw (h .writes, le-leb _ _ (h .fits), h .bytes, h .used)
 
 module _ (l : List ℕ) (name type mode : ℕ) (L X : List ℕ) (room : ℕ) where
-  pub writing-entered : (m : Mode) → Entered l name type → modeAsked mode ≡ got m → Shaped L → writing l name type mode L X room ≡ written (heldOf l) (planOf l name type) m (listOf L) X room
+  pub writing-entered : (m : Mode) → Entered l name type → modeAsked (tableOf l .derivations) mode ≡ got m → Shaped L
+      → writing l name type mode L X room ≡ written (heldOf l) (planOf l name type (m .casting)) m (listOf L) X room
   unfolding writing verdictMade orUnmade
-  writing-entered m h e k = rw (h .table-right, asked-then (tableOf l .types) name type (h .type-known) (h .name-small), e, shaped-then L (written (heldOf l) (planOf l name type) m (listOf L) X room) k)
+  writing-entered m h e k = rw (h .table-right, asked-then (tableOf l .types) name type (h .type-known) (h .name-small), e, shaped-then L (written (heldOf l) (planOf l name type (m .casting)) m (listOf L) X room) k)
 
   pub record Wrote (s : List ℕ) (n : ℕ) : Type 0 where
     pub enters : Entered l name type
     pub way : Mode
-    pub mode-is : modeAsked mode ≡ got way
+    pub mode-is : modeAsked (tableOf l .derivations) mode ≡ got way
     pub shape : Shaped L
-    pub writes : Writing (heldOf l) (planOf l name type) way (listOf L) X room s n
+    pub writes : Writing (heldOf l) (planOf l name type (way .casting)) way (listOf L) X room s n
 
   pub writing-found : (s : List ℕ) (n : ℕ) → writing l name type mode L X room ≡ made s n → Wrote s n
   unfolding writing verdictMade orUnmade
-  writing-found s n e = go (verdict l) (asked (tableOf l .types) name type) (modeAsked mode) refl (asked-found (tableOf l .types) name type) refl e
+  writing-found s n e = go (verdict l) (asked (tableOf l .types) name type) (modeAsked (tableOf l .derivations) mode) refl (asked-found (tableOf l .types) name type) refl e
     where
-      go : (v : Verdict) (a : Res Unit) (m : Res Mode) → verdict l ≡ v → Ensures a (λ u. (type < tableOf l .types) × (name ≤ mostName)) → modeAsked mode ≡ m
-          → verdictMade v (orUnmade a (λ u. orUnmade m (λ m. shaped L (written (heldOf l) (planOf l name type) m (listOf L) X room)))) ≡ made s n → Wrote s n
+      go : (v : Verdict) (a : Res Unit) (m : Res Mode) → verdict l ≡ v → Ensures a (λ u. (type < tableOf l .types) × (name ≤ mostName)) → modeAsked (tableOf l .derivations) mode ≡ m
+          → verdictMade v (orUnmade a (λ u. orUnmade m (λ m. shaped L (written (heldOf l) (planOf l name type (m .casting)) m (listOf L) X room)))) ≡ made s n → Wrote s n
       go right (got u) (got m) r h y e =
           let k = h .says u refl in
           let f = shaped-found L _ s n e in
@@ -147,7 +189,7 @@ module _ (l : List ℕ) (name type mode : ℕ) (L X : List ℕ) (room : ℕ) whe
             way = m;
             mode-is = y;
             shape = f .0;
-            writes = written-found (heldOf l) (planOf l name type) m (listOf L) X room s n (f .1);
+            writes = written-found (heldOf l) (planOf l name type (m .casting)) m (listOf L) X room s n (f .1);
           }
       go right (got u) (fault k) r h y e = absurd (let z : _≡_ {A = ℕ} 0 1 = cc in omega arith)
       go right (fault k) m r h y e = absurd (let z : _≡_ {A = ℕ} 0 1 = cc in omega arith)

@@ -1,12 +1,13 @@
 -- The ways through the entry, for the proofs of code: one law for each answer that `reading` can come to, in their order.
-use Prim.Native.Nat.{ℕ, suc, _+_, _-_, _*_, _<_, _≤_}
+use Prim.Native.Nat.{ℕ, zero, suc, _+_, _-_, _*_, _<_, _≤_}
 use mathlib.Core.Path.{_≡_, refl, _∙_}
-use mathlib.Core.Bool.{true, false}
+use mathlib.Core.Bool.{Bool, true, false}
 use mathlib.Core.List.{List, [], reverse}
 use native.Mathlib.Omega.{arith}
 use borrow.Author.Tests.{lt-leb, lt-ltb, le-ltb, eq-eqb, ne-eqb}
 use lib.ListN.{length, getD}
-use Rattle.wire.specs.Res.{got, fault, guard, atMost}
+use Rattle.numbers.specs.Refusal as refusal
+use Rattle.wire.specs.Res.{Res, got, fault, guard, atMost}
 use Rattle.wire.proofs.Res.{under-then, under-fault}
 use Rattle.wire.specs.Bits.{bitAt}
 use Rattle.table.specs.First.Verdict.{right, wrong}
@@ -14,9 +15,9 @@ use Rattle.table.specs.Valid.{verdict}
 use Rattle.table.specs.Rows.{tableOf, heldOf}
 use Rattle.model.specs.Model.{Nodes, Path, Answer}
 use Rattle.model.specs.Model.Answer.{given, refused}
-use Rattle.model.specs.Items.{Mode}
+use Rattle.model.specs.Items.{Lengths, Mode}
 use Rattle.model.specs.Read.{read}
-use Rattle.model.specs.Whole.{modeAt, modeOf, zeros, padding, accepted, declined, padded, replied, rootIn, inMode, payload, asked, roomOf, afterAsked, afterVerdict, reading}
+use Rattle.model.specs.Whole.{mode, lengthsNumber, modeByte, modesFor, modeBy, modeOf, zeros, padding, accepted, declined, padded, replied, rootIn, inMode, payload, asked, roomOf, afterAsked, afterVerdict, reading}
 use Rattle.model.specs.Entries.{Entered, planOf}
 use Rattle.model.proofs.Entries.{reading-entered}
 
@@ -55,36 +56,51 @@ pub padding-many : (s : List ℕ) (q : ℕ) → 8 ≤ 8 * length s - q → paddi
 unfolding padding
 padding-many s q h = rw (le-ltb _ _ h)
 
--- the mode byte
-module _ (x : ℕ) where
-  pub mode-none : x ≡ 0x0F → modeAt x ≡ got Mode.never
-  unfolding modeAt
-  mode-none e = rw (eq-eqb x 0x0F e)
+-- the mode byte, where there are D derivations
+module _ (D : ℕ) where
+  abbrev pub modeAt : ℕ → Res Mode
+  modeAt x = modeBy modeByte (modesFor D) x refusal.modeByte
 
-  pub mode-flag : x ≡ 0x4F → modeAt x ≡ got Mode.optional
-  unfolding modeAt
-  mode-flag e = rw e
+  -- of a byte that is one of the six, and where type codes are sent, only where the table has derivations
+  pub mode-is : (m : Mode) → (m .casting ≡ true → 0 < D) → (x : ℕ) → x ≡ modeByte m → modeAt x ≡ got m
+  unfolding modeByte modeBy modesFor lengthsNumber
+  mode-is m h x e = rw e (go D (m .lengths) (m .casting) h)
+    where
+      go : (D : ℕ) (k : Lengths) (c : Bool) → (c ≡ true → 0 < D) → modeBy modeByte (modesFor D) (modeByte (mode k c)) refusal.modeByte ≡ got (mode k c)
+      go zero Lengths.never false h = refl
+      go zero Lengths.optional false h = refl
+      go zero Lengths.always false h = refl
+      go (suc D) Lengths.never false h = refl
+      go (suc D) Lengths.optional false h = refl
+      go (suc D) Lengths.always false h = refl
+      go (suc D) Lengths.never true h = refl
+      go (suc D) Lengths.optional true h = refl
+      go (suc D) Lengths.always true h = refl
+      go zero k true h = absurd (let z = h refl in omega arith)
 
-  pub mode-all : x ≡ 0x8F → modeAt x ≡ got Mode.always
-  unfolding modeAt
-  mode-all e = rw e
+  -- of any other
+  pub mode-other : (x : ℕ) → (x ≡ 0x0F → ⊥) → (x ≡ 0x4F → ⊥) → (x ≡ 0x8F → ⊥) → (0 < D → (x ≡ 0x1F → ⊥) × (x ≡ 0x5F → ⊥) × (x ≡ 0x9F → ⊥)) → modeAt x ≡ fault 4
+  unfolding modeByte modeBy modesFor lengthsNumber
+  mode-other x a b c = go D
+    where
+      go : (D : ℕ) → (0 < D → (x ≡ 0x1F → ⊥) × (x ≡ 0x5F → ⊥) × (x ≡ 0x9F → ⊥)) → modeBy modeByte (modesFor D) x refusal.modeByte ≡ fault 4
+      go zero h = rw (ne-eqb x 0x0F a, ne-eqb x 0x4F b, ne-eqb x 0x8F c)
+      go (suc D) h =
+          let k = h (omega arith) in
+          rw (ne-eqb x 0x0F a, ne-eqb x 0x4F b, ne-eqb x 0x8F c, ne-eqb x 0x1F (k .0), ne-eqb x 0x5F (k .1), ne-eqb x 0x9F (k .2))
 
-  pub mode-other : (x ≡ 0x0F → ⊥) → (x ≡ 0x4F → ⊥) → (x ≡ 0x8F → ⊥) → modeAt x ≡ fault 4
-  unfolding modeAt
-  mode-other a c d = rw (ne-eqb x 0x0F a, ne-eqb x 0x4F c, ne-eqb x 0x8F d)
+  module _ (s : List ℕ) where
+    pub mode-empty : length s < 1 → modeOf D s ≡ fault 3
+    unfolding modeOf
+    mode-empty h = under-fault 3 _ h
 
-module _ (s : List ℕ) where
-  pub mode-empty : length s < 1 → modeOf s ≡ fault 3
-  unfolding modeOf
-  mode-empty h = under-fault 3 _ h
+    pub mode-long : 1 ≤ length s → 8192 < length s → modeOf D s ≡ fault 3
+    unfolding modeOf
+    mode-long h k = under-then 3 h (under-fault 3 _ k)
 
-  pub mode-long : 1 ≤ length s → 8192 < length s → modeOf s ≡ fault 3
-  unfolding modeOf
-  mode-long h k = under-then 3 h (under-fault 3 _ k)
-
-  pub mode-byte : 1 ≤ length s → length s ≤ 8192 → modeOf s ≡ modeAt (getD s 0 0)
-  unfolding modeOf
-  mode-byte h k = under-then 3 h (under-then 3 k refl)
+    pub mode-byte : 1 ≤ length s → length s ≤ 8192 → modeOf D s ≡ modeAt (getD s 0 0)
+    unfolding modeOf
+    mode-byte h k = under-then 3 h (under-then 3 k refl)
 
 -- the reading
 module _ (l : List ℕ) (name type : ℕ) (s : List ℕ) (words bytes : ℕ) where
@@ -102,16 +118,16 @@ module _ (l : List ℕ) (name type : ℕ) (s : List ℕ) (words bytes : ℕ) whe
 
   module _ (h : Entered l name type) where
     -- 3 or 4
-    pub reading-mode : (n : ℕ) → modeOf s ≡ fault n → reading l name type s words bytes ≡ declined n 0 []
+    pub reading-mode : (n : ℕ) → modeOf (tableOf l .derivations) s ≡ fault n → reading l name type s words bytes ≡ declined n 0 []
     unfolding payload inMode
     reading-mode n e = reading-entered l name type s words bytes h ∙ rw e
 
-    module _ (mode : Mode) (e : modeOf s ≡ got mode) where
-      pub reading-root : reading l name type s words bytes ≡ replied (padding s) mode (read (bitAt s) mode (heldOf l) (planOf l name type) (roomOf words bytes) [] (8 * length s) 8)
+    module _ (mode : Mode) (e : modeOf (tableOf l .derivations) s ≡ got mode) where
+      pub reading-root : reading l name type s words bytes ≡ replied (padding s) mode (read (bitAt s) (mode .lengths) (heldOf l) (planOf l name type (mode .casting)) (roomOf words bytes) [] (8 * length s) 8)
       unfolding payload inMode rootIn
       reading-root = reading-entered l name type s words bytes h ∙ rw e
 
-      module _ (o : Answer) (r : read (bitAt s) mode (heldOf l) (planOf l name type) (roomOf words bytes) [] (8 * length s) 8 ≡ o) where
+      module _ (o : Answer) (r : read (bitAt s) (mode .lengths) (heldOf l) (planOf l name type (mode .casting)) (roomOf words bytes) [] (8 * length s) 8 ≡ o) where
         pub reading-refused : (n p : ℕ) (π : Path) → o ≡ refused n p π → reading l name type s words bytes ≡ declined n p (reverse π)
         unfolding replied
         reading-refused n p π z = reading-root ∙ rw (r, z)

@@ -22,13 +22,14 @@ use Rattle.value.specs.Simple.{rangeCode}
 use Rattle.model.specs.Model
 use Rattle.model.specs.Model.{Event, event, Path, events, texts}
 use Rattle.model.specs.Items
-use Rattle.model.specs.Items.{Mode}
+use mathlib.Core.Bool.{true, false}
+use Rattle.model.specs.Items.{Lengths, Mode}
 use Rattle.model.specs.Read
 use Rattle.model.specs.Write
 use Rattle.model.specs.Write.{bare}
 use Rattle.model.specs.Pack
 use Rattle.model.specs.Whole
-use Rattle.model.specs.Whole.{Reply, accepted, declined, Made, made, unmade, reading, writing, eventWords}
+use Rattle.model.specs.Whole.{mode, Reply, accepted, declined, Made, made, unmade, reading, writing, eventWords}
 
 -- the worked table; whether type 3 is held
 unfoldable pub words : ℕ → List ℕ
@@ -44,6 +45,37 @@ words held =
     ∷ 3 ∷ 3 ∷ 0 ∷ 3
     ∷ 0 ∷ 12 ∷ 1 ∷ 0
     ∷ []
+
+-- request 1's table, form 2 or its first 51 words as form 1; whether type 2 is held
+unfoldable pub castRows : ℕ → ℕ → List ℕ
+castRows form held =
+    form ∷ 5 ∷ 0 ∷ 3
+    ∷ 1 ∷ 2 ∷ 0 ∷ 0 ∷ 0 ∷ 0 ∷ 0
+    ∷ 1 ∷ 1 ∷ 0 ∷ 0 ∷ 0 ∷ 0 ∷ 0
+    ∷ held ∷ 1 ∷ 0 ∷ 0 ∷ 5 ∷ 0 ∷ 0
+    ∷ 1 ∷ 0 ∷ 0 ∷ 0 ∷ 0 ∷ 0 ∷ 0
+    ∷ 1 ∷ 1 ∷ 0 ∷ 0 ∷ 2 ∷ 0 ∷ 0
+    ∷ 1 ∷ 1 ∷ 2 ∷ 0
+    ∷ 0 ∷ 11 ∷ 1 ∷ 0
+    ∷ 0 ∷ 12 ∷ 3 ∷ 0
+    ∷ []
+
+unfoldable pub cast : ℕ → List ℕ
+cast held =
+    castRows 2 held
+    ++ (3 ∷ 3
+    ∷ 2 ∷ 3 ∷ 4
+    ∷ 13 ∷ 1 ∷ 14 ∷ 2 ∷ 15 ∷ 3
+    ∷ 0 ∷ 0 ∷ 0 ∷ 3 ∷ 0 ∷ 0 ∷ 2 ∷ 1 ∷ 0 ∷ 0
+    ∷ 0 ∷ 0 ∷ 0 ∷ 0 ∷ 0 ∷ 3
+    ∷ [])
+
+unfoldable pub casted : List ℕ
+casted = 0x9F ∷ 0x8B ∷ 0x21 ∷ 0x88 ∷ 0x24 ∷ 0x86 ∷ 0x92 ∷ 0xC4 ∷ []
+
+unfoldable pub castList : List Event
+castList =
+    event 1 10 1 10 ∷ event 1 11 1 10 ∷ event 8 2 0 3 ∷ event 3 2 0 21 ∷ event 6 0 0 0 ∷ event 1 12 1 5 ∷ event 8 1 1 4 ∷ event 3 1 0 1 ∷ event 6 0 0 0 ∷ event 6 0 0 0 ∷ []
 
 -- one type, which is empty; one that holds itself twice, without end
 unfoldable pub hollow : List ℕ
@@ -72,6 +104,9 @@ pub data Asked : Type 0 where
   coded : List ℕ → Asked
   reads : ((ℕ → ℕ) → ℕ → ℕ → Res (ℕ × ℕ)) → List ℕ → Asked
   payload : (table : List ℕ) (name : ℕ) → List ℕ → Asked
+  -- with so many words for events; a list written in a mode
+  within : (table : List ℕ) (words : ℕ) → List ℕ → Asked
+  writesIn : ℕ → (table : List ℕ) → List Event → List ℕ → Asked
   writes : (table : List ℕ) → List Event → List ℕ → Asked
 
 -- and what comes of it
@@ -99,6 +134,8 @@ unfoldable pub shown : Asked → Shown
 shown (coded w) = bits w
 shown (reads rd w) = shownRes (rd (source w) (length w) 0)
 shown (payload l name s) = shownReply (reading l name 0 s 8192 8192)
+shown (within l n s) = shownReply (reading l 10 0 s n 8192)
+shown (writesIn m l L T) = shownMade (writing l 10 0 m (eventWords L) T 100)
 shown (writes l L T) = shownMade (writing l 10 0 2 (eventWords L) T 100)
 
 pub record Case : Type 0 where
@@ -131,10 +168,10 @@ proved =
     ∷ (reads (codeAt Code.signed) (1 ∷ 0 ∷ 0 ∷ 0 ∷ 0 ∷ 0 ∷ []) ⇒ faults 15)
     ∷ (reads (codeAt Code.signed) (1 ∷ code5 (2 ^ 31)) ⇒ value (2 ^ 31) 41)
     ∷ (reads (codeAt Code.signed) (0 ∷ code5 (2 ^ 31)) ⇒ faults 13)
-    ∷ (payload hollow 10 (0x0F ∷ []) ⇒ lists Mode.never (event 1 10 0 0 ∷ event 6 0 0 0 ∷ []) [] 8)
+    ∷ (payload hollow 10 (0x0F ∷ []) ⇒ lists (mode Lengths.never false) (event 1 10 0 0 ∷ event 6 0 0 0 ∷ []) [] 8)
     ∷ (payload hollow 10 (0x0F ∷ 0x00 ∷ []) ⇒ refuses 17 8 [])
-    ∷ (payload (words 1) 10 (worked 0xAA 0x20) ⇒ lists Mode.always list (72 ∷ 105 ∷ []) 68)
-    ∷ (payload (words 0) 10 (worked 0xAA 0x20) ⇒ lists Mode.always (front ++ (blank ∷ back)) [] 68)
+    ∷ (payload (words 1) 10 (worked 0xAA 0x20) ⇒ lists (mode Lengths.always false) list (72 ∷ 105 ∷ []) 68)
+    ∷ (payload (words 0) 10 (worked 0xAA 0x20) ⇒ lists (mode Lengths.always false) (front ++ (blank ∷ back)) [] 68)
     ∷ []
 
 -- and others: the reader's refusals, the writer's in order
@@ -162,6 +199,35 @@ beside =
     ∷ (writes tangle (nest 31 (event 1 10 1 0)) [] ⇒ refuses 18 32 [])
     ∷ []
 
-pub cases : map (λ (c : Case). shown (c .ask)) (proved ++ beside) ≡ map (λ (c : Case). c .comes) (proved ++ beside)
-unfolding words hollow tangle worked front back list blank shownRes shownReply shownMade shown nest proved beside Model.eventOf Model.value Model.maybe Model.attribute Model.attributes Model.contents Model.rows Model.within Model.due Model.plan Model._then_ Model.flagOf Model.events Model.texts Model.treeSlots Model.treeBytes Model.treeBits Items.formOf Items.formAt Items.itemAt Items.lengthAt Items.headAt Read.onto Read.after Read.code Read.kept Read.stored Read.met Read.ended Read.closed Read.entered Read.bare Read.sized Read.opened Read.elementAt Read.read Write.put Write.along Write.unlike Write.matched Write.taken Write.wordOf Write.flagIn Write.simpleOut Write.formOut Write.itemOut Write.coded Write.headOut Write.sealed Write.tooDeep Write.allowed Write.elementOut Write.write Pack.pack Whole.modeByte Whole.modeNumber Whole.modeAt Whole.modeOf Whole.zeros Whole.padding Whole.padded Whole.replied Whole.rootIn Whole.inMode Whole.payload Whole.asked Whole.afterAsked Whole.afterVerdict Whole.reading Whole.eventWords Whole.filled Whole.outcome Whole.eventsLeft Whole.textsLeft Whole.eventsFrom Whole.roomed Whole.spent Whole.modeAsked Whole.shaped Whole.written Whole.orUnmade Whole.verdictMade Whole.writing Whole.outcomeMade Whole.payloadLeft Code.HasCode Code.bitsOf Code.choiceAt Code.numberAt Code.signedOf Code.someOf Code.codeAt Code.fits Code.codeOut Code.sizeOut Simple.spanCode Simple.rangeCode Simple.unboundedCode Simple.boundedCode Simple.timesCode Simple.simpleOf Simple.bytes Simple.bytesAt Simple.unless Simple.textOf Simple.simpleAt First.first First._then_ First.judge Valid.given Valid.headerWords Valid.frontWords Valid.unusedWords Valid.rangeWords Valid.enumerationWords Valid.kindWords Valid.emptyWords Valid.simpleWords Valid.particlesWords Valid.contentWords Valid.attributeWords Valid.elementWords Valid.groupWords Valid.occursWords Valid.particleWords Valid.rows Valid.typeRow Valid.attributeRow Valid.particleRow Valid.rowWords Valid.verdictFrom Valid.verdict Valid.rightAt Rows.contentFrom Rows.rowFrom Rows.contentOf Rows.rowAt Rows.rowOf Rows.attributeOf Rows.attributesFrom Rows.firstOf Rows.countOf Rows.attributesOf Rows.tableOf Rows.heldOf Res._>>=_ Res._>>_ Res.guard Res.atMost Bits.bitAt Bits.num Bits.fixedAt Bits.digits Width.leastFrom Width.width Number.onesAt Number.isShort Number.groupsAt Number.number5 Number.second8At Number.number8 Number.strict Number.read5 Number.read8 Number.more Number.codeOf5 Number.code5 Number.code8 utf8.has utf8.lines utf8.begun utf8.open-lines utf8.goesOn utf8.faultOf utf8.textFault signed.gapOf signed.signOf signed.magnitudeOf signed.wordOf signed.wrapped
+-- request 1's examples
+unfoldable pub castCases : List Case
+castCases =
+    (payload (cast 1) 10 casted ⇒ lists (mode Lengths.always true) castList (72 ∷ 105 ∷ []) 62)
+    ∷ (payload (cast 0) 10 casted
+    ⇒ lists (mode Lengths.always true) (event 1 10 1 10 ∷ event 7 11 2 34 ∷ event 1 12 1 5 ∷ event 8 1 1 4 ∷ event 3 1 0 1 ∷ event 6 0 0 0 ∷ event 6 0 0 0 ∷ []) [] 62)
+    ∷ (payload (cast 1) 10 (0x9F ∷ 0x70 ∷ 0x91 ∷ 0x00 ∷ [])
+    ⇒ lists (mode Lengths.always true) (event 1 10 1 5 ∷ event 1 11 1 5 ∷ event 8 1 0 1 ∷ event 3 1 0 1 ∷ event 6 0 0 0 ∷ event 1 12 1 5 ∷ event 8 3 0 2 ∷ event 6 0 0 0 ∷ event 6 0 0 0 ∷ []) [] 27)
+    ∷ (payload (cast 1) 10 (0x8F ∷ 0x8A ∷ 0x03 ∷ 0x86 ∷ 0x28 ∷ 0x92 ∷ 0x1A ∷ 0x40 ∷ [])
+    ⇒ lists (mode Lengths.always false) (event 1 10 1 10 ∷ event 1 11 1 5 ∷ event 3 1 0 1 ∷ event 6 0 0 0 ∷ event 1 12 1 10 ∷ event 8 2 2 3 ∷ event 3 2 0 21 ∷ event 6 0 0 0 ∷ event 6 0 0 0 ∷ []) (72 ∷ 105 ∷ []) 58)
+    ∷ (payload (cast 1) 10 (0x1F ∷ 0xBA ∷ 0x90 ∷ [])
+    ⇒ lists (mode Lengths.never true) (event 1 10 0 0 ∷ event 1 11 0 0 ∷ event 8 3 0 3 ∷ event 6 0 0 0 ∷ event 1 12 0 0 ∷ event 8 4 3 4 ∷ event 3 9 0 5 ∷ event 6 0 0 0 ∷ event 6 0 0 0 ∷ []) [] 20)
+    ∷ (payload (cast 1) 10 (0x1F ∷ 0xE0 ∷ []) ⇒ refuses 14 8 (10 ∷ []))
+    ∷ (payload (cast 1) 10 (0x1F ∷ 0x38 ∷ []) ⇒ refuses 14 10 (10 ∷ []))
+    ∷ (payload (cast 1) 10 (0x9F ∷ 0x38 ∷ 0x20 ∷ []) ⇒ refuses 5 18 (10 ∷ []))
+    ∷ (payload (cast 0) 10 (0x1F ∷ 0x81 ∷ 0x41 ∷ 0x00 ∷ []) ⇒ refuses 9 8 (10 ∷ []))
+    ∷ (payload (castRows 1 1) 10 casted ⇒ refuses 4 0 [])
+    ∷ (within (cast 1) 8 casted ⇒ refuses 7 28 (10 ∷ 11 ∷ []))
+    ∷ (writesIn 6 (cast 1) castList (72 ∷ 105 ∷ []) ⇒ makes casted 62)
+    ∷ (writesIn 4 (cast 1) (event 1 10 0 0 ∷ event 1 11 0 0 ∷ event 8 0 0 0 ∷ []) [] ⇒ refuses 20 2 [])
+    ∷ (writesIn 4 (cast 1) (event 1 10 0 0 ∷ event 1 11 0 0 ∷ event 8 1 0 0 ∷ event 3 0 0 0 ∷ event 6 0 0 0 ∷ event 1 12 0 0 ∷ event 8 3 4 0 ∷ []) [] ⇒ refuses 20 6 [])
+    ∷ (writesIn 0 (cast 1) (event 1 10 0 0 ∷ event 1 11 0 0 ∷ event 8 2 0 0 ∷ []) [] ⇒ refuses 18 2 [])
+    ∷ (writesIn 4 (cast 1) (event 1 10 0 0 ∷ event 1 11 0 0 ∷ event 3 1 0 0 ∷ []) [] ⇒ refuses 18 2 [])
+    ∷ (writesIn 4 (cast 0) (event 1 10 0 0 ∷ event 1 11 0 0 ∷ event 8 2 0 0 ∷ event 3 0 0 0 ∷ []) [] ⇒ refuses 9 1 [])
+    ∷ (writesIn 3 (cast 1) [] [] ⇒ refuses 22 0 [])
+    ∷ (writesIn 7 (cast 1) [] [] ⇒ refuses 22 0 [])
+    ∷ (writesIn 4 (castRows 1 1) [] [] ⇒ refuses 22 0 [])
+    ∷ []
+
+pub cases : map (λ (c : Case). shown (c .ask)) (proved ++ (beside ++ castCases)) ≡ map (λ (c : Case). c .comes) (proved ++ (beside ++ castCases))
+unfolding words hollow tangle worked front back list blank shownRes shownReply shownMade shown nest castRows cast casted castList castCases proved beside Model.chosen Model.defaultType Model.effectiveType Model.sends Model.codes Items.substituteCode Items.typeCode Items.codesAt Read.castAt Write.placeIn Write.standing Write.codesOut Write.casts Whole.lengthsNumber Whole.modesFor Whole.modeBy Simple.oneOf Valid.derivedWords Valid.substituteWords Valid.among Valid.once Valid.wordsFrom Valid.typePair Valid.rowPair Valid.derivedRow Valid.substituteRow Valid.typePairRow Valid.rowPairRow Valid.castWords Valid.formWords Valid.formSize Valid.countWords Valid.lengthRight Rows.substitutesFrom Rows.substitutesOf Rows.derivedFrom Rows.derivedOf Model.eventOf Model.value Model.maybe Model.attribute Model.attributes Model.contents Model.rows Model.within Model.due Model.plan Model._then_ Model.flagOf Model.events Model.texts Model.treeSlots Model.treeBytes Model.treeBits Items.formOf Items.formAt Items.itemAt Items.lengthAt Items.headAt Read.onto Read.after Read.code Read.kept Read.stored Read.met Read.ended Read.closed Read.entered Read.bare Read.sized Read.opened Read.elementAt Read.read Write.put Write.along Write.unlike Write.matched Write.taken Write.wordOf Write.flagIn Write.simpleOut Write.formOut Write.itemOut Write.coded Write.headOut Write.sealed Write.tooDeep Write.allowed Write.elementOut Write.write Pack.pack Whole.modeByte Whole.modeNumber Whole.modeOf Whole.zeros Whole.padding Whole.padded Whole.replied Whole.rootIn Whole.inMode Whole.payload Whole.asked Whole.afterAsked Whole.afterVerdict Whole.reading Whole.eventWords Whole.filled Whole.outcome Whole.eventsLeft Whole.textsLeft Whole.eventsFrom Whole.roomed Whole.spent Whole.modeAsked Whole.shaped Whole.written Whole.orUnmade Whole.verdictMade Whole.writing Whole.outcomeMade Whole.payloadLeft Code.HasCode Code.bitsOf Code.choiceAt Code.numberAt Code.signedOf Code.someOf Code.codeAt Code.fits Code.codeOut Code.sizeOut Simple.spanCode Simple.rangeCode Simple.unboundedCode Simple.boundedCode Simple.timesCode Simple.simpleOf Simple.bytes Simple.bytesAt Simple.unless Simple.textOf Simple.simpleAt First.first First._then_ First.judge Valid.given Valid.headerWords Valid.frontWords Valid.unusedWords Valid.rangeWords Valid.enumerationWords Valid.kindWords Valid.emptyWords Valid.simpleWords Valid.particlesWords Valid.contentWords Valid.attributeWords Valid.elementWords Valid.groupWords Valid.occursWords Valid.particleWords Valid.rows Valid.typeRow Valid.attributeRow Valid.particleRow Valid.rowWords Valid.verdictFrom Valid.verdict Valid.rightAt Rows.contentFrom Rows.rowFrom Rows.contentOf Rows.rowAt Rows.rowOf Rows.attributeOf Rows.attributesFrom Rows.firstOf Rows.countOf Rows.attributesOf Rows.tableOf Rows.heldOf Res._>>=_ Res._>>_ Res.guard Res.atMost Bits.bitAt Bits.num Bits.fixedAt Bits.digits Width.leastFrom Width.width Number.onesAt Number.isShort Number.groupsAt Number.number5 Number.second8At Number.number8 Number.strict Number.read5 Number.read8 Number.more Number.codeOf5 Number.code5 Number.code8 utf8.has utf8.lines utf8.begun utf8.open-lines utf8.goesOn utf8.faultOf utf8.textFault signed.gapOf signed.signOf signed.magnitudeOf signed.wordOf signed.wrapped
 cases = refl

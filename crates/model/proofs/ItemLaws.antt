@@ -13,8 +13,8 @@ use Rattle.wire.specs.Lawful.{Binary}
 use Rattle.value.specs.Code.{HasCode, bitsOf}
 use Rattle.value.proofs.CodeLaws.{code-lawful}
 use Rattle.value.proofs.SimpleLaws.{simple-found, simple-reads}
-use Rattle.model.specs.Model.{Item}
-use Rattle.model.specs.Items.{Mode, never, optional, always, flag, lengths, Form, present, simply, formOf, FormIs, is-present, is-simple, ItemIs, Length, free, long, Measures, HeadIs, no-head, flag-off, flag-on, head-on, formAt, itemAt, Head, lengthAt, headAt}
+use Rattle.model.specs.Model.{Item, Types, effectiveType}
+use Rattle.model.specs.Items.{Lengths, never, optional, always, flag, theLength, Form, present, simply, formOf, FormIs, is-present, is-simple, ItemIs, Length, free, long, Measures, HeadIs, no-head, flag-off, flag-on, head-on, formAt, itemAt, Head, lengthAt, headAt, substituteCode, typeCode, CodesAre, both, codesAt}
 
 pub record FoundItem (b : ℕ → ℕ) (i : Item) (wall at v : ℕ) (ts : List ℕ) (q : ℕ) : Type 0 where
   pub bits : List ℕ
@@ -22,15 +22,21 @@ pub record FoundItem (b : ℕ → ℕ) (i : Item) (wall at v : ℕ) (ts : List �
   pub stands : At b at bits q
   pub within : at ≤ wall → q ≤ wall
 
-pub record FoundHead (b : ℕ → ℕ) (mode : Mode) (declared type : ℕ) (h : Length) (wall at p : ℕ) : Type 0 where
+pub record FoundHead (b : ℕ → ℕ) (mode : Lengths) (h : Length) (wall at p : ℕ) : Type 0 where
   pub bits : List ℕ
-  pub is : HeadIs mode declared type h bits
+  pub is : HeadIs mode h bits
   pub stands : At b at bits p
   pub within : at ≤ wall → p ≤ wall
 
-abbrev pub FindsHead : (ℕ → ℕ) → Mode → ℕ → ℕ → ℕ → Head → Type 0
-FindsHead b mode declared wall at (Head.bare type p) = FoundHead b mode declared type free wall at p
-FindsHead b mode declared wall at (Head.sized type p e) = FoundHead b mode declared type (long (e - p)) wall at p × (p ≤ e) × (e ≤ wall)
+abbrev pub FindsHead : (ℕ → ℕ) → Lengths → ℕ → ℕ → Head → Type 0
+FindsHead b mode wall at (Head.bare p) = FoundHead b mode free wall at p
+FindsHead b mode wall at (Head.sized p e) = FoundHead b mode (long (e - p)) wall at p × (p ≤ e) × (e ≤ wall)
+
+pub record FoundCodes (b : ℕ → ℕ) (y : Types) (wall at t k p : ℕ) : Type 0 where
+  pub bits : List ℕ
+  pub is : CodesAre y t k bits
+  pub stands : At b at bits p
+  pub within : p ≤ wall
 
 module _ (b : ℕ → ℕ) (bit : Binary b) where
   pub item-found : (i : Item) (wall at : ℕ) → Ensures (itemAt i b wall at) (λ r. FoundItem b i wall at (r .0) (r .1) (r .2))
@@ -46,29 +52,35 @@ module _ (b : ℕ → ℕ) (bit : Binary b) where
       }
 
   -- TheLength after bits o that a head may begin with
-  length-found : (mode : Mode) (t wall at p : ℕ) (o : List ℕ) → ((n : ℕ) → HasCode lengths n → HeadIs mode t t (long n) (o ++ bitsOf lengths n)) → At b at o p
-      → Ensures (lengthAt 1 b t wall p) (FindsHead b mode t wall at)
+  length-found : (mode : Lengths) (wall at p : ℕ) (o : List ℕ) → ((n : ℕ) → HasCode theLength n → HeadIs mode (long n) (o ++ bitsOf theLength n)) → At b at o p
+      → Ensures (lengthAt 1 b wall p) (FindsHead b mode wall at)
   unfolding lengthAt
-  length-found mode t wall at p o is st =
-      bind (code-lawful lengths .found b bit wall p) λ r f. under refusal.length λ h.
+  length-found mode wall at p o is st =
+      bind (code-lawful theLength .found b bit wall p) λ r f. under refusal.length λ h.
       let z : r .1 + r .0 - r .1 ≡ r .0 = omega arith in
-      gives (rw z (record { bits = o ++ bitsOf lengths (r .0); is = is (r .0) (f .fits); stands = at-both st (f .stands); within = λ k. f .within }), omega arith, h)
+      gives (rw z (record { bits = o ++ bitsOf theLength (r .0); is = is (r .0) (f .fits); stands = at-both st (f .stands); within = λ k. f .within }), omega arith, h)
 
-  pub head-found : (mode : Mode) (t wall at : ℕ) → Ensures (headAt mode b t wall at) (FindsHead b mode t wall at)
+  pub head-found : (mode : Lengths) (wall at : ℕ) → Ensures (headAt mode b wall at) (FindsHead b mode wall at)
   unfolding headAt lengthAt HasCode
-  head-found never t wall at = gives (record { bits = []; is = no-head; stands = at-none; within = λ h. h })
-  head-found optional t wall at = bind (code-lawful flag .found b bit wall at) λ r f. go (r .0) (r .1) (f .fits) (f .stands) (f .within)
+  head-found never wall at = gives (record { bits = []; is = no-head; stands = at-none; within = λ h. h })
+  head-found optional wall at = bind (code-lawful flag .found b bit wall at) λ r f. go (r .0) (r .1) (f .fits) (f .stands) (f .within)
     where
-      go : (v p : ℕ) → HasCode flag v → At b at (bitsOf flag v) p → p ≤ wall → Ensures (lengthAt v b t wall p) (FindsHead b optional t wall at)
+      go : (v p : ℕ) → HasCode flag v → At b at (bitsOf flag v) p → p ≤ wall → Ensures (lengthAt v b wall p) (FindsHead b optional wall at)
       go zero p h f k = gives (record { bits = _; is = flag-off; stands = f; within = λ l. k })
-      go (suc zero) p h f k = length-found optional t wall at p (bitsOf flag 1) (λ n x. flag-on x) f
+      go (suc zero) p h f k = length-found optional wall at p (bitsOf flag 1) (λ n x. flag-on x) f
       go (suc (suc v)) p h f k = absurd (omega arith)
-  head-found always t wall at = length-found always t wall at at [] (λ n x. head-on x) at-none
+  head-found always wall at = length-found always wall at at [] (λ n x. head-on x) at-none
+
+  pub codes-found : (y : Types) (wall at : ℕ) → Ensures (codesAt y b wall at) (λ r. FoundCodes b y wall at (r .0) (r .1) (r .2))
+  unfolding codesAt
+  codes-found y wall at =
+      bind (code-lawful (substituteCode y) .found b bit wall at) λ r f. bind (code-lawful (typeCode y (r .0)) .found b bit wall (r .1)) λ s g.
+      gives (record { bits = bitsOf (substituteCode y) (r .0) ++ bitsOf (typeCode y (r .0)) (s .0); is = both (s .0) (f .fits) (g .fits); stands = at-both (f .stands) (g .stands); within = g .within })
 
 -- a head that was read up to p; where what is inside it must stop, or may go to
-abbrev pub headOf : Length → ℕ → ℕ → Head
-headOf free t p = Head.bare t p
-headOf (long n) t p = Head.sized t p (p + n)
+abbrev pub headOf : Length → ℕ → Head
+headOf free p = Head.bare p
+headOf (long n) p = Head.sized p (p + n)
 
 abbrev pub stopOf : Length → ℕ → ℕ → ℕ
 stopOf free p wall = wall
@@ -77,13 +89,6 @@ stopOf (long n) p wall = p + n
 pub stop-in : (h : Length) (n p wall : ℕ) → Measures h n → p + n ≤ wall → (stopOf h p wall ≤ wall) × (p + n ≤ stopOf h p wall)
 stop-in free n p wall m l = omega arith
 stop-in (long k) n p wall m l = omega arith
-
--- (a head changes no type yet)
-pub same-type : {mode : Mode} {declared t : ℕ} {h : Length} {w : List ℕ} → HeadIs mode declared t h w → declared ≡ t
-same-type no-head = refl
-same-type flag-off = refl
-same-type (flag-on h) = refl
-same-type (head-on h) = refl
 
 flag-zero : HasCode flag 0
 unfolding HasCode
@@ -103,18 +108,28 @@ module _ (b : ℕ → ℕ) where
   unfolding itemAt
   item-reads i h f k = form-reads h f k
 
-  length-reads : (t n wall at p : ℕ) → HasCode lengths n → At b at (bitsOf lengths n) p → p + n ≤ wall → lengthAt 1 b t wall at ≡ got (Head.sized t p (p + n))
+  length-reads : (n wall at p : ℕ) → HasCode theLength n → At b at (bitsOf theLength n) p → p + n ≤ wall → lengthAt 1 b wall at ≡ got (Head.sized p (p + n))
   unfolding lengthAt
-  length-reads t n wall at p h f k = then _ (code-lawful lengths .reads b wall at n p h f (omega arith)) (under-then refusal.length k refl)
+  length-reads n wall at p h f k = then _ (code-lawful theLength .reads b wall at n p h f (omega arith)) (under-then refusal.length k refl)
 
-  pub head-reads : {mode : Mode} {declared t : ℕ} {h : Length} {w : List ℕ} (wall : ℕ) {at p : ℕ} → HeadIs mode declared t h w → At b at w p → p ≤ wall → stopOf h p wall ≤ wall
-      → headAt mode b declared wall at ≡ got (headOf h t p)
+  pub head-reads : {mode : Lengths} {h : Length} {w : List ℕ} (wall : ℕ) {at p : ℕ} → HeadIs mode h w → At b at w p → p ≤ wall → stopOf h p wall ≤ wall
+      → headAt mode b wall at ≡ got (headOf h p)
   unfolding headAt lengthAt
-  head-reads wall {at} {p} (no-head {t}) f k l = let n = f .next in let e : at ≡ p = omega arith in rw e
-  head-reads wall {at} {p} (flag-off {t}) f k l = then _ (code-lawful flag .reads b wall at 0 p flag-zero f k) refl
-  head-reads wall {at} {p} (flag-on {t} {n} h) f k l =
-      let y = length-append (bitsOf flag 1) (bitsOf lengths n) in
+  head-reads wall {at} {p} no-head f k l = let n = f .next in let e : at ≡ p = omega arith in rw e
+  head-reads wall {at} {p} flag-off f k l = then _ (code-lawful flag .reads b wall at 0 p flag-zero f k) refl
+  head-reads wall {at} {p} (flag-on {n} h) f k l =
+      let y = length-append (bitsOf flag 1) (bitsOf theLength n) in
       let z = f .next in
-      then _ (code-lawful flag .reads b wall at 1 _ flag-one (at-left (bitsOf flag 1) (bitsOf lengths n) f) (omega arith))
-      (length-reads t n wall _ p h (at-right (bitsOf flag 1) (bitsOf lengths n) f) l)
-  head-reads wall {at} {p} (head-on {t} {n} h) f k l = length-reads t n wall at p h f l
+      then _ (code-lawful flag .reads b wall at 1 _ flag-one (at-left (bitsOf flag 1) (bitsOf theLength n) f) (omega arith))
+      (length-reads n wall _ p h (at-right (bitsOf flag 1) (bitsOf theLength n) f) l)
+  head-reads wall {at} {p} (head-on {n} h) f k l = length-reads n wall at p h f l
+
+  pub codes-reads : {y : Types} {t k : ℕ} {w : List ℕ} (wall : ℕ) {at p : ℕ} → CodesAre y t k w → At b at w p → p ≤ wall → codesAt y b wall at ≡ got (t, k, p)
+  unfolding codesAt
+  codes-reads {y} wall {at} {p} (both {k} j h g) f l =
+      let c = bitsOf (substituteCode y) k in
+      let d = bitsOf (typeCode y k) j in
+      let z = length-append c d in
+      let n = f .next in
+      then _ (code-lawful (substituteCode y) .reads b wall at k _ h (at-left c d f) (omega arith))
+      (then _ (code-lawful (typeCode y k) .reads b wall _ j p g (at-right c d f) l) refl)

@@ -29,7 +29,7 @@ pub record ItemWritten (i : Item) (v : ℕ) (T w U : List ℕ) : Type 0 where
   pub is : ItemIs i v texts w
   pub text : T ≡ texts ++ U
 
-code-written : (c : Code) (v : ℕ) → Ensures (codeOut c v) (λ w. (w ≡ bitsOf c v) × HasCode c v)
+pub code-written : (c : Code) (v : ℕ) → Ensures (codeOut c v) (λ w. (w ≡ bitsOf c v) × HasCode c v)
 unfolding codeOut
 code-written c v = tested (fits c v) 20 λ h. gives (refl, fits-true c v h)
 
@@ -68,7 +68,7 @@ item-written i e T = record {
 }
 
 -- and what may stand is written
-code-out : (c : Code) (v : ℕ) → HasCode c v → codeOut c v ≡ got (bitsOf c v)
+pub code-out : (c : Code) (v : ℕ) → HasCode c v → codeOut c v ≡ got (bitsOf c v)
 unfolding codeOut
 code-out c v h = tested-then outsideRow (true-fits c v h) refl
 

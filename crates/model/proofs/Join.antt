@@ -11,7 +11,7 @@ use Rattle.model.specs.Model.Plan.{done, deep, item, element}
 use Rattle.model.specs.Model.Item.{optional, picked, counted}
 use Rattle.model.specs.Model.Nodes.{none}
 use Rattle.model.specs.Model.Answer.{given, refused}
-use Rattle.model.specs.Items.{Mode, itemAt}
+use Rattle.model.specs.Items.{Lengths, itemAt}
 use Rattle.model.specs.Read.{Room, roomLess, onto, after, code, stored, elementAt, read}
 use Rattle.model.proofs.Trees.{then-none, then-assoc, slots-then, bytes-then}
 
@@ -83,7 +83,7 @@ join-done deep = refl
 join-done (item i k) = λ j. item i (λ v. join-done (k v) j)
 join-done (element name type f rest) = ap (element name type f) (join-done rest)
 
-module _ (b : ℕ → ℕ) (mode : Mode) (held : ℕ → Bool) where
+module _ (b : ℕ → ℕ) (mode : Lengths) (held : ℕ → Bool) where
   pub read-join : (P Q : Plan) (r : Room) (π : Path) (wall at : ℕ)
       → read b mode held (join P Q) r π wall at ≡ after r (read b mode held P r π wall at) (λ s p. read b mode held Q s π wall p)
   unfolding read join after
@@ -116,7 +116,7 @@ rows-join f h (suc n) g rest =
 
 due-join : (T : Table) (f : Row → Plan → Plan) → Joins f → Joins (due T f)
 unfolding due join
-due-join T f h (Row.element name type) rest = refl
+due-join T f h (Row.element name type row) rest = refl
 due-join T f h (Row.sequence first count) rest = rows-join f h count (λ i. T .row (first + i)) rest
 due-join T f h (Row.choice first count) rest = λ j. item (picked count) (λ v. h (T .row (first + v)) rest j)
 due-join T f h (Row.occurs child least most) rest = λ j. item (counted least most) (λ v. rows-join f h v (λ i. T .row child) rest j)

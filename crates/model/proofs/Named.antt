@@ -12,9 +12,9 @@ use Rattle.wire.specs.Number.{onesAt, groupsAt, number5, strict, read5}
 use Rattle.utf8.specs.Text.{textFault}
 use Rattle.value.specs.Code.{Code, choice, five, signed, some, shifted, choiceAt, numberAt, signedOf, someOf, codeAt, fits, codeOut}
 use Rattle.value.specs.Simple.{Simple, plain, text, count, bytesAt, unless, textOf, simpleAt}
-use Rattle.model.specs.Model.{Item}
-use Rattle.model.specs.Items.{Mode, flag, lengths, Form, present, simply, formOf, formAt, itemAt, lengthAt, headAt}
-use Rattle.model.specs.Write.{simpleOut, formOut, itemOut}
+use Rattle.model.specs.Model.{Item, Types, defaultType}
+use Rattle.model.specs.Items.{Lengths, flag, theLength, Form, present, simply, formOf, formAt, itemAt, lengthAt, headAt, substituteCode, typeCode, codesAt}
+use Rattle.model.specs.Write.{simpleOut, formOut, itemOut, standing, codesOut}
 
 abbrev pub Named : {A : Type 0} → Res A → Type 0
 Named (got a) = Unit
@@ -101,16 +101,22 @@ module _ (b : ℕ → ℕ) (wall : ℕ) where
   unfolding itemAt
   item-named i at = form-named (formOf i) at
 
-  length-named : (f type at : ℕ) → Named (lengthAt f b type wall at)
+  length-named : (f at : ℕ) → Named (lengthAt f b wall at)
   unfolding lengthAt
-  length-named zero type at = tt
-  length-named (suc k) type at = named-bind (codeAt lengths b wall at) _ (code-named lengths at) (λ r. named-most _ _ 10 _ (omega arith) tt)
+  length-named zero at = tt
+  length-named (suc k) at = named-bind (codeAt theLength b wall at) _ (code-named theLength at) (λ r. named-most _ _ 10 _ (omega arith) tt)
 
-  pub head-named : (mode : Mode) (type at : ℕ) → Named (headAt mode b type wall at)
+  pub head-named : (mode : Lengths) (at : ℕ) → Named (headAt mode b wall at)
   unfolding headAt
-  head-named Mode.never type at = tt
-  head-named Mode.optional type at = named-bind (codeAt flag b wall at) _ (code-named flag at) (λ r. length-named (r .0) type (r .1))
-  head-named Mode.always type at = length-named 1 type at
+  head-named Lengths.never at = tt
+  head-named Lengths.optional at = named-bind (codeAt flag b wall at) _ (code-named flag at) (λ r. length-named (r .0) (r .1))
+  head-named Lengths.always at = length-named 1 at
+
+  pub codes-named : (y : Types) (at : ℕ) → Named (codesAt y b wall at)
+  unfolding codesAt
+  codes-named y at =
+      named-bind (codeAt (substituteCode y) b wall at) _ (code-named (substituteCode y) at)
+      (λ r. named-bind (codeAt (typeCode y (r .0)) b wall (r .1)) _ (code-named (typeCode y (r .0)) (r .1)) (λ s. tt))
 
 -- the codes of the writing
 code-out-named : (c : Code) (v : ℕ) → Named (codeOut c v)
@@ -131,3 +137,9 @@ form-out-named (simply s) v T = simple-out-named s v T
 pub item-out-named : (i : Item) (v : ℕ) (T : List ℕ) → Named (itemOut i v T)
 unfolding itemOut
 item-out-named i v T = form-out-named (formOf i) v T
+
+pub codes-out-named : (y : Types) (t k : ℕ) → Named (codesOut y t k)
+unfolding codesOut
+codes-out-named y t k =
+    named-bind (codeOut (substituteCode y) k) _ (code-out-named (substituteCode y) k)
+    (λ c. named-bind (codeOut (typeCode y k) (standing t (defaultType y k) (y .derived (defaultType y k)))) _ (code-out-named (typeCode y k) (standing t (defaultType y k) (y .derived (defaultType y k)))) (λ d. tt))

@@ -12,10 +12,11 @@ use Rattle.numbers.specs.Refusal as refusal
 use Rattle.numbers.specs.Refusal.{noReading}
 use Rattle.numbers.specs.Kind as kinds
 use Rattle.wire.specs.Res.{Res, got, fault, Ensures}
-use Rattle.model.specs.Model.{end}
-use Rattle.model.specs.Items.{Mode}
-use Rattle.model.specs.Write.{Bare, bare, Out, wrote, refused, put, along, unlike, matched, taken, asEnd, coded, lengthOf, headOut, sealed, allowed}
-use Rattle.model.proofs.Named.{Named}
+use Rattle.wire.proofs.Res.{itself}
+use Rattle.model.specs.Model.{end, Types, codes}
+use Rattle.model.specs.Items.{Lengths}
+use Rattle.model.specs.Write.{Bare, bare, Out, wrote, refused, put, along, unlike, matched, taken, asEnd, coded, lengthOf, headOut, codesOut, sealed, allowed, asCast, casts}
+use Rattle.model.proofs.Named.{Named, codes-out-named}
 
 -- what is written is so, and what is refused has a number
 pub record Says (Q : List ℕ → List Bare → List ℕ → Type 0) (o : Out) : Type 0 where
@@ -89,10 +90,24 @@ module _ {Q : List ℕ → List Bare → List ℕ → Type 0} where
   allowed-says true i o h = h refl
   allowed-says false i o h = stops (omega arith)
 
-  pub sealed-says : (mode : Mode) (q : ℕ) (o : Out) → Says (λ w M T. (N : List Bare) → M ≡ bare end ∷ N → Q (headOut mode (lengthOf q (length w)) ++ w) N T) o → Says Q (sealed mode q o)
+  pub sealed-says : (mode : Lengths) (q : ℕ) (c : List ℕ) (o : Out)
+      → Says (λ w M T. (N : List Bare) → M ≡ bare end ∷ N → Q (headOut mode (lengthOf q (length (c ++ w))) ++ (c ++ w)) N T) o → Says Q (sealed mode q c o)
   unfolding sealed
-  sealed-says mode q (wrote w M T) h = taken-says asEnd M _ λ e N m f. gives (h .says w M T refl N (m ∙ ap (λ (x : Bare). x ∷ N) (sym f)))
-  sealed-says mode q (refused n i) h = stops (h .numbered n i refl)
+  sealed-says mode q c (wrote w M T) h = taken-says asEnd M _ λ e N m f. gives (h .says w M T refl N (m ∙ ap (λ (x : Bare). x ∷ N) (sym f)))
+  sealed-says mode q c (refused n i) h = stops (h .numbered n i refl)
+
+  -- the codes' event, where there is one, or nothing
+  pub casts-says : (y : Types) (M : List Bare) (k : ℕ → List ℕ → List Bare → Out)
+      → (codes y ≡ true → (e : Bare) (N : List Bare) → M ≡ e ∷ N → asCast e ≡ e → (c : List ℕ) → codesOut y (e .p) (e .q) ≡ got c → Says Q (k (e .p) c N))
+      → (codes y ≡ false → Says Q (k (y .own) [] M)) → Says Q (casts (codes y) y M k)
+  unfolding casts
+  casts-says y M k f g = go (codes y) refl
+    where
+      go : (u : Bool) → codes y ≡ u → Says Q (casts u y M k)
+      go true z =
+          taken-says asCast M _ λ e N m h.
+          coded-says (codesOut y (e .p) (e .q)) (suc (length N)) (λ c. k (e .p) c N) (itself _) (codes-out-named y (e .p) (e .q)) (λ c x. f z e N m h c x)
+      go false z = g z
 
 pub says-more : {Q R : List ℕ → List Bare → List ℕ → Type 0} (o : Out) → ((w : List ℕ) (M : List Bare) (T : List ℕ) → Q w M T → R w M T) → Says Q o → Says R o
 says-more o f h = record { says = λ w M T e. f w M T (h .says w M T e); numbered = h .numbered }
@@ -118,9 +133,19 @@ pub allowed-then : {t : Bool} (i : ℕ) {o y : Out} → t ≡ true → o ≡ y �
 unfolding allowed
 allowed-then i e f = rw e f
 
-pub sealed-then : (mode : Mode) (q : ℕ) {o : Out} {w : List ℕ} {N : List Bare} {T : List ℕ} → o ≡ wrote w (bare end ∷ N) T → sealed mode q o ≡ wrote (headOut mode (lengthOf q (length w)) ++ w) N T
+pub casts-then : (y : Types) (e : Bare) (M : List Bare) (k : ℕ → List ℕ → List Bare → Out) {c : List ℕ} {o : Out} → codes y ≡ true → asCast e ≡ e
+    → codesOut y (e .p) (e .q) ≡ got c → k (e .p) c M ≡ o → casts (codes y) y (e ∷ M) k ≡ o
+unfolding casts
+casts-then y e M k z h f g = rw z (taken-then asCast e M _ h (coded-then (suc (length M)) (λ c. k (e .p) c M) f g))
+
+pub casts-none : (y : Types) (M : List Bare) (k : ℕ → List ℕ → List Bare → Out) → codes y ≡ false → casts (codes y) y M k ≡ k (y .own) [] M
+unfolding casts
+casts-none y M k z = rw z
+
+pub sealed-then : (mode : Lengths) (q : ℕ) (c : List ℕ) {o : Out} {w : List ℕ} {N : List Bare} {T : List ℕ} → o ≡ wrote w (bare end ∷ N) T
+    → sealed mode q c o ≡ wrote (headOut mode (lengthOf q (length (c ++ w))) ++ (c ++ w)) N T
 unfolding sealed
-sealed-then mode q {N} e = rw e (taken-then asEnd (bare end) N _ refl refl)
+sealed-then mode q c {N} e = rw e (taken-then asEnd (bare end) N _ refl refl)
 
 -- parts one after another
 pub put-none : (o : Out) → put [] o ≡ o

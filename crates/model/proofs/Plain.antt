@@ -1,15 +1,16 @@
 -- No Blank: of a list, of a tree. Each says the other; and where every type is held there is none.
-use Prim.Native.Nat.{ℕ}
+use Prim.Native.Nat.{ℕ, _+_}
 use mathlib.Core.Path.{_≡_}
-use mathlib.Core.Bool.{Bool, true}
+use mathlib.Core.Bool.{Bool, true, false, cond}
 use mathlib.Core.List.{List, [], _∷_, _++_}
 use native.Mathlib.Omega.{arith}
 use lib.ListN.{length}
-use Rattle.model.specs.Model.{Event, end, Item, eventOf, Plan, Nodes, events}
+use Rattle.numbers.specs.Kind as kinds
+use Rattle.model.specs.Model.{Event, event, end, Item, eventOf, Types, codes, Plan, Nodes, events}
 use Rattle.model.specs.Model.Item.{required, optional, valued, picked, counted}
 use Rattle.model.specs.Model.Nodes.{none, leaf, node}
-use Rattle.model.specs.Items.{Mode}
-use Rattle.model.specs.Grammar.{Is, nothing, an-item, an-element, a-blank}
+use Rattle.model.specs.Items.{Lengths}
+use Rattle.model.specs.Grammar.{castIn, Is, nothing, an-item, an-element, a-blank}
 use Rattle.model.specs.Plain.{NoBlank, Plain}
 
 pub item-plain : (i : Item) (v n : ℕ) → eventOf i v n .kind ≡ 7 → ⊥
@@ -20,11 +21,20 @@ item-plain (valued kind b c) v n e = omega arith
 item-plain (picked count) v n e = omega arith
 item-plain (counted least most) v n e = omega arith
 
-pub held-plain : {mode : Mode} {held : ℕ → Bool} {P : Plan} {at : ℕ} {ns : Nodes} {w : List ℕ} → ((t : ℕ) → held t ≡ true) → Is mode held P at ns w → Plain ns
+-- nor is the codes' event one
+pub cast-plain : (y : Types) (at t k n : ℕ) (ns : Nodes) → Plain ns → Plain (castIn y at t k n ns)
+unfolding castIn
+cast-plain y at t k n ns h = go (codes y)
+  where
+    go : (u : Bool) → Plain (cond u (leaf at (event kinds.cast t k n) [] ns) ns)
+    go true = (λ e. omega arith, h)
+    go false = h
+
+pub held-plain : {mode : Lengths} {held : ℕ → Bool} {P : Plan} {at : ℕ} {ns : Nodes} {w : List ℕ} → ((t : ℕ) → held t ≡ true) → Is mode held P at ns w → Plain ns
 held-plain all nothing = tt
 held-plain all (an-item {i} {v} {w} h j) = (item-plain i v (length w), held-plain all j)
-held-plain all (an-element h z g m j) = (held-plain all g, held-plain all j)
-held-plain all (a-blank {t} w h z u j) = absurd (let n : _≡_ {A = ℕ} 0 1 = cc (all t) in omega arith)
+held-plain all (an-element {k} {y} {at} {s} {c} {i} h d z g m j) = (cast-plain y (at + length s) _ k (length c) i (held-plain all g), held-plain all j)
+held-plain all (a-blank {t} w h d z u j) = absurd (let n : _≡_ {A = ℕ} 0 1 = cc (all t) in omega arith)
 
 no-blank-right : (L K : List Event) → NoBlank (L ++ K) → NoBlank K
 no-blank-right [] K h = h

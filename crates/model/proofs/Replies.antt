@@ -24,17 +24,17 @@ module _ (l : List ℕ) (name type : ℕ) (s : List ℕ) where
   pub record Begun (mode : Mode) : Type 0 where
     pub table : verdict l ≡ right
     pub root : asked (tableOf l .types) name type ≡ got tt
-    pub byte : modeOf s ≡ got mode
+    pub byte : modeOf (tableOf l .derivations) s ≡ got mode
 
   module _ (words bytes : ℕ) where
     -- the root's reading, from bit 8 on
     abbrev pub Root : Mode → Answer → Type 0
-    Root mode o = Reads (bitAt s) mode (heldOf l) (planOf l name type) (roomOf words bytes) [] (8 * length s) 8 o
+    Root mode o = Reads (bitAt s) (mode .lengths) (heldOf l) (planOf l name type (mode .casting)) (roomOf words bytes) [] (8 * length s) 8 o
 
     pub data Replies : Reply → Type 0 where
       no-table : {i : ℕ} → verdict l ≡ wrong i → Replies (declined 1 i [])
       no-root : {n : ℕ} → verdict l ≡ right → asked (tableOf l .types) name type ≡ fault n → Replies (declined n 0 [])
-      no-mode : {n : ℕ} → verdict l ≡ right → asked (tableOf l .types) name type ≡ got tt → modeOf s ≡ fault n
+      no-mode : {n : ℕ} → verdict l ≡ right → asked (tableOf l .types) name type ≡ got tt → modeOf (tableOf l .derivations) s ≡ fault n
           → Replies (declined n 0 [])
       stopped : {mode : Mode} {n p : ℕ} {π : Path} → Begun mode → Root mode (refused n p π)
           → Replies (declined n p (reverse π))
@@ -45,7 +45,7 @@ module _ (l : List ℕ) (name type : ℕ) (s : List ℕ) where
 
     pub reading-replies : Replies (reading l name type s words bytes)
     unfolding reading afterVerdict afterAsked payload inMode rootIn replied padded
-    reading-replies = go (verdict l) (asked (tableOf l .types) name type) (modeOf s) refl refl refl
+    reading-replies = go (verdict l) (asked (tableOf l .types) name type) (modeOf (tableOf l .derivations) s) refl refl refl
       where
         pad : (mode : Mode) (ns : Nodes) (q : ℕ) (t : Bool) → Begun mode → Root mode (given ns q) → padding s q ≡ t
             → Replies (padded t mode ns q)
@@ -57,11 +57,11 @@ module _ (l : List ℕ) (name type : ℕ) (s : List ℕ) where
         root mode (refused n p π) i r = stopped i r
 
         go : (v : Verdict) (a : Res Unit) (m : Res Mode) → verdict l ≡ v → asked (tableOf l .types) name type ≡ a
-            → modeOf s ≡ m
+            → modeOf (tableOf l .derivations) s ≡ m
             → Replies (afterVerdict v (afterAsked a (inMode m (rootIn (heldOf l) (planOf l name type) s (roomOf words bytes)))))
         go right (got u) (got mode) v a m =
-            root mode (read (bitAt s) mode (heldOf l) (planOf l name type) (roomOf words bytes) [] (8 * length s) 8) (record { table = v; root = a; byte = m })
-            (read-reads (bitAt s) mode (heldOf l) (planOf l name type) (roomOf words bytes) [] (8 * length s) 8)
+            root mode (read (bitAt s) (mode .lengths) (heldOf l) (planOf l name type (mode .casting)) (roomOf words bytes) [] (8 * length s) 8) (record { table = v; root = a; byte = m })
+            (read-reads (bitAt s) (mode .lengths) (heldOf l) (planOf l name type (mode .casting)) (roomOf words bytes) [] (8 * length s) 8)
         go right (got u) (fault n) v a m = no-mode v a m
         go right (fault n) c v a m = no-root v a
         go (wrong i) b c v a m = no-table v
@@ -70,7 +70,7 @@ module _ (l : List ℕ) (name type : ℕ) (s : List ℕ) where
         → reading l name type s words bytes ≡ replied (padding s) mode o
     unfolding reading afterVerdict afterAsked payload inMode rootIn
     root-read mode o i r =
-        rw (i .table, i .root, i .byte, reads-read (bitAt s) mode (heldOf l) (planOf l name type) (roomOf words bytes) [] (8 * length s) 8 o r)
+        rw (i .table, i .root, i .byte, reads-read (bitAt s) (mode .lengths) (heldOf l) (planOf l name type (mode .casting)) (roomOf words bytes) [] (8 * length s) 8 o r)
 
     pub replies-reading : {R : Reply} → Replies R → reading l name type s words bytes ≡ R
     unfolding reading afterVerdict afterAsked payload inMode replied padded

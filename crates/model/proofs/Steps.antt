@@ -7,16 +7,17 @@ use mathlib.Core.Bool.{Bool, true, false}
 use native.Mathlib.Omega.{arith}
 use Rattle.numbers.specs.Refusal as refusal
 use Rattle.numbers.specs.Kind as kinds
+use Rattle.numbers.specs.Limit.{mostOpen}
 use Rattle.table.specs.Rows.{Row, Attribute, Table, attributeOf, attributesFrom}
 use Rattle.table.specs.Rows.Content.{empty, simple, particles}
 use Rattle.value.specs.Simple.{simpleOf, timesCode, simpleAt, plain}
 use Rattle.value.specs.Code.{choice}
-use Rattle.model.specs.Model.{event, eventOf, Plan, Path, value, maybe, attribute, attributes, contents, rows, within, due, plan}
+use Rattle.model.specs.Model.{event, eventOf, Plan, Path, value, maybe, attribute, attributes, contents, rows, within, due, plan, only, typesOf, rooted}
 use Rattle.model.specs.Model.Plan.{done}
 use Rattle.model.specs.Model.Item.{optional, valued, picked, counted}
 use Rattle.model.specs.Model.Nodes.{none}
 use Rattle.model.specs.Model.Answer.{given, refused}
-use Rattle.model.specs.Items.{Mode, formOf, formAt, itemAt, headAt}
+use Rattle.model.specs.Items.{Lengths, formOf, formAt, itemAt, headAt}
 use Rattle.model.specs.Read.{Room, after, code, stored, opened, elementAt, read}
 use Rattle.model.proofs.Join.{after-done, attribute-join, attributes-join, plan-join, read-join}
 use Rattle.model.specs.Steps.{particleAt, roundsAt, childrenAt, repeatsAt, valueAt, attributeAt, attributesAt, contentAt, insideAt}
@@ -39,16 +40,22 @@ module _ (b : ℕ → ℕ) (wall at : ℕ) where
   unfolding itemAt formOf formAt
   item-counted least most = refl
 
-module _ (b : ℕ → ℕ) (mode : Mode) (held : ℕ → Bool) (T : Table) where
+module _ (b : ℕ → ℕ) (mode : Lengths) (held : ℕ → Bool) (T : Table) where
   module _ (r : Room) (π : Path) (wall at : ℕ) where
     pub particle-deep : (row : Row) → particleAt b mode held T zero row r π wall at ≡ refused refusal.depth at π
     unfolding plan read
     particle-deep row = refl
 
-    pub particle-element : (d name type : ℕ) → particleAt b mode held T (suc d) (Row.element name type) r π wall at
-        ≡ code (headAt mode b type wall at) π at (opened held (insideAt b mode held T d) name r π wall at)
+    pub particle-element : (d name type row : ℕ) → particleAt b mode held T (suc d) (Row.element name type row) r π wall at
+        ≡ code (headAt mode b wall at) π at (opened b mode held (insideAt b mode held T d) name (typesOf T type row) r π wall at)
     unfolding plan due read elementAt
-    particle-element d name type = after-done r _
+    particle-element d name type row = after-done r _
+
+    -- the root has nothing to choose from
+    pub root-element : (name type : ℕ) → read b mode held (rooted T name type) r π wall at
+        ≡ code (headAt mode b wall at) π at (opened b mode held (insideAt b mode held T (mostOpen - 1)) name (only type) r π wall at)
+    unfolding read elementAt
+    root-element name type = after-done r _
 
     pub particle-sequence : (d first count : ℕ) → particleAt b mode held T (suc d) (Row.sequence first count) r π wall at ≡ childrenAt b mode held T d count first r π wall at
     unfolding plan due

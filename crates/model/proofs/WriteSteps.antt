@@ -1,20 +1,21 @@
 -- The writing as the code goes it, one function for a particle row, for rows one after another, for an attribute, a value, content, what is inside
 -- an element; and what each is at each case. A proof of code cites these laws and never sees a plan.
-use Prim.Native.Nat.{ℕ, zero, suc, _+_}
+use Prim.Native.Nat.{ℕ, zero, suc, _+_, _-_}
 use mathlib.Core.Path.{_≡_, refl, sym, _∙_}
 use mathlib.Core.Bool.{Bool, true, false}
 use mathlib.Core.List.{List, [], _∷_}
 use native.Mathlib.Omega.{arith}
 use lib.ListN.{length}
+use Rattle.numbers.specs.Limit.{mostOpen}
 use Rattle.wire.specs.Res.{got}
 use Rattle.table.specs.Rows.{Row, Attribute, Table, attributeOf, attributesFrom}
 use Rattle.table.specs.Rows.Content.{empty, simple, particles}
 use Rattle.value.specs.Code.{choice}
 use Rattle.value.specs.Simple.{plain, simpleOf, timesCode}
-use Rattle.model.specs.Model.{Item, Plan, value, maybe, attribute, attributes, contents, rows, within, due, plan}
+use Rattle.model.specs.Model.{Item, Plan, value, maybe, attribute, attributes, contents, rows, within, due, plan, only, typesOf, rooted}
 use Rattle.model.specs.Model.Plan.{done, deep, item, element}
 use Rattle.model.specs.Model.Item.{required, optional, valued, picked, counted}
-use Rattle.model.specs.Items.{Mode, formOf}
+use Rattle.model.specs.Items.{Lengths, formOf}
 use Rattle.model.specs.Write.{Bare, Out, wrote, put, along, taken, wordOf, asItem, simpleOut, formOut, itemOut, coded, tooDeep, elementOut, write}
 use Rattle.model.proofs.OutLaws.{put-none, along-put, along-along, along-done, taken-along, coded-along}
 use Rattle.model.proofs.Join.{join, plan-join, attribute-join, attributes-join}
@@ -49,7 +50,7 @@ item-along i M T k l =
     ∙ (λ j. taken (asItem i) M (λ e N. coded-along (itemOut i (wordOf i e) T) (suc (length N)) (λ (w, U). put w (k (wordOf i e) N U)) l j))
     ∙ (λ j. taken (asItem i) M (λ e N. coded (itemOut i (wordOf i e) T) (suc (length N)) (λ (w, U). sym (along-put w (k (wordOf i e) N U) l) j)))
 
-module _ (mode : Mode) (held : ℕ → Bool) where
+module _ (mode : Lengths) (held : ℕ → Bool) where
   pub write-join : (P Q : Plan) (M : List Bare) (T : List ℕ) → write mode held (join P Q) M T ≡ along (write mode held P M T) (λ N U. write mode held Q N U)
   unfolding write join along tooDeep
   write-join done Q M T = sym (put-none (write mode held Q M T))
@@ -58,7 +59,7 @@ module _ (mode : Mode) (held : ℕ → Bool) where
   write-join (item i k) Q M T =
       (λ j. itemThen i M T (λ v N U. write-join (k v) Q N U j)) ∙ sym (item-along i M T (λ v N U. write mode held (k v) N U) (λ N U. write mode held Q N U))
   write-join (element name type f P) Q M T =
-      let o : Out = elementOut mode held (λ N U. write mode held (f type) N U) name type M T in
+      let o : Out = elementOut mode held (λ t N U. write mode held (f t) N U) name type M T in
       (λ j. along o (λ N U. write-join P Q N U j)) ∙ sym (along-along o (λ N U. write mode held P N U) (λ N U. write mode held Q N U))
 
   module _ (T : Table) where
@@ -67,9 +68,15 @@ module _ (mode : Mode) (held : ℕ → Bool) where
       unfolding plan write
       particle-deep row = refl
 
-      pub particle-element : (d name type : ℕ) → particleOut mode held T (suc d) (Row.element name type) M X ≡ elementOut mode held (insideOut mode held T d type) name type M X
+      pub particle-element : (d name type row : ℕ) → particleOut mode held T (suc d) (Row.element name type row) M X
+          ≡ elementOut mode held (insideOut mode held T d) name (typesOf T type row) M X
       unfolding plan due write
-      particle-element d name type = along-done (elementOut mode held (insideOut mode held T d type) name type M X)
+      particle-element d name type row = along-done (elementOut mode held (insideOut mode held T d) name (typesOf T type row) M X)
+
+      -- the root has nothing to choose from
+      pub root-element : (name type : ℕ) → write mode held (rooted T name type) M X ≡ elementOut mode held (insideOut mode held T (mostOpen - 1)) name (only type) M X
+      unfolding write
+      root-element name type = along-done (elementOut mode held (insideOut mode held T (mostOpen - 1)) name (only type) M X)
 
       pub particle-sequence : (d first count : ℕ) → particleOut mode held T (suc d) (Row.sequence first count) M X ≡ childrenOut mode held T d count first M X
       unfolding plan due

@@ -2,12 +2,13 @@
 use Prim.Native.Nat.{ℕ, _/_, _%_, _<_, _≤_}
 use mathlib.Core.Path.{_≡_}
 use mathlib.Core.List.{List}
+use mathlib.Core.Bool.{Bool}
 use lib.ListN.{length}
 use Rattle.numbers.specs.Limit.{mostEvents, mostName}
 use Rattle.table.specs.First.Verdict.{right}
 use Rattle.table.specs.Valid.{verdict}
 use Rattle.table.specs.Rows.{tableOf}
-use Rattle.model.specs.Model.{Plan, rooted}
+use Rattle.model.specs.Model.{Plan, tableIn, rooted}
 use Rattle.model.specs.Write.{Bare}
 use Rattle.model.specs.Whole.{eventsFrom}
 
@@ -17,9 +18,10 @@ pub record Entered (l : List ℕ) (name type : ℕ) : Type 0 where
   pub type-known : type < tableOf l .types
   pub name-small : name ≤ mostName
 
+-- the plan goes by whether type codes are sent
 module _ (l : List ℕ) (name type : ℕ) where
-  abbrev pub planOf : Plan
-  planOf = rooted (tableOf l) name type
+  abbrev pub planOf : Bool → Plan
+  planOf casting = rooted (tableIn casting (tableOf l)) name type
 
 -- whole events, at most mostEvents of them
 pub record Shaped (L : List ℕ) : Type 0 where

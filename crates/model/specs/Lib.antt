@@ -1,5 +1,6 @@
 pub mod Model
 pub mod Items
+pub mod Modes
 pub mod Grammar
 pub mod Read
 pub mod Write

@@ -1,9 +1,9 @@
 -- What is due and what was read. A PLAN is what a content model lets come, item by item: it knows no bits, no room and no
 -- held marks. A reading of it gives the TREE of what was read, or a refusal; events and texts are the tree's flattening.
-use Prim.Native.Nat.{ℕ, zero, suc, _+_}
+use Prim.Native.Nat.{ℕ, zero, suc, _+_, _-_}
 use mathlib.Core.List.{List, [], _∷_, _++_}
-use mathlib.Core.Bool.{Bool, true, false}
-use lib.ListN.{length}
+use mathlib.Core.Bool.{Bool, true, false, cond}
+use lib.ListN.{length, getD}
 use Rattle.numbers.specs.Kind as kinds
 use Rattle.numbers.specs.Limit.{mostOpen}
 use Rattle.table.specs.Rows.{Row, Content, Attribute, Table}
@@ -39,13 +39,44 @@ eventOf (valued kind b c) v n = event kinds.value v 0 n
 eventOf (picked count) v n = event kinds.pick v 0 n
 eventOf (counted least most) v n = event kinds.times v 0 n
 
+-- what an element's type can be: its own, or that of one of its substitutes; and then, of either, a derived type
+pub record Types : Type 0 where
+  pub own : ℕ
+  pub substitutes : List ℕ
+  pub derived : ℕ → List ℕ
+
+-- nothing to choose from
+abbrev pub only : ℕ → Types
+only type = record { own = type; substitutes = []; derived = λ t. [] }
+
+-- one of a list, counted from 1, or what there is without it
+unfoldable pub chosen : ℕ → List ℕ → ℕ → ℕ
+chosen t l zero = t
+chosen t l (suc k) = getD l k 0
+
+-- the default type, by the substitute; the effective type, by the type code too (001, 8.4.2.2 and 8.4.5)
+unfoldable pub defaultType : Types → ℕ → ℕ
+defaultType y k = chosen (y .own) (y .substitutes) k
+
+unfoldable pub effectiveType : Types → ℕ → ℕ → ℕ
+effectiveType y k j = chosen (defaultType y k) (y .derived (defaultType y k)) j
+
+-- a flag bit is sent where there is something to choose from
+unfoldable pub sends : List ℕ → List ℕ → Bool
+sends [] [] = false
+sends [] (t ∷ l) = true
+sends (t ∷ l) d = true
+
+unfoldable pub codes : Types → Bool
+codes y = sends (y .substitutes) (y .derived (y .own))
+
 -- nothing more; a row too many (document 01's limit of 64); an item and, by its value, the rest; an element (a type state, 001, 8.5.2.4.2), what
 -- its type lets come inside it, the rest
 pub data Plan : Type 0 where
   done : Plan
   deep : Plan
   item : Item → (ℕ → Plan) → Plan
-  element : (name type : ℕ) → (inside : ℕ → Plan) → (rest : Plan) → Plan
+  element : (name : ℕ) → Types → (inside : ℕ → Plan) → (rest : Plan) → Plan
 
 -- attributes (001, 8.5.3) come in the table's order: the value of one that is present, no value of one that is absent
 unfoldable pub value : ℕ → ℕ → ℕ → Plan → Plan
@@ -73,14 +104,30 @@ unfoldable pub rows : (Row → Plan → Plan) → ℕ → (ℕ → Row) → Plan
 rows f zero g rest = rest
 rows f (suc n) g rest = f (g 0) (rows f n (λ i. g (suc i)) rest)
 
+-- the table as a payload's mode has it: where type codes are not sent, no type has derived types
+abbrev pub tableIn : Bool → Table → Table
+tableIn casting T =
+    record {
+      types = T .types;
+      attributes = T .attributes;
+      content = T .content;
+      row = T .row;
+      substitutes = T .substitutes;
+      derived = λ t. cond casting (T .derived t) [];
+      derivations = T .derivations;
+    }
+
 module _ (T : Table) where
   -- Attributes(effectiveType), then Content(.., effectiveType) (001, 8.4.2.1)
   unfoldable pub within : (Row → Plan → Plan) → ℕ → Plan
   within f t = attributes (T .attributes t) (contents f (T .row) (T .content t))
 
+  abbrev pub typesOf : (type row : ℕ) → Types
+  typesOf type row = record { own = type; substitutes = T .substitutes row; derived = T .derived }
+
   -- a row as 001, 8.5.2.2.5.2 makes an automaton of it: an element declaration node, a sequence node, a choice node, an occurrence node
   unfoldable pub due : (Row → Plan → Plan) → Row → Plan → Plan
-  due f (Row.element name type) rest = element name type (λ t. within f t) rest
+  due f (Row.element name type row) rest = element name (typesOf type row) (λ t. within f t) rest
   due f (Row.sequence first count) rest = rows f count (λ i. T .row (first + i)) rest
   due f (Row.choice first count) rest = item (picked count) (λ v. f (T .row (first + v)) rest)
   due f (Row.occurs child least most) rest = item (counted least most) (λ v. rows f v (λ i. T .row child) rest)
@@ -92,7 +139,7 @@ module _ (T : Table) where
 
   -- the root, which is itself the first of at most mostOpen open rows
   abbrev pub rooted : ℕ → ℕ → Plan
-  rooted name type = plan mostOpen (Row.element name type) done
+  rooted name type = element name (only type) (λ t. within (plan (mostOpen - 1)) t) done
 
 -- an element that was opened: what its Start says, its type and its place
 pub record Mark : Type 0 where

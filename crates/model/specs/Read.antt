@@ -8,11 +8,11 @@ use Rattle.numbers.specs.Refusal as refusal
 use Rattle.numbers.specs.Refusal.{eventRoom, textRoom, notHeld, contentShort}
 use Rattle.numbers.specs.Kind as kinds
 use Rattle.wire.specs.Res.{Res, got, fault}
-use Rattle.model.specs.Model.{Event, event, eventOf, Plan, Mark, Nodes, _then_, treeSlots, treeBytes, Path, Answer}
+use Rattle.model.specs.Model.{Event, event, eventOf, Types, codes, Plan, Mark, Nodes, _then_, treeSlots, treeBytes, Path, Answer}
 use Rattle.model.specs.Model.Plan.{done, deep, item, element}
 use Rattle.model.specs.Model.Nodes.{none, leaf, node}
 use Rattle.model.specs.Model.Answer.{given, refused}
-use Rattle.model.specs.Items.{Mode, itemAt, Head, headAt}
+use Rattle.model.specs.Items.{Lengths, itemAt, Head, headAt, codesAt}
 
 -- events and text bytes that still have room
 pub record Room : Type 0 where
@@ -66,32 +66,43 @@ closed r m π wall body (refused n p ρ) = refused n p ρ
 abbrev pub Into : Type 0
 Into = ℕ → Room → Path → ℕ → ℕ → Answer
 
--- an element that is held: room for Start, what is inside, the end
-unfoldable pub entered : Bool → Into → Mark → Room → Path → ℕ → ℕ → Answer
-entered true f m r π wall body = closed (lessOne r) m π wall body (f (m .type) (lessOne r) (m .name ∷ π) wall body)
-entered false f m r π wall body = refused eventRoom (m .at) π
+-- the event of an element's codes, where a flag bit was sent, from body up to p
+unfoldable pub castAt : Bool → ℕ → ℕ → Room → Path → ℕ → ℕ → Answer
+castAt true type substitute r π body p = stored r π body (event kinds.cast type substitute (p - body)) [] p
+castAt false type substitute r π body p = given none p
+
+-- an element that is held: room for Start, its codes' event, what is inside, the end
+unfoldable pub entered : Bool → Bool → Into → Mark → ℕ → Room → Path → ℕ → ℕ → ℕ → Answer
+entered true sent f m k r π wall body p =
+    closed (lessOne r) m π wall body
+    (after (lessOne r) (castAt sent (m .type) k (lessOne r) (m .name ∷ π) body p) (λ s q. f (m .type) s (m .name ∷ π) wall q))
+entered false sent f m k r π wall body p = refused eventRoom (m .at) π
 
 abbrev pub mark : ℕ → ℕ → Bool → ℕ → ℕ → Mark
 mark name type coded at body = record { name = name; type = type; coded = coded; at = at; bits = body - at }
 
--- without a length: held, or notHeld
-unfoldable pub bare : Bool → Into → Mark → Room → Path → ℕ → ℕ → Answer
-bare true f m r π wall body = entered (ltb 0 (r .slots)) f m r π wall body
-bare false f m r π wall body = refused notHeld (m .at) π
+-- without a length: held, or 9
+unfoldable pub bare : Bool → Bool → Into → Mark → ℕ → Room → Path → ℕ → ℕ → ℕ → Answer
+bare true sent f m k r π wall body p = entered (ltb 0 (r .slots)) sent f m k r π wall body p
+bare false sent f m k r π wall body p = refused notHeld (m .at) π
 
 -- with a length: held, or a Blank
-unfoldable pub sized : Bool → Into → Mark → Room → Path → ℕ → ℕ → Answer
-sized true f m r π end body = entered (ltb 0 (r .slots)) f m r π end body
-sized false f m r π end body = stored r π (m .at) (event kinds.blank (m .name) (m .type) (end - m .at)) [] end
+unfoldable pub sized : Bool → Bool → Into → Mark → ℕ → Room → Path → ℕ → ℕ → ℕ → Answer
+sized true sent f m k r π end body p = entered (ltb 0 (r .slots)) sent f m k r π end body p
+sized false sent f m k r π end body p = stored r π (m .at) (event kinds.blank (m .name) (m .type) (end - m .at)) [] end
 
-unfoldable pub opened : (ℕ → Bool) → Into → ℕ → Room → Path → ℕ → ℕ → Head → Answer
-opened held f name r π wall at (Head.bare type body) = bare (held type) f (mark name type false at body) r π wall body
-opened held f name r π wall at (Head.sized type body end) = sized (held type) f (mark name type true at body) r π end body
+module _ (b : ℕ → ℕ) (mode : Lengths) (held : ℕ → Bool) where
+  -- after the head: the codes, below the element's own end where it has one, an item of their own; then Start, a Blank or a refusal
+  unfoldable pub opened : Into → ℕ → Types → Room → Path → ℕ → ℕ → Head → Answer
+  opened f name y r π wall at (Head.bare body) =
+      code (codesAt y b wall body) π body
+      (λ (t, k, p). bare (held t) (codes y) f (mark name t false at body) k r π wall body p)
+  opened f name y r π wall at (Head.sized body end) =
+      code (codesAt y b end body) π body
+      (λ (t, k, p). sized (held t) (codes y) f (mark name t true at body) k r π end body p)
 
-module _ (b : ℕ → ℕ) (mode : Mode) (held : ℕ → Bool) where
-  -- an element: its head, then Start, a Blank or a refusal
-  unfoldable pub elementAt : Into → ℕ → ℕ → Room → Path → ℕ → ℕ → Answer
-  elementAt f name type r π wall at = code (headAt mode b type wall at) π at (opened held f name r π wall at)
+  unfoldable pub elementAt : Into → ℕ → Types → Room → Path → ℕ → ℕ → Answer
+  elementAt f name y r π wall at = code (headAt mode b wall at) π at (opened f name y r π wall at)
 
   unfoldable pub read : Plan → Room → Path → ℕ → ℕ → Answer
   read done r π wall at = given none at
@@ -99,5 +110,5 @@ module _ (b : ℕ → ℕ) (mode : Mode) (held : ℕ → Bool) where
   read (item i k) r π wall at =
       code (itemAt i b wall at) π at
       (λ (v, ts, q). after r (stored r π at (eventOf i v (q - at)) ts q) (λ s p. read (k v) s π wall p))
-  read (element name type inside rest) r π wall at =
-      after r (elementAt (λ t s ρ w p. read (inside t) s ρ w p) name type r π wall at) (λ s p. read rest s π wall p)
+  read (element name y inside rest) r π wall at =
+      after r (elementAt (λ t s ρ w p. read (inside t) s ρ w p) name y r π wall at) (λ s p. read rest s π wall p)

@@ -5,10 +5,10 @@ use mathlib.Core.Bool.{Bool}
 use Rattle.table.specs.Rows.{Row, Content, Attribute, Table}
 use Rattle.model.specs.Model.{Path, Answer, value, attribute, attributes, contents, rows, within, plan}
 use Rattle.model.specs.Model.Plan.{done}
-use Rattle.model.specs.Items.{Mode}
+use Rattle.model.specs.Items.{Lengths}
 use Rattle.model.specs.Read.{Room, read}
 
-module _ (b : ℕ → ℕ) (mode : Mode) (held : ℕ → Bool) (T : Table) where
+module _ (b : ℕ → ℕ) (mode : Lengths) (held : ℕ → Bool) (T : Table) where
   abbrev pub particleAt : ℕ → Row → Room → Path → ℕ → ℕ → Answer
   particleAt d row r π wall at = read b mode held (plan T d row done) r π wall at
 

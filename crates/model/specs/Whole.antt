@@ -17,33 +17,51 @@ use Rattle.table.specs.First.{Verdict}
 use Rattle.table.specs.First.Verdict.{right, wrong}
 use Rattle.table.specs.Valid.{verdict}
 use Rattle.table.specs.Rows.{tableOf, heldOf}
-use Rattle.model.specs.Model.{Event, Plan, Nodes, Path, Answer, events, texts, rooted}
+use Rattle.model.specs.Model.{Event, Plan, Nodes, Path, Answer, events, texts, tableIn, rooted}
 use Rattle.model.specs.Model.Answer.{given, refused}
-use Rattle.model.specs.Items.{Mode}
+use Rattle.model.specs.Items.{Lengths, Mode}
 use Rattle.model.specs.Read.{Room, read}
 use Rattle.model.specs.Write.{Bare, Out, write}
 use Rattle.model.specs.Pack.{pack}
 
--- the mode byte, and the mode as a number
+-- the mode, its number and its byte
+abbrev pub mode : Lengths → Bool → Mode
+mode h c = record { lengths = h; casting = c }
+
+-- of length coding; hasTypeCasting adds 10 hex to the byte and 4 to the number
+unfoldable pub lengthsNumber : Lengths → ℕ
+lengthsNumber Lengths.never = modes.never
+lengthsNumber Lengths.optional = modes.optional
+lengthsNumber Lengths.always = modes.always
+
 unfoldable pub modeByte : Mode → ℕ
-modeByte Mode.never = neverByte
-modeByte Mode.optional = optionalByte
-modeByte Mode.always = alwaysByte
+modeByte m = neverByte + (optionalByte - neverByte) * lengthsNumber (m .lengths) + cond (m .casting) modes.castingByte 0
 
 unfoldable pub modeNumber : Mode → ℕ
-modeNumber Mode.never = modes.never
-modeNumber Mode.optional = modes.optional
-modeNumber Mode.always = modes.always
+modeNumber m = lengthsNumber (m .lengths) + cond (m .casting) modes.casting 0
 
--- the mode that a byte is; of a payload how many bytes there are is judged before the first of them
-unfoldable pub modeAt : ℕ → Res Mode
-modeAt x = cond (eqb x neverByte) (got Mode.never) (cond (eqb x optionalByte) (got Mode.optional) (cond (eqb x alwaysByte) (got Mode.always) (fault refusal.modeByte)))
+-- the six modes; the last three only for a table with derivations
+abbrev pub plainModes : List Mode
+plainModes = mode Lengths.never false ∷ mode Lengths.optional false ∷ mode Lengths.always false ∷ []
 
-unfoldable pub modeOf : List ℕ → Res Mode
-modeOf s = do
+abbrev pub castModes : List Mode
+castModes = mode Lengths.never true ∷ mode Lengths.optional true ∷ mode Lengths.always true ∷ []
+
+unfoldable pub modesFor : (derivations : ℕ) → List Mode
+modesFor zero = plainModes
+modesFor (suc n) = plainModes ++ castModes
+
+-- the mode that has this byte or number; else refused with e
+unfoldable pub modeBy : (Mode → ℕ) → List Mode → ℕ → ℕ → Res Mode
+modeBy f [] x e = fault e
+modeBy f (m ∷ l) x e = cond (eqb x (f m)) (got m) (modeBy f l x e)
+
+-- 3, then 4
+unfoldable pub modeOf : ℕ → List ℕ → Res Mode
+modeOf derivations s = do
   atMost 1 (length s) payloadSize
   atMost (length s) mostPayload payloadSize
-  modeAt (getD s 0 0)
+  modeBy modeByte (modesFor derivations) (getD s 0 0) refusal.modeByte
 
 -- n bits from at are 0; what is left after the root: fewer than 8 bits, all 0
 unfoldable pub zeros : (ℕ → ℕ) → ℕ → ℕ → Bool
@@ -68,15 +86,16 @@ replied pads mode (given ns q) = padded (pads q) mode ns q
 replied pads mode (refused n p π) = declined n p (reverse π)
 
 -- the root at bit 8, where the mode byte is one of the three
-unfoldable pub rootIn : (ℕ → Bool) → Plan → List ℕ → Room → Mode → Reply
-rootIn held P s room mode = replied (padding s) mode (read (bitAt s) mode held P room [] (8 * length s) 8)
+unfoldable pub rootIn : (ℕ → Bool) → (Bool → Plan) → List ℕ → Room → Mode → Reply
+rootIn held P s room m = replied (padding s) m (read (bitAt s) (m .lengths) held (P (m .casting)) room [] (8 * length s) 8)
 
 unfoldable pub inMode : Res Mode → (Mode → Reply) → Reply
 inMode (got mode) k = k mode
 inMode (fault n) k = declined n 0 []
 
-unfoldable pub payload : (ℕ → Bool) → Plan → List ℕ → Room → Reply
-payload held P s room = inMode (modeOf s) (rootIn held P s room)
+-- the plan goes by whether type codes are sent
+unfoldable pub payload : (ℕ → Bool) → (Bool → Plan) → ℕ → List ℕ → Room → Reply
+payload held P derivations s room = inMode (modeOf derivations s) (rootIn held P s room)
 
 -- what every entry asks of the root
 unfoldable pub asked : ℕ → ℕ → ℕ → Res Unit
@@ -99,7 +118,7 @@ afterVerdict (wrong i) r = declined refusal.table i []
 -- THE READING: table words, root name, root type, payload bytes, lent event words, lent text bytes (both as numbers)
 unfoldable pub reading : List ℕ → ℕ → ℕ → List ℕ → ℕ → ℕ → Reply
 reading l name type s words bytes =
-    afterVerdict (verdict l) (afterAsked (asked (tableOf l .types) name type) (payload (heldOf l) (rooted (tableOf l) name type) s (roomOf words bytes)))
+    afterVerdict (verdict l) (afterAsked (asked (tableOf l .types) name type) (payload (heldOf l) (λ casting. rooted (tableIn casting (tableOf l)) name type) (tableOf l .derivations) s (roomOf words bytes)))
 
 -- what the host gets: the answer, and the final content of the lent events and texts
 pub record Outcome : Type 0 where
@@ -162,18 +181,15 @@ spent n (Out.wrote w (e ∷ M) U) k = unmade (cond (eqb (e .kind) kinds.blank) r
 spent n (Out.refused e left) k = unmade e (n - left)
 
 -- the mode that is asked for
-unfoldable pub modeAsked : ℕ → Res Mode
-modeAsked zero = got Mode.never
-modeAsked (suc zero) = got Mode.optional
-modeAsked (suc (suc zero)) = got Mode.always
-modeAsked (suc (suc (suc k))) = fault writeMode
+unfoldable pub modeAsked : (derivations mode : ℕ) → Res Mode
+modeAsked derivations n = modeBy modeNumber (modesFor derivations) n writeMode
 
 -- the list's shape: whole events, at most mostEvents of them
 unfoldable pub shaped : List ℕ → Made → Made
 shaped l m = cond (eqb (length l % 4) 0) (cond (leb (length l / 4) mostEvents) m (unmade noReading (length l / 4))) (unmade noReading (length l / 4))
 
 unfoldable pub written : (ℕ → Bool) → Plan → Mode → List Bare → List ℕ → ℕ → Made
-written held P mode M T room = spent (length M) (write mode held P M T) (roomed room mode)
+written held P m M T room = spent (length M) (write (m .lengths) held P M T) (roomed room m)
 
 unfoldable pub orUnmade : {A : Type 0} → Res A → (A → Made) → Made
 orUnmade (got a) k = k a
@@ -188,8 +204,8 @@ unfoldable pub writing : List ℕ → ℕ → ℕ → ℕ → List ℕ → List 
 writing l name type mode events texts room =
     verdictMade (verdict l)
     (orUnmade (asked (tableOf l .types) name type) (λ u.
-    orUnmade (modeAsked mode) (λ m.
-    shaped events (written (heldOf l) (rooted (tableOf l) name type) m (eventsFrom events 0 (length events / 4)) texts room))))
+    orUnmade (modeAsked (tableOf l .derivations) mode) (λ m.
+    shaped events (written (heldOf l) (rooted (tableIn (m .casting) (tableOf l)) name type) m (eventsFrom events 0 (length events / 4)) texts room))))
 
 -- what the host gets: the answer (mode asked, all events and texts of the list), and the final content of the lent payload
 unfoldable pub outcomeMade : ℕ → ℕ → ℕ → Made → Outcome

@@ -14,10 +14,10 @@ use Rattle.wire.specs.Res.{Res, got, fault, _>>=_, _>>_, atMost}
 use Rattle.value.specs.Code.{bitsOf, codeOut}
 use Rattle.value.specs.Simple.{Simple, plain, text, count, bytes, unless}
 use Rattle.utf8.specs.Text.{textFault}
-use Rattle.model.specs.Model.{Event, end, Item, eventOf, Plan}
+use Rattle.model.specs.Model.{Event, end, Item, eventOf, Types, codes, defaultType, Plan}
 use Rattle.model.specs.Model.Plan.{done, deep, item, element}
 use Rattle.model.specs.Model.Item.{required, optional, valued, picked, counted}
-use Rattle.model.specs.Items.{Mode, flag, lengths, Form, present, simply, formOf, Length, free, long}
+use Rattle.model.specs.Items.{Lengths, flag, theLength, substituteCode, typeCode, Form, present, simply, formOf, Length, free, long}
 
 -- an event without its fourth word
 pub record Bare : Type 0 where
@@ -67,12 +67,16 @@ abbrev pub asItem : Item → Bare → Bare
 asItem i e = bare (eventOf i (wordOf i e) 0)
 
 -- a Start's second word: 0 in mode 0, 1 in mode 2, either in mode 1
-unfoldable pub flagIn : Mode → ℕ → ℕ
-flagIn Mode.never q = 0
-flagIn Mode.optional q = min q 1
-flagIn Mode.always q = 1
+unfoldable pub flagIn : Lengths → ℕ → ℕ
+flagIn Lengths.never q = 0
+flagIn Lengths.optional q = min q 1
+flagIn Lengths.always q = 1
 
-abbrev pub asStart : Mode → ℕ → Bare → Bare
+-- of the codes' event no word is fixed
+abbrev pub asCast : Bare → Bare
+asCast e = record { kind = kinds.cast; p = e .p; q = e .q }
+
+abbrev pub asStart : Lengths → ℕ → Bare → Bare
 asStart mode name e = record { kind = kinds.start; p = name; q = flagIn mode (e .q) }
 
 abbrev pub asEnd : Bare → Bare
@@ -106,17 +110,32 @@ abbrev pub lengthOf : ℕ → ℕ → Length
 lengthOf zero n = free
 lengthOf (suc k) n = long n
 
-unfoldable pub headOut : Mode → Length → List ℕ
-headOut Mode.never h = []
-headOut Mode.optional free = bitsOf flag 0
-headOut Mode.optional (long n) = bitsOf flag 1 ++ bitsOf lengths n
-headOut Mode.always free = []
-headOut Mode.always (long n) = bitsOf lengths n
+unfoldable pub headOut : Lengths → Length → List ℕ
+headOut Lengths.never h = []
+headOut Lengths.optional free = bitsOf flag 0
+headOut Lengths.optional (long n) = bitsOf flag 1 ++ bitsOf theLength n
+headOut Lengths.always free = []
+headOut Lengths.always (long n) = bitsOf theLength n
 
--- what was written inside an element whose Start's second word is q: its End, then the head before it
-unfoldable pub sealed : Mode → ℕ → Out → Out
-sealed mode q (wrote w M T) = taken asEnd M (λ e N. wrote (headOut mode (lengthOf q (length w)) ++ w) N T)
-sealed mode q (refused n i) = refused n i
+-- where a type stands: 0 is the type itself, then from 1 on its place in the list; past the list where it is nowhere
+unfoldable pub placeIn : ℕ → List ℕ → ℕ
+placeIn x [] = 1
+placeIn x (t ∷ l) = cond (eqb x t) 1 (suc (placeIn x l))
+
+unfoldable pub standing : ℕ → ℕ → List ℕ → ℕ
+standing x t l = cond (eqb x t) 0 (placeIn x l)
+
+-- the bits of the codes for an effective type and a substitute, or 20
+unfoldable pub codesOut : Types → ℕ → ℕ → Res (List ℕ)
+codesOut y type k = do
+  c ← codeOut (substituteCode y) k
+  d ← codeOut (typeCode y k) (standing type (defaultType y k) (y .derived (defaultType y k)))
+  got (c ++ d)
+
+-- what was written inside an element whose Start's second word is q, behind its codes c: its End, then head and codes before it
+unfoldable pub sealed : Lengths → ℕ → List ℕ → Out → Out
+sealed mode q c (wrote w M T) = taken asEnd M (λ e N. wrote (headOut mode (lengthOf q (length (c ++ w))) ++ (c ++ w)) N T)
+sealed mode q c (refused n i) = refused n i
 
 -- depth, where an event is left
 unfoldable pub tooDeep : List Bare → Out
@@ -127,10 +146,17 @@ unfoldable pub allowed : Bool → ℕ → Out → Out
 allowed true i o = o
 allowed false i o = refused notHeld i
 
-module _ (mode : Mode) (held : ℕ → Bool) where
-  -- an element, where f writes what is inside it: its Start, and whether the type is held
-  unfoldable pub elementOut : (List Bare → List ℕ → Out) → ℕ → ℕ → List Bare → List ℕ → Out
-  elementOut f name type M T = taken (asStart mode name) M (λ e N. allowed (held type) (suc (length N)) (sealed mode (e .q) (f N T)))
+-- the codes' event, where a flag bit is sent: the effective type, the codes' bits and the events after it
+unfoldable pub casts : Bool → Types → List Bare → (ℕ → List ℕ → List Bare → Out) → Out
+casts true y M k = taken asCast M (λ e N. coded (codesOut y (e .p) (e .q)) (suc (length N)) (λ c. k (e .p) c N))
+casts false y M k = k (y .own) [] M
+
+module _ (mode : Lengths) (held : ℕ → Bool) where
+  -- an element, where f writes what is inside it by its type: its Start, its codes' event, 9 at its Start where the effective type is not held
+  unfoldable pub elementOut : (ℕ → List Bare → List ℕ → Out) → ℕ → Types → List Bare → List ℕ → Out
+  elementOut f name y M T =
+      taken (asStart mode name) M
+      (λ e N. casts (codes y) y N (λ t c K. allowed (held t) (suc (length N)) (sealed mode (e .q) c (f t K T))))
 
   unfoldable pub write : Plan → List Bare → List ℕ → Out
   write done M T = wrote [] M T
@@ -138,4 +164,4 @@ module _ (mode : Mode) (held : ℕ → Bool) where
   write (item i k) M T =
       taken (asItem i) M
       (λ e N. coded (itemOut i (wordOf i e) T) (suc (length N)) (λ (w, U). put w (write (k (wordOf i e)) N U)))
-  write (element name type f P) M T = along (elementOut (λ N U. write (f type) N U) name type M T) (λ N U. write P N U)
+  write (element name y f P) M T = along (elementOut (λ t N U. write (f t) N U) name y M T) (λ N U. write P N U)

@@ -6,14 +6,14 @@ use lib.ListN.{length}
 use Rattle.table.specs.Rows.{Row, Content, Attribute, Table}
 use Rattle.model.specs.Model.{Item, value, attribute, attributes, contents, rows, within, plan}
 use Rattle.model.specs.Model.Plan.{done}
-use Rattle.model.specs.Items.{Mode}
+use Rattle.model.specs.Items.{Lengths}
 use Rattle.model.specs.Write.{Bare, Out, put, taken, wordOf, asItem, itemOut, coded, write}
 
 -- the next event as an item's, and then, with its value and what is left, the rest
 abbrev pub itemThen : Item → List Bare → List ℕ → (ℕ → List Bare → List ℕ → Out) → Out
 itemThen i M T k = taken (asItem i) M (λ e N. coded (itemOut i (wordOf i e) T) (suc (length N)) (λ (w, U). put w (k (wordOf i e) N U)))
 
-module _ (mode : Mode) (held : ℕ → Bool) where
+module _ (mode : Lengths) (held : ℕ → Bool) where
   module _ (T : Table) where
     abbrev pub particleOut : ℕ → Row → List Bare → List ℕ → Out
     particleOut d row M X = write mode held (plan T d row done) M X

@@ -21,3 +21,6 @@ end = 6
 
 abbrev pub blank : ℕ
 blank = 7
+
+abbrev pub cast : ℕ
+cast = 8

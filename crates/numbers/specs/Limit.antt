@@ -20,10 +20,10 @@ abbrev pub mostPayload : ℕ
 mostPayload = 8192
 
 abbrev pub mostTable : ℕ
-mostTable = 35856
+mostTable = 58392
 
 abbrev pub mostTableWords : ℕ
-mostTableWords = 8964
+mostTableWords = 14598
 
 abbrev pub mostOpen : ℕ
 mostOpen = 64
@@ -63,3 +63,9 @@ mostText = 4095
 
 abbrev pub mostWord : ℕ
 mostWord = 4294967295
+
+abbrev pub mostDerivations : ℕ
+mostDerivations = 1024
+
+abbrev pub mostSubstitutes : ℕ
+mostSubstitutes = 1024

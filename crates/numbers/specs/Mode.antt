@@ -10,6 +10,9 @@ optional = 1
 abbrev pub always : ℕ
 always = 2
 
+abbrev pub casting : ℕ
+casting = 4
+
 abbrev pub neverByte : ℕ
 neverByte = 0x0F
 
@@ -18,3 +21,6 @@ optionalByte = 0x4F
 
 abbrev pub alwaysByte : ℕ
 alwaysByte = 0x8F
+
+abbrev pub castingByte : ℕ
+castingByte = 0x10

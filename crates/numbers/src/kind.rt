@@ -12,5 +12,7 @@ pub const PICK: u32 = 4;
 pub const TIMES: u32 = 5;
 // The element that was begun last ends.
 pub const END: u32 = 6;
-// An element stepped over, as its type is not held: p its name, q its type.
+// An element stepped over, as its type is not held: p its name, q its effective type.
 pub const BLANK: u32 = 7;
+// The codes of the element that was begun: p its effective type, q its substitute from 1, or 0.
+pub const CAST: u32 = 8;

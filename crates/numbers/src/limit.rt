@@ -12,8 +12,8 @@ pub const MOST_EVENTS: usize = 2048;
 pub const MOST_EVENT_WORDS: usize = 4 * MOST_EVENTS;
 // The most bytes of a payload: its bits are counted in a word, 8 times over.
 pub const MOST_PAYLOAD: usize = 8192;
-// The bytes of the largest table that is right, with MOST_TYPES, MOST_ATTRIBUTES and MOST_PARTICLES rows.
-pub const MOST_TABLE: usize = 35856;
+// The bytes of the largest table that is right: form 2, with the most rows, derived entries and substitutes.
+pub const MOST_TABLE: usize = 58392;
 // Its words: what is lent for a table on the stack has room for so many.
 pub const MOST_TABLE_WORDS: usize = MOST_TABLE / 4;
 // The most elements and particle rows that are open at once: reader and writer call themselves once for each, so the stack depends on it.
@@ -26,6 +26,10 @@ pub const MOST_TYPES: u32 = 256;
 pub const MOST_ATTRIBUTES: u32 = 1024;
 
 pub const MOST_PARTICLES: u32 = 1024;
+// The most derived entries and substitutes of a table of form 2.
+pub const MOST_DERIVATIONS: u32 = 1024;
+
+pub const MOST_SUBSTITUTES: u32 = 1024;
 // The most child rows of a sequence or a choice.
 pub const MOST_CHILDREN: u32 = 64;
 // The most values of an enumeration.

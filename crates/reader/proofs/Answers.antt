@@ -1,14 +1,17 @@
 -- What an entry promises: its answer, in document 01's numbers, and what it leaves in the lent buffers.
-use Prim.Native.Nat.{ℕ, zero, suc}
+use Prim.Native.Nat.{ℕ, zero, suc, _+_, _<_}
 use mathlib.Core.Path.{_≡_, refl, ap, _∙_}
 use mathlib.Core.List.{List, [], _∷_, _++_, reverse, reverse-cons}
+use native.Mathlib.Omega.{arith}
+use mathlib.Core.Bool.{true, false}
 use lib.ListN.{getD, replicate}
-use Rattle.model.specs.Whole.{modeNumber, Reply, declined, declines, outcome, eventsLeft, textsLeft}
-use Rattle.reader_parts.specs.Heads.{modeIs}
+use Rattle.model.specs.Whole.{lengthsNumber, modeNumber, Reply, declined, declines, outcome, eventsLeft, textsLeft}
+use Rattle.model.specs.Modes.{lengthsIs, modeIs}
+use Rattle.model.specs.declared.Lengths.{Lengths}
+use Rattle.model.specs.declared.Lengths.the-variants.{Never, Optional, Always}
+use Rattle.model.specs.declared.Mode.{Mode}
 use Rattle.reader_parts.specs.Paths.{back, namesOf}
 use Rattle.reader_parts.specs.declared.Cursor.{Cursor}
-use Rattle.reader_parts.specs.declared.Mode.{Mode}
-use Rattle.reader_parts.specs.declared.Mode.the-variants.{Never, Optional, Always}
 use Rattle.reader_parts.specs.declared.Path.{Path}
 use Rattle.reader.specs.declared.Answer as code
 use Rattle.reader.specs.Answers.{firstNames, pathIs, answerIs, Replies, told}
@@ -32,21 +35,42 @@ pub declined-replies : (R : Reply) (words bytes n p : ℕ) (π : List ℕ) (r : 
 unfolding outcome eventsLeft textsLeft
 declined-replies R words bytes n p π r E T e a x y = record { answer = rw e a; events-left = rw e x; texts-left = rw e y }
 
--- the mode's number, case by case
-module _ (mode : Mode) where
-  pub number-never : mode ≡ Never → 0 ≡ modeNumber (modeIs mode)
-  unfolding modeNumber modeIs
+-- the number of a length coding, case by case
+module _ (lengths : Lengths) where
+  pub number-never : lengths ≡ Never → 0 ≡ lengthsNumber (lengthsIs lengths)
+  unfolding lengthsNumber lengthsIs
   number-never e = rw e
 
-  pub number-optional : mode ≡ Optional → 1 ≡ modeNumber (modeIs mode)
-  unfolding modeNumber modeIs
+  pub number-optional : lengths ≡ Optional → 1 ≡ lengthsNumber (lengthsIs lengths)
+  unfolding lengthsNumber lengthsIs
   number-optional e = rw e
 
-  pub number-always : mode ≡ Always → 2 ≡ modeNumber (modeIs mode)
-  unfolding modeNumber modeIs
+  pub number-always : lengths ≡ Always → 2 ≡ lengthsNumber (lengthsIs lengths)
+  unfolding lengthsNumber lengthsIs
   number-always e = rw e
 
-pub ruleset number-ways = (number-never, number-optional, number-always)
+pub ruleset lengths-ways = (number-never, number-optional, number-always)
+
+-- the mode's, by whether type codes are sent
+few : (l : Lengths) → lengthsNumber (lengthsIs l) < 3
+unfolding lengthsNumber lengthsIs
+few Never = omega arith
+few Optional = omega arith
+few Always = omega arith
+
+module _ (mode : Mode) (n : ℕ) (e : n ≡ lengthsNumber (lengthsIs (mode .lengths))) where
+  pub number-fits : n + 4 < 4294967296
+  number-fits = omega (arith, few (mode .lengths))
+
+  pub number-casting : (m : ℕ) → mode .choices .derived ≡ true → m ≡ n + 4 → m ≡ modeNumber (modeIs mode)
+  unfolding modeNumber
+  number-casting m h g = rw (g, h, e)
+
+  pub number-plain : mode .choices .derived ≡ false → n ≡ modeNumber (modeIs mode)
+  unfolding modeNumber
+  number-plain h = rw h (omega (arith, e))
+
+pub ruleset number-ways = (number-fits, number-casting, number-plain)
 
 -- an acceptance, field by field
 pub told-all : (mode : Mode) (c : Cursor) (path : Path) (r : code.Answer) → r .number ≡ 0 → r .place ≡ 0 → r .mode ≡ modeNumber (modeIs mode) → r .events ≡ c .count

@@ -4,11 +4,7 @@ use mathlib.Core.Path.{_≡_, sym, _∙_, subst}
 use mathlib.Core.List.{List}
 use mathlib.Core.Bool.{true, false}
 use native.Mathlib.Omega.{arith}
-use lib.ListN.{length}
-use Rattle.numbers.specs.Refusal.{noSuchCode}
 use Rattle.numbers.specs.Limit.{mostName, mostNames, mostParticles}
-use Rattle.wire.specs.Res.{Ensures}
-use Rattle.wire.proofs.Res.{bind, gives, under}
 use Rattle.wire.specs.Answer.{readIs}
 use Rattle.wire.specs.declared.Bits.{Bits}
 use Rattle.wire.specs.declared.Read as code·read
@@ -24,38 +20,45 @@ use Rattle.table.specs.declared.answers.Content as code·content
 use Rattle.table.specs.declared.answers.Content.the-variants.{Particles}
 use Rattle.table.specs.declared.answers.Particle as code·particle
 use Rattle.table.specs.declared.answers.Particle.the-variants.{Element, Sequence, Choice, Occurs}
+use Rattle.model.specs.Modes.{typesBy}
+use Rattle.model.specs.declared.Choices.{Choices}
+use Rattle.model.specs.declared.Mode.{Mode}
+use Rattle.reader_parts.specs.Codes.{Says}
 use Rattle.reader_parts.specs.Heads.{Within, Heads}
 use Rattle.reader_parts.specs.Paths.{Pushed}
+use Rattle.reader_parts.specs.declared.Cast.{Cast}
+use Rattle.reader_parts.specs.declared.Coded.{Coded}
+use Rattle.reader_parts.specs.declared.Coded.the-variants.{As}
 use Rattle.reader_parts.specs.declared.Head as code·head
 use Rattle.reader_parts.specs.declared.Head.the-variants.{Bare, Sized, Wrong}
-use Rattle.reader_parts.specs.declared.Mode.{Mode}
 use Rattle.reader_parts.specs.declared.Path.{Path}
-use Rattle.reader.specs.Meaning.{Ready, Fits, Reaches, reachOf, stride}
+use Rattle.reader_parts.proofs.CodeWays.{choice-in, effective-known}
+use Rattle.reader.specs.Meaning.{Ready, Rowed, Fits, Reaches, reachOf, stride}
 use Rattle.reader.specs.declared.cycle.Extent.{Extent}
 use Rattle.reader.specs.declared.cycle.Reach.{Reach}
 use Rattle.reader.specs.declared.cycle.Reach.the-variants.{To}
 use Rattle.reader.proofs.Strides.{stride-one, stride-none}
 
-module _ (t s : List ℕ) (wall n d : ℕ) (h : Ready t s wall n d) where
+module _ (t s : List ℕ) (mode : Mode) (wall n d : ℕ) (h : Ready t s mode wall n d) where
   -- a row is opened; so is an element, which takes a place of the path
-  pub ready-row : (d ≡ 0 → ⊥) → Ready t s wall n (d - 1)
-  ready-row z = record { valid = h .valid; walls = h .walls; places = omega (arith, h .places) }
+  pub ready-row : (d ≡ 0 → ⊥) → Ready t s mode wall n (d - 1)
+  ready-row z = record { valid = h .valid; choosing = h .choosing; walls = h .walls; places = omega (arith, h .places) }
 
-  pub ready-element : (d ≡ 0 → ⊥) → Ready t s wall (n + 1) (d - 1)
-  ready-element z = record { valid = h .valid; walls = h .walls; places = omega (arith, h .places) }
+  pub ready-element : (d ≡ 0 → ⊥) → Ready t s mode wall (n + 1) (d - 1)
+  ready-element z = record { valid = h .valid; choosing = h .choosing; walls = h .walls; places = omega (arith, h .places) }
 
   -- an element's own end is the wall of what is inside it
-  pub ready-end : (mode : Mode) (b : ℕ → ℕ) (at : ℕ) (x : code·head.Head) (w : Bits) (r : Reach) (y : Extent) → Heads mode b wall at x → w .0 ≡ wall → r ≡ reachOf x w → r ≡ To y
-      → Ready t s (y .wall .0) n d
-  ready-end mode b at x w r y e g f i = go x (e .within) (sym i ∙ f)
+  pub ready-end : (b : ℕ → ℕ) (at : ℕ) (x : code·head.Head) (w : Bits) (r : Reach) (y : Extent) → Heads (mode .lengths) b wall at x → w .0 ≡ wall → r ≡ reachOf x w → r ≡ To y
+      → Ready t s mode (y .wall .0) n d
+  ready-end b at x w r y e g f i = go x (e .within) (sym i ∙ f)
     where
-      go : (a : code·head.Head) → Within wall a → To y ≡ reachOf a w → Ready t s (y .wall .0) n d
+      go : (a : code·head.Head) → Within wall a → To y ≡ reachOf a w → Ready t s mode (y .wall .0) n d
       go (Bare body) k j =
           let z : y ≡ record { coded = false; body = body; wall = w } = cc in
           rw (z, g) h
       go (Sized body end) k j =
           let z : y ≡ record { coded = true; body = body; wall = end } = cc in
-          rw z (record { valid = h .valid; walls = omega (arith, h .walls); places = h .places })
+          rw z (record { valid = h .valid; choosing = h .choosing; walls = omega (arith, h .walls); places = h .places })
       go (Wrong m) k j = let z : _≡_ {A = ℕ} 0 1 = cc in absurd (omega arith)
 
   -- rows and types are few; those that the rows name are there
@@ -73,21 +76,33 @@ module _ (t s : List ℕ) (wall n d : ℕ) (h : Ready t s wall n d) where
   row-fits i r g e = go (rowIs r) (particle-met t (h .valid) i g r e)
     where
       go : (x : Row) → RowOk (typesIn t) (particlesIn t) i x → Fits (typesIn t) (particlesIn t) x
-      go (element name type) k = (k .name-small, k .type-known)
+      go (element name type row) k = (k .name-small, k .type-known, k .row-known)
       go (sequence first n) k = k .within
       go (choice first n) k = k .within
       go (occurs child least most) k = k .within
+
+  -- the type that an element's codes say is one of the table's
+  pub element-effective : (choices : Choices) (ty row : ℕ) (b : ℕ → ℕ) (end at : ℕ) (k : Coded) (x : Cast) → ty < typesIn t → Rowed t choices row
+      → Says (typesBy t choices ty row) b end at k → k ≡ As x → x .effective < typesIn t
+  element-effective choices ty row b end at k x g r e f = effective-known t (h .valid) choices ty row b end at g (r .known) k e x f
+
+-- an element of a row
+pub rowed : (t : List ℕ) (choices : Choices) (row : ℕ) → row < particlesIn t → Rowed t choices row
+rowed t choices row h = record { known = λ e. h }
 
 -- what a row that fits names
 module _ (T P : ℕ) (r : code·particle.Particle) (h : Fits T P (rowIs r)) where
   fits-as : (x : code·particle.Particle) → r ≡ x → Fits T P (rowIs x)
   fits-as x f = subst (λ (x : code·particle.Particle). Fits T P (rowIs x)) f h
 
-  pub element-name : (name ty : ℕ) → r ≡ Element name ty → name ≤ mostName
-  element-name name ty f = fits-as (Element name ty) f .0
+  pub element-name : (name ty row : ℕ) → r ≡ Element name ty row → name ≤ mostName
+  element-name name ty row f = fits-as (Element name ty row) f .0
 
-  pub element-type : (name ty : ℕ) → r ≡ Element name ty → ty < T
-  element-type name ty f = fits-as (Element name ty) f .1
+  pub element-type : (name ty row : ℕ) → r ≡ Element name ty row → ty < T
+  element-type name ty row f = fits-as (Element name ty row) f .1
+
+  pub element-row : (name ty row : ℕ) → r ≡ Element name ty row → row < P
+  element-row name ty row f = fits-as (Element name ty row) f .2
 
   pub sequence-rows : (first m : ℕ) → r ≡ Sequence first m → Reaches P first 1 m
   sequence-rows first m f =
@@ -105,18 +120,14 @@ pub occurs-rows : (P child m : ℕ) → child < P → Reaches P child 0 m
 occurs-rows P child m h = record { small = omega arith; row = λ j l. rw (stride-none child j) h }
 
 -- the branch that a choice names
-choice-in : (b : ℕ → ℕ) (n wall at : ℕ) → Ensures (choiceAt b n wall at) (λ x. x .0 < n)
-unfolding choiceAt
-choice-in b n wall at = bind {P = λ x. Unit {0}} (record { says = λ x e. tt }) (λ x u. under noSuchCode λ k. gives (omega arith))
-
 pub branch-row : (P first n : ℕ) (b : ℕ → ℕ) (wall at : ℕ) (r : code·read.Read) (v : ℕ) (q : Bits) → first + n ≤ P → readIs r ≡ choiceAt b n wall at → r ≡ Value v q → first + v < P
 unfolding readIs
 branch-row P first n b wall at r v q h e g = let k = choice-in b n wall at .says (v, q .0) (sym e ∙ rw g) in omega arith
 
 -- a row's number fits a word
-pub branch-fits : (t s : List ℕ) (wall m d : ℕ) → Ready t s wall m d → (first n : ℕ) (b : ℕ → ℕ) (at : ℕ) (r : code·read.Read) (v : ℕ) (q : Bits)
+pub branch-fits : (t s : List ℕ) (mode : Mode) (wall m d : ℕ) → Ready t s mode wall m d → (first n : ℕ) (b : ℕ → ℕ) (at : ℕ) (r : code·read.Read) (v : ℕ) (q : Bits)
     → first + n ≤ particlesIn t → readIs r ≡ choiceAt b n wall at → r ≡ Value v q → first + v < 4294967296
-branch-fits t s wall m d h first n b at r v q k e g = let f = branch-row (particlesIn t) first n b wall at r v q k e g in omega (arith, rows-few t s wall m d h)
+branch-fits t s mode wall m d h first n b at r v q k e g = let f = branch-row (particlesIn t) first n b wall at r v q k e g in omega (arith, rows-few t s mode wall m d h)
 
 -- the rows of rounds that are left
 module _ (P i k n j : ℕ) (h : Reaches P i k (n - j)) (g : j < n) where
@@ -128,14 +139,14 @@ module _ (P i k n j : ℕ) (h : Reaches P i k (n - j)) (g : j < n) where
   unfolding stride
   round-next = record { small = h .small; row = λ a l. h .row (suc a) (omega arith) }
 
-pub round-fits : (t s : List ℕ) (wall m d : ℕ) → Ready t s wall m d → (i k n j : ℕ) → Reaches (particlesIn t) i k (n - j) → j < n → i + k < 4294967296
-round-fits t s wall m d h i k n j g l = let f = round-row (particlesIn t) i k n j g l in omega (arith, rows-few t s wall m d h, g .small)
+pub round-fits : (t s : List ℕ) (mode : Mode) (wall m d : ℕ) → Ready t s mode wall m d → (i k n j : ℕ) → Reaches (particlesIn t) i k (n - j) → j < n → i + k < 4294967296
+round-fits t s mode wall m d h i k n j g l = let f = round-row (particlesIn t) i k n j g l in omega (arith, rows-few t s mode wall m d h, g .small)
 
 -- the path: one name longer inside an element
-pub ready-pushed : (t s : List ℕ) (wall d : ℕ) (path inner : Path) (name : ℕ) → Pushed path name inner → Ready t s wall (path .count + 1) d → Ready t s wall (inner .count) d
-ready-pushed t s wall d path inner name i r = rw (i .count) r
+pub ready-pushed : (t s : List ℕ) (mode : Mode) (wall d : ℕ) (path inner : Path) (name : ℕ) → Pushed path name inner → Ready t s mode wall (path .count + 1) d → Ready t s mode wall (inner .count) d
+ready-pushed t s mode wall d path inner name i r = rw (i .count) r
 
-pub path-open : (t s : List ℕ) (wall n d : ℕ) → Ready t s wall (n + 1) d → n < mostNames
-path-open t s wall n d r = omega (arith, r .places)
+pub path-open : (t s : List ℕ) (mode : Mode) (wall n d : ℕ) → Ready t s mode wall (n + 1) d → n < mostNames
+path-open t s mode wall n d r = omega (arith, r .places)
 
-pub ruleset asked-ways = (ready-row, ready-element, ready-end, rows-few, spans-few, content-row, row-fits, element-name, element-type, sequence-rows, choice-rows, occurs-row, occurs-rows, branch-row, branch-fits, round-row, round-fits, round-next, ready-pushed, path-open)
+pub ruleset asked-ways = (ready-row, ready-element, ready-end, rows-few, spans-few, content-row, row-fits, element-name, element-type, element-row, rowed, element-effective, sequence-rows, choice-rows, occurs-row, occurs-rows, branch-row, branch-fits, round-row, round-fits, round-next, ready-pushed, path-open)

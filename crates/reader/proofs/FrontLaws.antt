@@ -1,45 +1,91 @@
 -- The mode byte as the code finds it, and the ways to it.
 use Prim.Native.Nat.{ℕ, _<_, _≤_}
-use mathlib.Core.Path.{_≡_, sym, _∙_}
+use mathlib.Core.Path.{_≡_, refl, sym, _∙_}
+use mathlib.Core.Bool.{Bool, true, false}
 use mathlib.Core.List.{List}
 use native.Mathlib.Omega.{arith}
+use borrow.Author.Tests.{ltb-false}
+use lib.Dec.{ltb}
 use lib.ListN.{length, getD}
 use Rattle.numbers.specs.Refusal as refusal
 use Rattle.numbers.specs.Refusal.{payloadSize}
 use Rattle.numbers.specs.Limit.{mostPayload}
 use Rattle.numbers.specs.Mode.{alwaysByte, neverByte, optionalByte}
-use Rattle.model.specs.Whole.{modeOf}
-use Rattle.model.proofs.EntryWays.{mode-none, mode-flag, mode-all, mode-other, mode-empty, mode-long, mode-byte}
-use Rattle.reader_parts.specs.Heads.{modeIs}
-use Rattle.reader_parts.specs.declared.Mode.the-variants.{Never, Optional, Always}
+use Rattle.wire.specs.Res.{fault}
+use Rattle.table.specs.Words.{substitutesIn}
+use Rattle.table.specs.Rows.{tableOf}
+use Rattle.model.specs.Modes.{lengthsIs}
+use Rattle.model.specs.Whole.{mode, lengthsNumber, modeByte, modeOf}
+use Rattle.model.specs.declared.Lengths.{Lengths}
+use Rattle.model.specs.declared.Lengths.the-variants.{Never, Optional, Always}
+use Rattle.model.proofs.EntryWays.{mode-is, mode-other, mode-empty, mode-long, mode-byte}
+use Rattle.reader.specs.declared.front.Found.{Found}
 use Rattle.reader.specs.declared.front.Found.the-variants.{Is, Refuse}
-use Rattle.reader.specs.Front.{foundIs}
+use Rattle.reader.specs.Front.{foundIs, Makes, Finds}
 
-module _ (s : List ℕ) where
-  pub front-empty : length s ≡ 0 → foundIs (Refuse payloadSize) ≡ modeOf s
+-- a mode, by how many substitutes the table has
+pub found-is : (l : List ℕ) (lengths : Lengths) (derived : Bool) (swaps : ℕ) → swaps ≡ substitutesIn l
+    → Makes l lengths derived (Is record { lengths = lengths; choices = record { substitutes = ltb 0 swaps; derived = derived } })
+unfolding foundIs
+found-is l lengths derived swaps e =
+    record { says = refl; choosing = record { none = λ h. let k = ltb-false 0 swaps h in omega arith } }
+
+module _ (l s : List ℕ) where
+  abbrev D : ℕ
+  D = tableOf l .derivations
+
+  refuses : (n : ℕ) → modeOf D s ≡ fault n → Finds l s (Refuse n)
   unfolding foundIs
-  front-empty h = sym (mode-empty s (omega arith))
+  refuses n e = record { says = sym e; choosing = tt }
+
+  pub front-empty : length s ≡ 0 → Finds l s (Refuse payloadSize)
+  front-empty h = refuses payloadSize (mode-empty D s (omega arith))
 
   module _ (h : length s ≡ 0 → ⊥) where
-    pub front-long : mostPayload < length s → foundIs (Refuse payloadSize) ≡ modeOf s
-    unfolding foundIs
-    front-long g = sym (mode-long s (omega arith) g)
+    pub front-long : mostPayload < length s → Finds l s (Refuse payloadSize)
+    front-long g = refuses payloadSize (mode-long D s (omega arith) g)
 
     module _ (g : length s ≤ mostPayload) where
-      pub front-never : getD s 0 0 ≡ neverByte → foundIs (Is Never) ≡ modeOf s
-      unfolding foundIs modeIs
-      front-never e = sym (mode-byte s (omega arith) g ∙ mode-none (getD s 0 0) e)
+      abbrev byte : ℕ
+      byte = getD s 0 0
 
-      pub front-optional : getD s 0 0 ≡ optionalByte → foundIs (Is Optional) ≡ modeOf s
-      unfolding foundIs modeIs
-      front-optional e = sym (mode-byte s (omega arith) g ∙ mode-flag (getD s 0 0) e)
+      found : (k : Lengths) (derived : Bool) → (derived ≡ true → 0 < D) → byte ≡ modeByte (mode (lengthsIs k) derived) → (r : Found) → Makes l k derived r → Finds l s r
+      found k derived d e r m =
+          record { says = m .says ∙ sym (mode-byte D s (omega arith) g ∙ mode-is D (mode (lengthsIs k) derived) d byte e); choosing = m .choosing }
 
-      pub front-always : getD s 0 0 ≡ alwaysByte → foundIs (Is Always) ≡ modeOf s
-      unfolding foundIs modeIs
-      front-always e = sym (mode-byte s (omega arith) g ∙ mode-all (getD s 0 0) e)
+      module _ (r : Found) where
+        pub front-never : byte ≡ neverByte → Makes l Never false r → Finds l s r
+        unfolding modeByte lengthsNumber lengthsIs
+        front-never e m = found Never false (λ z. absurd (let y : _≡_ {A = ℕ} 0 1 = cc in omega arith)) e r m
 
-      pub front-other : (getD s 0 0 ≡ neverByte → ⊥) → (getD s 0 0 ≡ optionalByte → ⊥) → (getD s 0 0 ≡ alwaysByte → ⊥) → foundIs (Refuse refusal.modeByte) ≡ modeOf s
-      unfolding foundIs
-      front-other x y z = sym (mode-byte s (omega arith) g ∙ mode-other (getD s 0 0) x y z)
+        pub front-optional : byte ≡ optionalByte → Makes l Optional false r → Finds l s r
+        unfolding modeByte lengthsNumber lengthsIs
+        front-optional e m = found Optional false (λ z. absurd (let y : _≡_ {A = ℕ} 0 1 = cc in omega arith)) e r m
 
-pub ruleset front-ways = (front-empty, front-long, front-never, front-optional, front-always, front-other)
+        pub front-always : byte ≡ alwaysByte → Makes l Always false r → Finds l s r
+        unfolding modeByte lengthsNumber lengthsIs
+        front-always e m = found Always false (λ z. absurd (let y : _≡_ {A = ℕ} 0 1 = cc in omega arith)) e r m
+
+        -- type codes are sent
+        module _ (n : ℕ) (e : n ≡ D) (z : n ≡ 0 → ⊥) where
+          pub front-never-casting : byte ≡ 0x1F → Makes l Never true r → Finds l s r
+          unfolding modeByte lengthsNumber lengthsIs
+          front-never-casting k m = found Never true (λ y. omega arith) k r m
+
+          pub front-optional-casting : byte ≡ 0x5F → Makes l Optional true r → Finds l s r
+          unfolding modeByte lengthsNumber lengthsIs
+          front-optional-casting k m = found Optional true (λ y. omega arith) k r m
+
+          pub front-always-casting : byte ≡ 0x9F → Makes l Always true r → Finds l s r
+          unfolding modeByte lengthsNumber lengthsIs
+          front-always-casting k m = found Always true (λ y. omega arith) k r m
+
+      module _ (x : byte ≡ neverByte → ⊥) (y : byte ≡ optionalByte → ⊥) (z : byte ≡ alwaysByte → ⊥) (n : ℕ) (e : n ≡ D) where
+        pub front-none : n ≡ 0 → Finds l s (Refuse refusal.modeByte)
+        front-none k = refuses 4 (mode-byte D s (omega arith) g ∙ mode-other D byte x y z (λ d. absurd (omega arith)))
+
+        pub front-other : (byte ≡ 0x1F → ⊥) → (byte ≡ 0x5F → ⊥) → (byte ≡ 0x9F → ⊥) → Finds l s (Refuse refusal.modeByte)
+        front-other u v w = refuses 4 (mode-byte D s (omega arith) g ∙ mode-other D byte x y z (λ d. (u, v, w)))
+
+pub ruleset front-ways =
+    (front-empty, front-long, front-never, front-optional, front-always, front-never-casting, front-optional-casting, front-always-casting, front-none, front-other)

@@ -1,6 +1,6 @@
 -- The ways through the entry: each answer that a reading can come to, as the code comes to it.
-use Prim.Native.Nat.{ℕ, _-_, _*_, _/_, _<_, _≤_, min}
-use mathlib.Core.Path.{_≡_, refl, sym, ap, _∙_}
+use Prim.Native.Nat.{ℕ, _+_, _-_, _*_, _/_, _<_, _≤_, min}
+use mathlib.Core.Path.{_≡_, refl, sym, ap, _∙_, subst}
 use mathlib.Core.List.{List, [], reverse}
 use mathlib.Core.Bool.{Bool, true, false}
 use native.Mathlib.Omega.{arith}
@@ -18,12 +18,11 @@ use Rattle.table.specs.First.Verdict.{right}
 use Rattle.table.specs.Valid.{verdict}
 use Rattle.table.specs.Words.{typesIn}
 use Rattle.table.specs.Rows.{tableOf, heldOf}
-use Rattle.table.specs.Rows.Row.{element}
 use Rattle.table.specs.Views.{verdictIs}
 use Rattle.table.specs.declared.answers.Verdict as code·verdict
 use Rattle.table.specs.declared.answers.Verdict.the-variants.{Right, Wrong}
 use Rattle.model.specs.Model.{Nodes, Answer, events, texts, treeSlots, treeBytes}
-use Rattle.model.specs.Model.Answer.{given, refused}
+use Rattle.model.specs.Model.Answer.{given}
 use Rattle.model.specs.Read as model
 use Rattle.model.proofs.Fit.{read-fits}
 use Rattle.model.proofs.Trees.{slots-length, bytes-length}
@@ -34,12 +33,17 @@ use Rattle.model.proofs.Entries.{words-length}
 use Rattle.model.proofs.EntryWays.{reading-table, reading-type, reading-name, reading-mode, reading-refused, reading-left, reading-given}
 use Rattle.model.proofs.Buffers.{filled-sets}
 use Rattle.reader_parts.proofs.Bytes.{bytes-few}
-use Rattle.reader_parts.specs.Heads.{modeIs}
+use Rattle.model.specs.Items as items
+use Rattle.model.specs.Model.{tableIn}
+use Rattle.model.specs.Modes.{lengthsIs, modeIs, typesBy, Choosing}
+use Rattle.model.specs.declared.Choices.{Choices}
+use Rattle.model.specs.declared.Mode.{Mode}
+use Rattle.model.proofs.ModeLaws.{types-only}
+use Rattle.model.proofs.Steps.{root-element}
 use Rattle.reader_parts.proofs.Laws.{Went, did-go, did-stop}
 use Rattle.reader_parts.specs.Out.{roomOf, outcome}
 use Rattle.reader_parts.specs.Paths.{back, namesOf}
 use Rattle.reader_parts.specs.declared.Cursor.{Cursor}
-use Rattle.reader_parts.specs.declared.Mode.{Mode}
 use Rattle.reader_parts.specs.declared.Path.{Path}
 use Rattle.reader_parts.specs.declared.Step.the-variants as step
 use Rattle.reader.specs.declared.Answer as code
@@ -47,34 +51,39 @@ use Rattle.reader.specs.declared.front.Found.{Found}
 use Rattle.reader.specs.declared.front.Found.the-variants as found
 use Rattle.reader.specs.Answers.{pathIs, answerIs, Replies, told}
 use Rattle.reader.proofs.Answers.{path-outward, no-path, declined-replies}
-use Rattle.reader.specs.Front.{foundIs}
+use Rattle.reader.specs.Front.{foundIs, Chooses, Finds}
 use Rattle.reader.specs.RefusalPath.{view}
 use Rattle.reader.specs.declared.refusal_path.Walk.{Walk}
 use Rattle.reader.specs.declared.refusal_path.Walk.the-variants.{Go, Refuse, Told}
-use Rattle.reader.specs.Meaning.{Ready, Walks, particle·}
+use Rattle.reader.specs.Meaning.{Ready, Rowed, Walks, inside·, element·}
 use Rattle.reader.specs.Cleared.{Zeros}
 
 pub zeros-cleared : (l m : List ℕ) → m ≡ replicate (length l) 0 → Zeros m
 zeros-cleared l m e = e ∙ ap (λ (n : ℕ). replicate n 0) (sym (length-replicate (length l) 0) ∙ sym (ap length e))
 
 -- what the root asks
-pub root-ready : (t s : List ℕ) (name ty : ℕ) (path : Path) (wall : ℕ) → Entered t name ty → path .count ≡ 0 → wall ≡ 8 * length s → Ready t s wall (path .count) mostOpen
-root-ready t s name ty path wall h z e = record { valid = h .table-right; walls = omega arith; places = omega arith }
+module _ (t s : List ℕ) (name ty : ℕ) (mode : Mode) (h : Entered t name ty) (k : Choosing t (mode .choices)) where
+  pub root-ready : (path : Path) (wall : ℕ) → path .count ≡ 0 → wall ≡ 8 * length s → Ready t s mode wall (path .count + 1) (mostOpen - 1)
+  root-ready path wall z e = record { valid = h .table-right; choosing = k; walls = omega arith; places = omega arith }
+
+pub root-rowed : (t : List ℕ) (choices : Choices) (row : ℕ) → choices .substitutes ≡ false → Rowed t choices row
+root-rowed t choices row e = record { known = λ f. let z : _≡_ {A = Bool} true false = sym f ∙ e in absurd (let z : _≡_ {A = ℕ} 0 1 = cc in omega arith) }
 
 pub root-type : (t : List ℕ) (name ty : ℕ) → Entered t name ty → ty < typesIn t
 unfolding tableOf
 root-type t name ty h = h .type-known
 
-short : (s : List ℕ) → Ensures (modeOf s) (λ m. length s ≤ mostPayload)
+short : (n : ℕ) (s : List ℕ) → Ensures (modeOf n s) (λ m. length s ≤ mostPayload)
 unfolding modeOf
-short s = under payloadSize λ h. under payloadSize λ k. record { says = λ m e. k }
+short n s = under payloadSize λ h. under payloadSize λ k. record { says = λ m e. k }
 
-pub payload-short : (s : List ℕ) (mode : Mode) → modeOf s ≡ got (modeIs mode) → length s ≤ mostPayload
-payload-short s mode e = short s .says (modeIs mode) e
+pub payload-short : (n : ℕ) (s : List ℕ) (mode : items.Mode) → modeOf n s ≡ got mode → length s ≤ mostPayload
+payload-short n s mode e = short n s .says mode e
 
-module _ (t s : List ℕ) (name ty : ℕ) (mode : Mode) (h : Entered t name ty) (m : modeOf s ≡ got (modeIs mode)) (E T : List ℕ) (zE : Zeros E) (zT : Zeros T)
+module _ (t s : List ℕ) (name ty : ℕ) (mode : Mode) (h : Entered t name ty) (m : modeOf (tableOf t .derivations) s ≡ got (modeIs mode)) (E T : List ℕ) (zE : Zeros E) (zT : Zeros T)
     (c : Cursor) (c8 : c .at .0 ≡ 8) (c0 : c .count ≡ 0) (u0 : c .used ≡ 0) (path : Path) (z : path .count ≡ 0) (wall : ℕ) (x : wall ≡ 8 * length s)
-    (w : Walk) (N E₁ T₁ : List ℕ) (k : Walks (particle· t s mode mostOpen (element name ty)) wall c (namesOf path) E T w N E₁ T₁) where
+    (choices : Choices) (plain : choices .substitutes ≡ false) (uncast : choices .derived ≡ false) (row : ℕ)
+    (w : Walk) (N E₁ T₁ : List ℕ) (k : Walks (element· t s mode (mostOpen - 1) name (typesBy t choices ty row)) wall c (namesOf path) E T w N E₁ T₁) where
   abbrev room : model.Room
   room = whole.roomOf (length E) (length T)
 
@@ -82,11 +91,14 @@ module _ (t s : List ℕ) (name ty : ℕ) (mode : Mode) (h : Entered t name ty) 
   R = reading t name ty s (length E) (length T)
 
   abbrev Ans : Answer
-  Ans = model.read (bitAt s) (modeIs mode) (heldOf t) (planOf t name ty) room [] (8 * length s) 8
+  Ans = model.read (bitAt s) (lengthsIs (mode .lengths)) (heldOf t) (planOf t name ty (mode .choices .derived)) room [] (8 * length s) 8
 
-  root-read : particle· t s mode mostOpen (element name ty) room [] (8 * length s) 8 ≡ Ans
-  unfolding particle·
-  root-read = refl
+  -- the root has nothing to choose from
+  root-read : element· t s mode (mostOpen - 1) name (typesBy t choices ty row) room [] (8 * length s) 8 ≡ Ans
+  unfolding element· inside·
+  root-read =
+      rw (types-only t choices plain uncast ty row)
+      (sym (root-element (bitAt s) (lengthsIs (mode .lengths)) (heldOf t) (tableIn (mode .choices .derived) (tableOf t)) room [] (8 * length s) 8 name ty))
 
   no-names : namesOf path ≡ []
   unfolding namesOf back
@@ -102,17 +114,17 @@ module _ (t s : List ℕ) (name ty : ℕ) (mode : Mode) (h : Entered t name ty) 
   root-says =
       (λ i. view w (sym no-names i) N E₁ T₁)
       ∙ k
-      ∙ (λ i. outcome (particle· t s mode mostOpen (element name ty) (room-is i) (no-names i) (x i) (c8 i)) c (no-names i) E T)
+      ∙ (λ i. outcome (element· t s mode (mostOpen - 1) name (typesBy t choices ty row) (room-is i) (no-names i) (x i) (c8 i)) c (no-names i) E T)
       ∙ ap (λ (a : Answer). outcome a c [] E T) root-read
 
   went-on : (d : Cursor) → w ≡ Go d → Went Ans c [] E T d [] E₁ T₁
   went-on d g = did-go (step.Go d) [] E₁ T₁ Ans c [] E T (rw g at root-says) d refl
 
   fits : (ns : Nodes) (q : ℕ) → Ans ≡ given ns q → (treeSlots ns ≤ room .slots) × (treeBytes ns ≤ room .bytes)
-  fits ns q e = rw e at (read-fits (bitAt s) (modeIs mode) (heldOf t) (planOf t name ty) room [] (8 * length s) 8)
+  fits ns q e = rw e at (read-fits (bitAt s) (lengthsIs (mode .lengths)) (heldOf t) (planOf t name ty (mode .choices .derived)) room [] (8 * length s) 8)
 
   few : (ns : Nodes) (q : ℕ) → Ans ≡ given ns q → treeBytes ns ≤ mostText * treeSlots ns
-  few ns q e = bytes-few (bitAt s) (bit-lt s) (modeIs mode) (heldOf t) (planOf t name ty) room [] (8 * length s) 8 ns q e
+  few ns q e = bytes-few (bitAt s) (bit-lt s) (lengthsIs (mode .lengths)) (heldOf t) (planOf t name ty (mode .choices .derived)) room [] (8 * length s) 8 ns q e
 
   -- the bytes used fit a word
   pub root-used : (d : Cursor) → w ≡ Go d → d .used < 4294967296
@@ -173,7 +185,7 @@ module _ (t s : List ℕ) (name ty : ℕ) (mode : Mode) (h : Entered t name ty) 
         (reading-left t name ty s (length E) (length T) h (modeIs mode) m Ans refl (v .nodes) (d .at .0) (v .gave) (sym e ∙ f))
         (a ∙ ap (λ (π : List ℕ). declines leftOver (d .at .0) π) (no-path path z))
 
-pub ruleset root-ways = (root-ready, root-type, payload-short, root-used, root-given, root-refused, root-told, root-left)
+pub ruleset root-ways = (root-ready, root-rowed, root-type, payload-short, root-used, root-given, root-refused, root-told, root-left)
 
 -- before the root: table, root, payload size and mode byte in this order, into buffers of zeros
 module _ (t s : List ℕ) (name ty : ℕ) (E T : List ℕ) where
@@ -207,17 +219,20 @@ module _ (t s : List ℕ) (name ty : ℕ) (E T : List ℕ) where
         pub entry-known : Entered t name ty
         entry-known = record { table-right = k; type-known = omega arith; name-small = l }
 
-        module _ (f : Found) (e : foundIs f ≡ modeOf s) where
+        module _ (f : Found) (e : Finds t s f) where
           pub entry-mode : (n : ℕ) (r : code.Answer) (path : Path) → f ≡ found.Refuse n → path .count ≡ 0 → answerIs r ≡ declines n 0 (pathIs path) → Answers r E T
           unfolding foundIs
-          entry-mode n r path i z a = early r path z n 0 a E T zE zT (reading-mode t name ty s (length E) (length T) entry-known n (sym e ∙ rw i))
+          entry-mode n r path i z a = early r path z n 0 a E T zE zT (reading-mode t name ty s (length E) (length T) entry-known n (sym (e .says) ∙ rw i))
 
 -- what is known where the table is right, and where the mode is found
 pub verdict-right : (t : List ℕ) (v : code·verdict.Verdict) → verdictIs v ≡ verdict t → v ≡ Right → verdict t ≡ right
 verdict-right t v e f = sym e ∙ rw f
 
-pub mode-found : (s : List ℕ) (f : Found) (mode : Mode) → foundIs f ≡ modeOf s → f ≡ found.Is mode → modeOf s ≡ got (modeIs mode)
+pub mode-found : (t s : List ℕ) (f : Found) (mode : Mode) → Finds t s f → f ≡ found.Is mode → modeOf (tableOf t .derivations) s ≡ got (modeIs mode)
 unfolding foundIs
-mode-found s f mode e i = sym e ∙ rw i
+mode-found t s f mode e i = sym (e .says) ∙ rw i
 
-pub ruleset entry-ways = (zeros-cleared, entry-table, entry-right, entry-type, entry-name, entry-known, entry-mode, verdict-right, mode-found)
+pub mode-choosing : (t s : List ℕ) (f : Found) (mode : Mode) → Finds t s f → f ≡ found.Is mode → Choosing t (mode .choices)
+mode-choosing t s f mode e i = subst (λ (x : Found). Chooses t x) i (e .choosing)
+
+pub ruleset entry-ways = (zeros-cleared, entry-table, entry-right, entry-type, entry-name, entry-known, entry-mode, verdict-right, mode-found, mode-choosing)

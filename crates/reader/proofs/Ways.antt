@@ -1,10 +1,10 @@
 -- Each way through the functions of the cycle, as the code goes it.
 use Prim.Native.Nat.{ℕ, suc, _+_, _-_, _<_, _≤_}
-use mathlib.Core.Path.{_≡_, refl, sym, ap, _∙_}
-use mathlib.Core.Logic.{_⊎_, inl, inr}
+use mathlib.Core.Path.{_≡_, refl, sym, ap, _∙_, subst}
 use mathlib.Core.List.{List, [], _∷_}
 use mathlib.Core.Bool.{Bool, true, false}
 use native.Mathlib.Omega.{arith}
+use lib.Dec.{ltb}
 use Rattle.numbers.specs.Refusal as refusal
 use Rattle.numbers.specs.Refusal.{notHeld}
 use Rattle.numbers.specs.Kind as kinds
@@ -20,6 +20,7 @@ use Rattle.value.specs.Code.{Code, choice, choiceAt, codeAt}
 use Rattle.value.specs.Simple.{plain, timesCode, simpleAt}
 use Rattle.value.specs.Answer.{codeIs}
 use Rattle.value.specs.declared.Code as code·code
+use Rattle.table.specs.Words.{particlesIn}
 use Rattle.table.specs.Rows as table
 use Rattle.table.specs.Rows.{tableOf, heldOf}
 use Rattle.table.specs.Views.{contentIs, rowIs}
@@ -28,24 +29,30 @@ use Rattle.table.specs.declared.answers.Content.the-variants.{Empty, Simple, Pa
 use Rattle.table.specs.declared.answers.Particle as code·particle
 use Rattle.table.specs.declared.answers.Particle.the-variants.{Element, Sequence, Choice, Occurs}
 use Rattle.model.specs.Model as model
-use Rattle.model.specs.Model.{event, start, flagOf, Answer}
+use Rattle.model.specs.Model.{event, start, flagOf, Types, codes, Answer}
 use Rattle.model.specs.Model.Item.{counted}
 use Rattle.model.specs.Model.Plan.{done}
 use Rattle.model.specs.Model.Nodes.{none}
 use Rattle.model.specs.Model.Answer.{given, refused}
 use Rattle.model.specs.Items as items
-use Rattle.model.specs.Items.{itemAt, headAt}
-use Rattle.model.specs.Read.{Room, after, code, stored, mark, bare, sized, opened}
+use Rattle.model.specs.Items.{itemAt, headAt, codesAt}
+use Rattle.model.specs.Modes.{typesBy}
+use Rattle.model.specs.declared.Mode.{Mode}
+use Rattle.model.proofs.ModeLaws.{types-by}
+use Rattle.model.specs.Read.{Room, after, code, stored, castAt, entered, mark, bare, sized, opened}
 use Rattle.model.specs.Steps as steps
 use Rattle.model.proofs.Steps as steps-laws
 use Rattle.model.specs.Steps.{particleAt, roundsAt}
 use Rattle.reader_parts.proofs.EndsLaws.{entered-left}
-use Rattle.reader_parts.specs.Heads.{modeIs, headIs, Heads}
+use Rattle.reader_parts.specs.Codes.{codedIs, Sent, Says, Tells}
+use Rattle.reader_parts.specs.Heads.{headIs, Heads}
 use Rattle.reader_parts.specs.Out.{roomOf, stepView, outcome, ending, Reads, Stores, Closes}
+use Rattle.reader_parts.specs.declared.Cast.{Cast}
+use Rattle.reader_parts.specs.declared.Coded as code·coded
+use Rattle.reader_parts.specs.declared.Coded.the-variants as coded·is
 use Rattle.reader_parts.specs.declared.Cursor.{Cursor}
 use Rattle.reader_parts.specs.declared.Head as code·head
 use Rattle.reader_parts.specs.declared.Head.the-variants.{Bare, Sized, Wrong}
-use Rattle.reader_parts.specs.declared.Mode.{Mode}
 use Rattle.reader_parts.specs.Paths.{namesOf, Pushed}
 use Rattle.reader_parts.specs.declared.Path.{Path}
 use Rattle.reader_parts.specs.declared.Step.{Step}
@@ -54,7 +61,7 @@ use Rattle.reader_parts.proofs.Laws.{after-stop, after-go, after-next, outcome-
 use Rattle.reader.proofs.Strides.{stride-one, stride-none}
 use Rattle.reader.specs.RefusalPath.{walks, stepOf, pathOf, view, Named}
 use Rattle.reader.proofs.RefusalPathLaws.{Stopped, leaf-view}
-use Rattle.reader.specs.Meaning.{Walks, reachOf, stride, particle·, rounds·, content·, inside·, whole·, enter·, element·, choose·, occur·}
+use Rattle.reader.specs.Meaning.{Ready, Walks, schema, lengths, reachOf, stride, particle·, rounds·, content·, inside·, whole·, enter·, element·, choose·, occur·}
 use Rattle.reader.specs.declared.cycle.Extent.{Extent}
 use Rattle.reader.specs.declared.cycle.Reach.{Reach}
 use Rattle.reader.specs.declared.cycle.Reach.the-variants as reach
@@ -123,14 +130,14 @@ module _ (t s : List ℕ) (mode : Mode) (d wall : ℕ) (c : Cursor) (Π N E T : 
   abbrev B : ℕ → ℕ
   B = bitAt s
 
-  abbrev M : items.Mode
-  M = modeIs mode
+  abbrev M : items.Lengths
+  M = lengths t s mode
 
   abbrev H : ℕ → Bool
   H = heldOf t
 
   abbrev D : table.Table
-  D = tableOf t
+  D = schema t s mode
 
   abbrev R : Room
   R = roomOf E T c
@@ -182,20 +189,36 @@ module _ (t s : List ℕ) (mode : Mode) (d wall : ℕ) (c : Cursor) (Π N E T : 
     inside-go e w N₂ E₂ T₂ g y =
         from w N₂ E₂ T₂ _ _ inside-here (y ∙ after-next o Π E₁ T₁ attributes c Π E T (h .says M H Π) e g (λ u ρ p. content· t s mode d ty u ρ wall p))
 
-  -- what is inside and the end
-  module _ (ty : ℕ) (coded : Bool) (body : ℕ) (v : Walk) (N₁ E₁ T₁ : List ℕ) (y : Walks (inside· t s mode d ty) wall c Π E T v N₁ E₁ T₁) where
-    pub whole-stop : Stopped v → Walks (whole· t s mode d ty coded body) wall c Π E T v N₁ E₁ T₁
-    unfolding whole·
-    whole-stop g = walk-stop v Π N₁ E₁ T₁ _ c E T y g R _
+  -- the codes' event, what is inside and the end
+  module _ (x : Cast) (coded : Bool) (body : ℕ) (o : Step) (E₁ : List ℕ) (h : Tells x c E o E₁) where
+    abbrev Whole : Walk → List ℕ → List ℕ → List ℕ → Type 0
+    Whole w N′ E′ T′ = Walks (whole· t s mode d x coded body) wall c Π E T w N′ E′ T′
 
-    pub whole-go : (e : Cursor) (o : Step) (E₂ : List ℕ) (w : Walk) → v ≡ Go e → Closes coded body wall e E₁ o E₂ → w ≡ walks o → Walks (whole· t s mode d ty coded body) wall c Π E T w N₁ E₂ T₁
+    abbrev noted : Answer
+    noted = castAt (x .sent) (x .effective) (x .substitute) R Π at (x .next .0)
+
+    pub whole-full : (n : ℕ) (p : Bits) (w : Walk) → o ≡ step.Refuse n p → w ≡ walks o → Whole w N E₁ T
     unfolding whole·
-    whole-go e o E₂ w g q i = leaf-view o w i Π N₁ E₂ T₁ ∙ q .says T₁ Π ∙ walk-go v Π N₁ E₁ T₁ _ c E T y e g (λ u ρ p. ending coded body wall u ρ p)
+    whole-full n p w g j =
+        let stop : w ≡ Refuse n p = j ∙ rw g in
+        walk-stop w Π N E₁ T _ c E T (leaf-stop c Π noted N E T w o j E₁ T (h .says T Π) n p g R _) (record { number = n; place = p; refused = rw stop }) R _
+
+    module _ (e : Cursor) (g : o ≡ step.Go e) (v : Walk) (N₁ E₂ T₂ : List ℕ) (y : Walks (inside· t s mode d (x .effective)) wall e Π E₁ T v N₁ E₂ T₂) where
+      begun : view v Π N₁ E₂ T₂ ≡ outcome (after R noted (λ u p. inside· t s mode d (x .effective) u Π wall p)) c Π E T
+      begun = y ∙ after-next o Π E₁ T noted c Π E T (h .says T Π) e g (λ u ρ p. inside· t s mode d (x .effective) u ρ wall p)
+
+      pub whole-stop : Stopped v → Whole v N₁ E₂ T₂
+      unfolding whole·
+      whole-stop i = walk-stop v Π N₁ E₂ T₂ _ c E T begun i R _
+
+      pub whole-go : (z : Cursor) (a : Step) (E₃ : List ℕ) (w : Walk) → v ≡ Go z → Closes coded body wall z E₂ a E₃ → w ≡ walks a → Whole w N₁ E₃ T₂
+      unfolding whole·
+      whole-go z a E₃ w i q j = leaf-view a w j Π N₁ E₃ T₂ ∙ q .says T₂ Π ∙ walk-go v Π N₁ E₂ T₂ _ c E T begun z i (λ u ρ p. ending coded body wall u ρ p)
 
   -- a held element
-  module _ (name ty : ℕ) (coded : Bool) (body f : ℕ) (o : Step) (E₁ : List ℕ) (i : f ≡ flagOf coded) (h : Stores kinds.start name f body c E o E₁) where
+  module _ (name : ℕ) (x : Cast) (coded : Bool) (body f : ℕ) (o : Step) (E₁ : List ℕ) (i : f ≡ flagOf coded) (h : Stores kinds.start name f body c E o E₁) where
     abbrev m : model.Mark
-    m = mark name ty coded at body
+    m = mark name (x .effective) coded at body
 
     abbrev started : Answer
     started = stored R Π at (start m) [] body
@@ -203,40 +226,38 @@ module _ (t s : List ℕ) (mode : Mode) (d wall : ℕ) (c : Cursor) (Π N E T : 
     started-is : stepView o Π E₁ T ≡ outcome started c Π E T
     started-is = rw i at (h .says T Π)
 
-    entered-is : outcome (enter· t s mode d name ty coded body R Π wall at) c Π E T
-        ≡ outcome (after R started (λ u p. whole· t s mode d ty coded body u (name ∷ Π) wall p)) c Π E T
+    entered-is : outcome (enter· t s mode d name x coded body R Π wall at) c Π E T
+        ≡ outcome (after R started (λ u p. whole· t s mode d x coded body u (name ∷ Π) wall p)) c Π E T
     unfolding enter· whole·
-    entered-is = entered-left m (inside· t s mode d) R Π wall body c E T
+    entered-is = entered-left m (inside· t s mode d) R Π wall body c E T (x .sent) (x .substitute) (x .next .0)
 
-    pub enter-full : (n : ℕ) (p : Bits) (w : Walk) → o ≡ step.Refuse n p → w ≡ walks o → Walks (enter· t s mode d name ty coded body) wall c Π E T w N E₁ T
+    pub enter-full : (n : ℕ) (p : Bits) (w : Walk) → o ≡ step.Refuse n p → w ≡ walks o → Walks (enter· t s mode d name x coded body) wall c Π E T w N E₁ T
     enter-full n p w g j = leaf-stop c Π started N E T w o j E₁ T started-is n p g R _ ∙ sym entered-is
 
-    pub enter-go : (e : Cursor) (v : Walk) (N₁ E₂ T₂ : List ℕ) (x : Walk) (N₂ : List ℕ) → o ≡ step.Go e → Walks (whole· t s mode d ty coded body) wall e (name ∷ Π) E₁ T v N₁ E₂ T₂
-        → Named name Π v N₁ x N₂ → Walks (enter· t s mode d name ty coded body) wall c Π E T x N₂ E₂ T₂
-    enter-go e v N₁ E₂ T₂ x N₂ g y q =
+    pub enter-go : (e : Cursor) (v : Walk) (N₁ E₂ T₂ : List ℕ) (z : Walk) (N₂ : List ℕ) → o ≡ step.Go e → Walks (whole· t s mode d x coded body) wall e (name ∷ Π) E₁ T v N₁ E₂ T₂
+        → Named name Π v N₁ z N₂ → Walks (enter· t s mode d name x coded body) wall c Π E T z N₂ E₂ T₂
+    enter-go e v N₁ E₂ T₂ z N₂ g y q =
         q .says _ e E₁ T E₂ T₂ y
-        ∙ after-go o Π E₁ T started c Π E T started-is e g Π (λ u ρ p. whole· t s mode d ty coded body u (name ∷ ρ) wall p)
+        ∙ after-go o Π E₁ T started c Π E T started-is e g Π (λ u ρ p. whole· t s mode d x coded body u (name ∷ ρ) wall p)
         ∙ sym entered-is
 
+  -- with a length, or without: by the effective type, held, or a Blank or 9
+  module _ (name : ℕ) (y : Types) where
+    abbrev judged : (coded : Bool) (body end : ℕ) → ℕ × ℕ × ℕ → Answer
+    judged false body end (ty, k, p) = bare (H ty) (codes y) (inside· t s mode d) (mark name ty false at body) k R Π end body p
+    judged true body end (ty, k, p) = sized (H ty) (codes y) (inside· t s mode d) (mark name ty true at body) k R Π end body p
+
   -- an element, by its head and what that says
-  module _ (name ty : ℕ) (held : Bool) (k : held ≡ H ty) (x : code·head.Head) (e : Heads mode B wall at x) (outer : Bits) (u : outer .0 ≡ wall) (r : Reach) (f : r ≡ reachOf x outer) where
+  module _ (name : ℕ) (y : Types) (x : code·head.Head) (e : Heads (mode .lengths) B wall at x) (outer : Bits) (u : outer .0 ≡ wall) (r : Reach) (f : r ≡ reachOf x outer) where
     abbrev Elem : Walk → List ℕ → List ℕ → List ℕ → Type 0
-    Elem w N′ E′ T′ = Walks (element· t s mode d name ty) wall c Π E T w N′ E′ T′
+    Elem w N′ E′ T′ = Walks (element· t s mode d name y) wall c Π E T w N′ E′ T′
 
-    head-here : (y : Res items.Head) → headIs ty x ≡ y → headAt M B ty wall at ≡ y
-    head-here y g = sym (e .says ty) ∙ g
+    head-here : (h : Res items.Head) → headIs x ≡ h → headAt M B wall at ≡ h
+    head-here h g = sym (e .says) ∙ g
 
-    wrong-here : (n : ℕ) → x ≡ Wrong n → element· t s mode d name ty R Π wall at ≡ refused n at Π
+    wrong-here : (n : ℕ) → x ≡ Wrong n → element· t s mode d name y R Π wall at ≡ refused n at Π
     unfolding element· headIs
     wrong-here n g = code-fault _ Π at _ n (head-here (fault n) (rw g))
-
-    bare-here : (body : Bits) → x ≡ Bare body → element· t s mode d name ty R Π wall at ≡ bare held (inside· t s mode d) (mark name ty false at (body .0)) R Π wall (body .0)
-    unfolding element· headIs opened
-    bare-here body g = code-got _ Π at _ _ (head-here (got (items.Head.bare ty (body .0))) (rw g)) ∙ rw k
-
-    sized-here : (body end : Bits) → x ≡ Sized body end → element· t s mode d name ty R Π wall at ≡ sized held (inside· t s mode d) (mark name ty true at (body .0)) R Π (end .0) (body .0)
-    unfolding element· headIs opened
-    sized-here body end g = code-got _ Π at _ _ (head-here (got (items.Head.sized ty (body .0) (end .0))) (rw g)) ∙ rw k
 
     pub element-wrong : (n : ℕ) → r ≡ reach.Wrong n → Elem (Refuse n (c .at)) N E T
     element-wrong n g = go x refl (sym g ∙ f)
@@ -246,52 +267,52 @@ module _ (t s : List ℕ) (mode : Mode) (d wall : ℕ) (c : Cursor) (Π N E T : 
         go (Sized body end) i h = let b : _≡_ {A = ℕ} 0 1 = cc in absurd (omega arith)
         go (Wrong v) i h = let b : v ≡ n = cc in stops-at c Π _ N E T n (c .at) (wrong-here n (i ∙ ap Wrong b))
 
-    module _ (y : Extent) (g : r ≡ reach.To y) where
-      -- a length is coded, or not
-      abbrev Known : Type 0
-      Known = (element· t s mode d name ty R Π wall at
-          ≡ bare held (inside· t s mode d) (mark name ty false at (y .body .0)) R Π wall (y .body .0)) × (y .coded ≡ false) × (y .wall .0 ≡ wall)
-
-      abbrev Coded : Type 0
-      Coded = (element· t s mode d name ty R Π wall at
-          ≡ sized held (inside· t s mode d) (mark name ty true at (y .body .0)) R Π (y .wall .0) (y .body .0)) × (y .coded ≡ true)
-
-      here : Known ⊎ Coded
+    module _ (z : Extent) (g : r ≡ reach.To z) where
+      here : element· t s mode d name y R Π wall at ≡ code (codesAt y B (z .wall .0) (z .body .0)) Π (z .body .0) (judged name y (z .coded) (z .body .0) (z .wall .0))
+      unfolding element· headIs opened
       here = go x refl (sym g ∙ f)
         where
-          go : (a : code·head.Head) → x ≡ a → reach.To y ≡ reachOf a outer → Known ⊎ Coded
+          go : (a : code·head.Head) → x ≡ a → reach.To z ≡ reachOf a outer
+              → element· t s mode d name y R Π wall at ≡ code (codesAt y B (z .wall .0) (z .body .0)) Π (z .body .0) (judged name y (z .coded) (z .body .0) (z .wall .0))
           go (Bare body) i h =
-              let b : y ≡ record { coded = false; body = body; wall = outer } = cc in
-              inl (rw b (bare-here body i), rw b, rw b u)
+              let b : z ≡ record { coded = false; body = body; wall = outer } = cc in
+              rw (b, u) (code-got _ Π at _ _ (head-here (got (items.Head.bare (body .0))) (rw i)))
           go (Sized body end) i h =
-              let b : y ≡ record { coded = true; body = body; wall = end } = cc in
-              inr (rw b (sized-here body end i), rw b)
+              let b : z ≡ record { coded = true; body = body; wall = end } = cc in
+              rw b (code-got _ Π at _ _ (head-here (got (items.Head.sized (body .0) (end .0))) (rw i)))
           go (Wrong n) i h = let b : _≡_ {A = ℕ} 0 1 = cc in absurd (omega arith)
 
-      -- the wall of what is inside is the element's own end
-      pub element-held : (w : Walk) (N′ E′ T′ : List ℕ) → held ≡ true → Walks (enter· t s mode d name ty (y .coded) (y .body .0)) (y .wall .0) c Π E T w N′ E′ T′ → Elem w N′ E′ T′
-      unfolding bare sized enter·
-      element-held w N′ E′ T′ n h =
-          elim here [
-            | inl b ↦ from w N′ E′ T′ _ _ (b .0 ∙ rw n) (rw (b .1, b .2) at h)
-            | inr b ↦ from w N′ E′ T′ _ _ (b .0 ∙ rw n) (rw (b .1) at h)
-          ]
+      -- the codes, below the element's own end
+      module _ (k : code·coded.Coded) (q : Says y B (z .wall .0) (z .body .0) k) where
+        pub element-uncoded : (n : ℕ) → k ≡ coded·is.Wrong n → Elem (Refuse n (z .body)) N E T
+        unfolding codedIs
+        element-uncoded n i = stops-at c Π _ N E T n (z .body) (here ∙ code-fault _ Π (z .body .0) _ n (sym (q .says) ∙ rw i))
 
-      pub element-blank : (o : Step) (w : Walk) (E′ : List ℕ) → held ≡ false → y .coded ≡ true → Stores kinds.blank name ty (y .wall .0) c E o E′ → w ≡ walks o → Elem w N E′ T
-      unfolding sized
-      element-blank o w E′ n p h i =
-          elim here [
-            | inl b ↦ let z : _≡_ {A = Bool} true false = sym p ∙ b .1 in let z : _≡_ {A = ℕ} 0 1 = cc in absurd (omega arith)
-            | inr b ↦ from w N E′ T _ _ (b .0 ∙ rw n) (as-leaf c Π _ N E T w o i E′ T (h .says T Π))
-          ]
+        module _ (a : Cast) (i : k ≡ coded·is.As a) (held : Bool) (j : held ≡ H (a .effective)) where
+          known : element· t s mode d name y R Π wall at ≡ judged name y (z .coded) (z .body .0) (z .wall .0) (a .effective, a .substitute, a .next .0)
+          unfolding codedIs
+          known = here ∙ code-got _ Π (z .body .0) _ _ (sym (q .says) ∙ rw i)
 
-      pub element-nine : held ≡ false → y .coded ≡ false → Elem (Refuse notHeld (c .at)) N E T
-      unfolding bare
-      element-nine n p =
-          elim here [
-            | inl b ↦ stops-at c Π _ N E T 9 (c .at) (b .0 ∙ rw n)
-            | inr b ↦ let z : _≡_ {A = Bool} true false = sym (b .1) ∙ p in let z : _≡_ {A = ℕ} 0 1 = cc in absurd (omega arith)
-          ]
+          sent-is : a .sent ≡ codes y
+          sent-is = subst (λ (l : code·coded.Coded). Sent y l) i (q .sent)
+
+          -- the wall of what is inside is the element's own end
+          pub element-held : (w : Walk) (N′ E′ T′ : List ℕ) → held ≡ true → Walks (enter· t s mode d name a (z .coded) (z .body .0)) (z .wall .0) c Π E T w N′ E′ T′ → Elem w N′ E′ T′
+          unfolding enter· bare sized
+          element-held w N′ E′ T′ n h = from w N′ E′ T′ _ _ (known ∙ go (z .coded)) (rw sent-is at h)
+            where
+              go : (coded : Bool) → judged name y coded (z .body .0) (z .wall .0) (a .effective, a .substitute, a .next .0)
+                  ≡ entered (ltb 0 (R .slots)) (codes y) (inside· t s mode d) (mark name (a .effective) coded at (z .body .0)) (a .substitute) R Π (z .wall .0) (z .body .0) (a .next .0)
+              go false = rw (sym j ∙ n)
+              go true = rw (sym j ∙ n)
+
+          pub element-blank : (o : Step) (w : Walk) (E′ : List ℕ) → held ≡ false → z .coded ≡ true → Stores kinds.blank name (a .effective) (z .wall .0) c E o E′ → w ≡ walks o → Elem w N E′ T
+          unfolding sized
+          element-blank o w E′ n p h l = from w N E′ T _ _ (known ∙ rw (p, sym j ∙ n)) (as-leaf c Π _ N E T w o l E′ T (h .says T Π))
+
+          pub element-nine : held ≡ false → z .coded ≡ false → Elem (Refuse notHeld (c .at)) N E T
+          unfolding bare
+          element-nine n p = stops-at c Π _ N E T 9 (c .at) (known ∙ rw (p, sym j ∙ n))
 
   -- a choice
   module _ (first n : ℕ) (r : code·read.Read) (e : readIs r ≡ choiceAt B n wall at) where
@@ -347,11 +368,11 @@ module _ (t s : List ℕ) (mode : Mode) (d wall : ℕ) (c : Cursor) (Π E T : Li
   pub particle-deep : (N : List ℕ) → d ≡ 0 → Row (Refuse refusal.depth (c .at)) N E T
   unfolding particle·
   particle-deep N z =
-      stops-at c Π _ N E T 6 (c .at) (rw z (steps-laws.particle-deep (bitAt s) (modeIs mode) (heldOf t) (tableOf t) (roomOf E T c) Π wall (c .at .0) (rowIs r)))
+      stops-at c Π _ N E T 6 (c .at) (rw z (steps-laws.particle-deep (bitAt s) (lengths t s mode) (heldOf t) (schema t s mode) (roomOf E T c) Π wall (c .at .0) (rowIs r)))
 
   module _ (z : d ≡ 0 → ⊥) (w : Walk) (N′ E′ T′ : List ℕ) where
     abbrev P : table.Row → Answer
-    P row = particleAt (bitAt s) (modeIs mode) (heldOf t) (tableOf t) (suc (d - 1)) row (roomOf E T c) Π wall (c .at .0)
+    P row = particleAt (bitAt s) (lengths t s mode) (heldOf t) (schema t s mode) (suc (d - 1)) row (roomOf E T c) Π wall (c .at .0)
 
     -- a row of a kind, one row deeper
     row-here : (row : table.Row) (o : Answer) → rowIs r ≡ row → P row ≡ o → view w Π N′ E′ T′ ≡ outcome o c Π E T → Row w N′ E′ T′
@@ -360,33 +381,35 @@ module _ (t s : List ℕ) (mode : Mode) (d wall : ℕ) (c : Cursor) (Π E T : Li
         let down : d ≡ suc (d - 1) = omega arith in
         rw (down, g, h) y
 
-    pub particle-element : (name ty : ℕ) → r ≡ Element name ty → Walks (element· t s mode (d - 1) name ty) wall c Π E T w N′ E′ T′ → Row w N′ E′ T′
+    pub particle-element : (path : ℕ) → Ready t s mode wall path d → (name ty row : ℕ) → row < particlesIn t → r ≡ Element name ty row
+        → Walks (element· t s mode (d - 1) name (typesBy t (mode .choices) ty row)) wall c Π E T w N′ E′ T′ → Row w N′ E′ T′
     unfolding element· inside·
-    particle-element name ty g y =
-        row-here (table.Row.element name ty) _ (rw g)
-        (steps-laws.particle-element (bitAt s) (modeIs mode) (heldOf t) (tableOf t) (roomOf E T c) Π wall (c .at .0) (d - 1) name ty) y
+    particle-element path h name ty row k g y =
+        row-here (table.Row.element name ty row) _ (rw g)
+        (steps-laws.particle-element (bitAt s) (lengths t s mode) (heldOf t) (schema t s mode) (roomOf E T c) Π wall (c .at .0) (d - 1) name ty row)
+        (rw (types-by t (mode .choices) (h .valid) (h .choosing) ty row k) at y)
 
     pub particle-sequence : (first n : ℕ) → r ≡ Sequence first n → Walks (rounds· t s mode (d - 1) first 1 n) wall c Π E T w N′ E′ T′ → Row w N′ E′ T′
     unfolding rounds·
     particle-sequence first n g y =
         row-here (table.Row.sequence first n) _ (rw g)
-        (steps-laws.particle-sequence (bitAt s) (modeIs mode) (heldOf t) (tableOf t) (roomOf E T c) Π wall (c .at .0) (d - 1) first n
-        ∙ (λ a. roundsAt (bitAt s) (modeIs mode) (heldOf t) (tableOf t) (d - 1) n (λ j. tableOf t .row (sym (stride-one first j) a)) (roomOf E T c) Π wall (c .at .0))) y
+        (steps-laws.particle-sequence (bitAt s) (lengths t s mode) (heldOf t) (schema t s mode) (roomOf E T c) Π wall (c .at .0) (d - 1) first n
+        ∙ (λ a. roundsAt (bitAt s) (lengths t s mode) (heldOf t) (schema t s mode) (d - 1) n (λ j. tableOf t .row (sym (stride-one first j) a)) (roomOf E T c) Π wall (c .at .0))) y
 
     pub particle-choice : (first n : ℕ) → r ≡ Choice first n → Walks (choose· t s mode (d - 1) first n) wall c Π E T w N′ E′ T′ → Row w N′ E′ T′
     unfolding choose· particle·
     particle-choice first n g y =
         row-here (table.Row.choice first n) _ (rw g)
-        (steps-laws.particle-choice (bitAt s) (modeIs mode) (heldOf t) (tableOf t) (roomOf E T c) Π wall (c .at .0) (d - 1) first n) y
+        (steps-laws.particle-choice (bitAt s) (lengths t s mode) (heldOf t) (schema t s mode) (roomOf E T c) Π wall (c .at .0) (d - 1) first n) y
 
     pub particle-occurs : (child least most : ℕ) → r ≡ Occurs child least most → Walks (occur· t s mode (d - 1) child least most) wall c Π E T w N′ E′ T′ → Row w N′ E′ T′
     unfolding occur· rounds·
     particle-occurs child least most g y =
         row-here (table.Row.occurs child least most) _ (rw g)
-        (steps-laws.particle-occurs (bitAt s) (modeIs mode) (heldOf t) (tableOf t) (roomOf E T c) Π wall (c .at .0) (d - 1) child least most
+        (steps-laws.particle-occurs (bitAt s) (lengths t s mode) (heldOf t) (schema t s mode) (roomOf E T c) Π wall (c .at .0) (d - 1) child least most
         ∙ (λ a. code (itemAt (counted least most) (bitAt s) wall (c .at .0)) Π (c .at .0)
         (λ x. after (roomOf E T c) (stored (roomOf E T c) Π (c .at .0) (event kinds.times (x .0) 0 (x .2 - c .at .0)) (x .1) (x .2))
-        (λ u p. roundsAt (bitAt s) (modeIs mode) (heldOf t) (tableOf t) (d - 1) (x .0) (λ j. tableOf t .row (sym (stride-none child j) a)) u Π wall p)))) y
+        (λ u p. roundsAt (bitAt s) (lengths t s mode) (heldOf t) (schema t s mode) (d - 1) (x .0) (λ j. tableOf t .row (sym (stride-none child j) a)) u Π wall p)))) y
 
 -- rounds: what is left, from the row i on, after j of n rows
 module _ (t s : List ℕ) (mode : Mode) (d wall k n i j : ℕ) (c : Cursor) (Π E T : List ℕ) where
@@ -400,14 +423,14 @@ module _ (t s : List ℕ) (mode : Mode) (d wall k n i j : ℕ) (c : Cursor) (Π 
   unfolding rounds·
   rounds-all h =
       let m : n - j ≡ 0 = omega arith in
-      rw m (steps-laws.rounds-none (bitAt s) (modeIs mode) (heldOf t) (tableOf t) (roomOf E T c) Π wall (c .at .0) d (λ a. tableOf t .row (stride i k a)))
+      rw m (steps-laws.rounds-none (bitAt s) (lengths t s mode) (heldOf t) (schema t s mode) (roomOf E T c) Π wall (c .at .0) d (λ a. tableOf t .row (stride i k a)))
 
   rounds-next : j < n → rounds· t s mode d i k (n - j) (roomOf E T c) Π wall (c .at .0)
       ≡ after (roomOf E T c) (particle· t s mode d (tableOf t .row i) (roomOf E T c) Π wall (c .at .0)) (λ u p. rounds· t s mode d (i + k) k (n - (j + 1)) u Π wall p)
   unfolding rounds· particle· stride
   rounds-next h =
       let m : n - j ≡ suc (n - (j + 1)) = omega arith in
-      rw m (steps-laws.rounds-more (bitAt s) (modeIs mode) (heldOf t) (tableOf t) (roomOf E T c) Π wall (c .at .0) d (n - (j + 1)) (λ a. tableOf t .row (stride i k a)))
+      rw m (steps-laws.rounds-more (bitAt s) (lengths t s mode) (heldOf t) (schema t s mode) (roomOf E T c) Π wall (c .at .0) d (n - (j + 1)) (λ a. tableOf t .row (stride i k a)))
 
   module _ (i₀ : ℕ) (c₀ : Cursor) (E₀ T₀ : List ℕ) (inv : Left i₀ c₀ E₀ T₀) where
     pub rounds-end : (N : List ℕ) → n ≤ j → Walks (rounds· t s mode d i₀ k n) wall c₀ Π E₀ T₀ (Go c) N E T
@@ -432,9 +455,9 @@ pub ruleset inside-ways = (inside-stop, inside-go)
 
 pub ruleset enter-ways = (enter-full, enter-go)
 
-pub ruleset whole-ways = (whole-stop, whole-go)
+pub ruleset whole-ways = (whole-full, whole-stop, whole-go)
 
-pub ruleset element-ways = (element-wrong, element-held, element-blank, element-nine)
+pub ruleset element-ways = (element-wrong, element-uncoded, element-held, element-blank, element-nine)
 
 pub ruleset choose-ways = (choose-fault, choose-stop, choose-go)
 

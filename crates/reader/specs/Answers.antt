@@ -4,9 +4,9 @@ use mathlib.Core.Path.{_≡_}
 use mathlib.Core.List.{List, [], _∷_, _++_}
 use lib.ListN.{getD}
 use Rattle.model.specs.Whole.{modeNumber, Reply, Outcome, outcome, eventsLeft, textsLeft}
-use Rattle.reader_parts.specs.Heads.{modeIs}
+use Rattle.model.specs.Modes.{modeIs}
+use Rattle.model.specs.declared.Mode.{Mode}
 use Rattle.reader_parts.specs.declared.Cursor.{Cursor}
-use Rattle.reader_parts.specs.declared.Mode.{Mode}
 use Rattle.reader_parts.specs.declared.Path.{Path}
 use Rattle.reader.specs.declared.Answer as code
 

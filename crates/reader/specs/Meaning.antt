@@ -11,19 +11,22 @@ use Rattle.wire.specs.Bits.{bitAt}
 use Rattle.wire.specs.declared.Bits.{Bits}
 use Rattle.table.specs.First.Verdict.{right}
 use Rattle.table.specs.Valid.{verdict}
-use Rattle.table.specs.Rows.{Row, tableOf, heldOf}
+use Rattle.table.specs.Words.{particlesIn}
+use Rattle.table.specs.Rows.{Row, Table, tableOf, heldOf}
 use Rattle.table.specs.Rows.Row.{element, sequence, choice, occurs}
-use Rattle.model.specs.Model.{event, Answer}
+use Rattle.model.specs.Model.{event, Types, tableIn, Answer}
 use Rattle.model.specs.Model.Item.{picked, counted}
-use Rattle.model.specs.Items.{itemAt, headAt}
-use Rattle.model.specs.Read.{Room, after, code, stored, entered, opened, mark}
+use Rattle.model.specs.Items.{Lengths, itemAt, headAt}
+use Rattle.model.specs.Modes.{lengthsIs, Choosing}
+use Rattle.model.specs.Read.{Room, after, code, stored, castAt, entered, opened, mark}
 use Rattle.model.specs.Steps.{particleAt, roundsAt, contentAt, insideAt}
-use Rattle.reader_parts.specs.Heads.{modeIs}
+use Rattle.model.specs.declared.Choices.{Choices}
+use Rattle.model.specs.declared.Mode.{Mode}
 use Rattle.reader_parts.specs.Out.{roomOf, outcome, ending}
+use Rattle.reader_parts.specs.declared.Cast.{Cast}
 use Rattle.reader_parts.specs.declared.Cursor.{Cursor}
 use Rattle.reader_parts.specs.declared.Head.{Head}
 use Rattle.reader_parts.specs.declared.Head.the-variants.{Bare, Sized, Wrong}
-use Rattle.reader_parts.specs.declared.Mode.{Mode}
 use Rattle.reader.specs.RefusalPath.{view}
 use Rattle.reader.specs.declared.cycle.Reach.{Reach}
 use Rattle.reader.specs.declared.cycle.Reach.the-variants as reach
@@ -43,15 +46,21 @@ reachOf (Bare body) wall = reach.To record { coded = false; body = body; wall = 
 reachOf (Sized body inner) wall = reach.To record { coded = true; body = body; wall = inner }
 reachOf (Wrong n) wall = reach.Wrong n
 
--- what is asked: the table is right, the wall is in the payload, and the path has a place for each row that may still be opened
-pub record Ready (t s : List ℕ) (wall n depth : ℕ) : Type 0 where
+-- what is asked: the table is right and has no substitutes where none are looked for, the wall is in the payload, and the path has a place for
+-- each row that may still be opened
+pub record Ready (t s : List ℕ) (mode : Mode) (wall n depth : ℕ) : Type 0 where
   pub valid : verdict t ≡ right
+  pub choosing : Choosing t (mode .choices)
   pub walls : wall ≤ 8 * length s
   pub places : n + depth ≤ mostNames
 
+-- who looks for substitutes is of a row of the table
+pub record Rowed (t : List ℕ) (choices : Choices) (row : ℕ) : Type 0 where
+  pub known : choices .substitutes ≡ true → row < particlesIn t
+
 -- a row names types and rows of a table of T types and P rows
 abbrev pub Fits : (T P : ℕ) → Row → Type 0
-Fits T P (element name type) = (name ≤ mostName) × (type < T)
+Fits T P (element name type row) = (name ≤ mostName) × (type < T) × (row < P)
 Fits T P (sequence first n) = first + n ≤ P
 Fits T P (choice first n) = first + n ≤ P
 Fits T P (occurs child least most) = child < P
@@ -70,27 +79,35 @@ module _ (t s : List ℕ) (mode : Mode) where
   abbrev pub b : ℕ → ℕ
   b = bitAt s
 
+  abbrev pub lengths : Lengths
+  lengths = lengthsIs (mode .lengths)
+
+  abbrev pub schema : Table
+  schema = tableIn (mode .choices .derived) (tableOf t)
+
   unfoldable pub particle· : ℕ → Row → Meaning
-  particle· d row r π wall at = particleAt b (modeIs mode) (heldOf t) (tableOf t) d row r π wall at
+  particle· d row r π wall at = particleAt b lengths (heldOf t) schema d row r π wall at
 
   unfoldable pub rounds· : ℕ → ℕ → ℕ → ℕ → Meaning
-  rounds· d i k n r π wall at = roundsAt b (modeIs mode) (heldOf t) (tableOf t) d n (λ j. tableOf t .row (stride i k j)) r π wall at
+  rounds· d i k n r π wall at = roundsAt b lengths (heldOf t) schema d n (λ j. tableOf t .row (stride i k j)) r π wall at
 
   unfoldable pub content· : ℕ → ℕ → Meaning
-  content· d ty r π wall at = contentAt b (modeIs mode) (heldOf t) (tableOf t) d (tableOf t .content ty) r π wall at
+  content· d ty r π wall at = contentAt b lengths (heldOf t) schema d (tableOf t .content ty) r π wall at
 
   unfoldable pub inside· : ℕ → ℕ → Meaning
-  inside· d ty r π wall at = insideAt b (modeIs mode) (heldOf t) (tableOf t) d ty r π wall at
+  inside· d ty r π wall at = insideAt b lengths (heldOf t) schema d ty r π wall at
 
-  -- what is inside an element, and its end
-  unfoldable pub whole· : ℕ → ℕ → Bool → ℕ → Meaning
-  whole· d ty coded body r π wall at = after r (inside· d ty r π wall at) (λ u q. ending coded body wall u π q)
+  -- the codes' event of an element, what is inside it, and its end
+  unfoldable pub whole· : ℕ → Cast → Bool → ℕ → Meaning
+  whole· d x coded body r π wall at =
+      after r (after r (castAt (x .sent) (x .effective) (x .substitute) r π at (x .next .0)) (λ u q. inside· d (x .effective) u π wall q)) (λ u q. ending coded body wall u π q)
 
-  unfoldable pub enter· : ℕ → ℕ → ℕ → Bool → ℕ → Meaning
-  enter· d name ty coded body r π wall at = entered (ltb 0 (r .slots)) (inside· d) (mark name ty coded at body) r π wall body
+  unfoldable pub enter· : ℕ → ℕ → Cast → Bool → ℕ → Meaning
+  enter· d name x coded body r π wall at =
+      entered (ltb 0 (r .slots)) (x .sent) (inside· d) (mark name (x .effective) coded at body) (x .substitute) r π wall body (x .next .0)
 
-  unfoldable pub element· : ℕ → ℕ → ℕ → Meaning
-  element· d name ty r π wall at = code (headAt (modeIs mode) b ty wall at) π at (opened (heldOf t) (inside· d) name r π wall at)
+  unfoldable pub element· : ℕ → ℕ → Types → Meaning
+  element· d name y r π wall at = code (headAt lengths b wall at) π at (opened b lengths (heldOf t) (inside· d) name y r π wall at)
 
   unfoldable pub choose· : ℕ → ℕ → ℕ → Meaning
   choose· d first n r π wall at =

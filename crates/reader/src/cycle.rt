@@ -4,14 +4,19 @@
 use crate::refusal_path::Walk;
 use crate::refusal_path::from_step;
 use crate::refusal_path::name_refusal;
+use model::Choices;
+use model::Mode;
 use numbers::kind;
 use numbers::refusal;
+use reader_parts::Cast;
+use reader_parts::Coded;
 use reader_parts::Cursor;
 use reader_parts::Head;
-use reader_parts::Mode;
 use reader_parts::Path;
 use reader_parts::Step;
 use reader_parts::attributes::all;
+use reader_parts::codes::codes;
+use reader_parts::codes::tell;
 use reader_parts::ends::close;
 use reader_parts::heads::head;
 use reader_parts::storing::store;
@@ -32,8 +37,9 @@ ghost use Rattle.numbers.specs.Limit.{mostName, mostNames};
 ghost use Rattle.table.specs.Words.{typesIn, particlesIn};
 ghost use Rattle.table.specs.Views.{rowIs};
 ghost use Rattle.model.specs.Model.{flagOf};
+ghost use Rattle.model.specs.Modes.{typesBy};
 ghost use Rattle.reader_parts.specs.Paths.{namesOf};
-ghost use Rattle.reader.specs.Meaning.{Ready, Fits, Reaches, Walks, reachOf, enter·, whole·, element·, inside·, content·, particle·, choose·, occur·, rounds·};
+ghost use Rattle.reader.specs.Meaning.{Ready, Rowed, Fits, Reaches, Walks, reachOf, enter·, whole·, element·, inside·, content·, particle·, choose·, occur·, rounds·};
 
 // A Start's second word.
 fn flag(coded: bool) -> u32
@@ -80,7 +86,7 @@ fn extent_of(h: Head, wall: Bits) -> Reach
     }
 }
 
-// A held element whose body begins at a place: Start, then the rest of it, whose refusals it names.
+// A held element of an effective type, whose codes stand at its body: Start, then the rest of it, whose refusals it names.
 fn enter(
     table: &[u32],
     payload: &[u8],
@@ -93,17 +99,17 @@ fn enter(
     c: Cursor,
     path: Path,
     name: u32,
-    t: u32,
+    cast: Cast,
     coded: bool,
     body: Bits,
 ) -> Walk
     requires { ⌜
-        (Ready (now table) (now payload) (wall .0) (path .count + 1) depth)
+        (Ready (now table) (now payload) mode (wall .0) (path .count + 1) depth)
         × (length (now told) ≡ mostNames)
         × (name ≤ mostName)
-        × (t < typesIn (now table)) ⌝ }
+        × (cast .effective < typesIn (now table)) ⌝ }
     ensures { λ r. ⌜
-        Walks (enter· (now (table .entry)) (now (payload .entry)) mode depth name t coded (body .0)) (wall .0) c
+        Walks (enter· (now (table .entry)) (now (payload .entry)) mode depth name cast coded (body .0)) (wall .0) c
         (namesOf path) (now (events .entry)) (now (texts .entry)) r (now (told .exit)) (now (events .exit))
         (now (texts .exit)) ⌝ }
 {
@@ -123,14 +129,14 @@ fn enter(
         d,
         path,
         name,
-        t,
+        cast,
         coded,
         body,
     );
     name_refusal(told, path, name, w)
 }
 
-// What is inside an element of a name, below the wall, and its End.
+// The codes' event of an element of a name, what is inside it, below the wall, and its End.
 fn whole(
     table: &[u32],
     payload: &[u8],
@@ -143,20 +149,25 @@ fn whole(
     c: Cursor,
     path: Path,
     name: u32,
-    t: u32,
+    cast: Cast,
     coded: bool,
     body: Bits,
 ) -> Walk
     requires { ⌜
-        (Ready (now table) (now payload) (wall .0) (path .count + 1) depth)
+        (Ready (now table) (now payload) mode (wall .0) (path .count + 1) depth)
         × (length (now told) ≡ mostNames)
         × (name ≤ mostName)
-        × (t < typesIn (now table)) ⌝ }
+        × (cast .effective < typesIn (now table)) ⌝ }
     ensures { λ r. ⌜
-        Walks (whole· (now (table .entry)) (now (payload .entry)) mode depth t coded (body .0)) (wall .0) c
+        Walks (whole· (now (table .entry)) (now (payload .entry)) mode depth cast coded (body .0)) (wall .0) c
         (name ∷ namesOf path) (now (events .entry)) (now (texts .entry)) r (now (told .exit)) (now (events .exit))
         (now (texts .exit)) ⌝ }
 {
+    let s = tell(events, c, cast);
+    let Step::Go(d) = s else {
+        return from_step(s);
+    };
+    let t = cast.effective;
     let v = inside(
         table,
         payload,
@@ -166,7 +177,7 @@ fn whole(
         mode,
         depth,
         wall,
-        c,
+        d,
         path,
         name,
         t,
@@ -177,8 +188,9 @@ fn whole(
     from_step(close(events, coded, body, wall, e))
 }
 
-// An element of a name and a type: its head, then Start, a Blank or a refusal.
-fn element(
+// An element of a name and a type, which is of a row where it has something to choose from: its head and its codes, then Start, a Blank or a
+// refusal.
+pub fn element(
     table: &[u32],
     payload: &[u8],
     events: &mut [u32],
@@ -191,19 +203,23 @@ fn element(
     path: Path,
     name: u32,
     t: u32,
+    row: u32,
+    choices: Choices,
 ) -> Walk
     requires { ⌜
-        (Ready (now table) (now payload) (wall .0) (path .count + 1) depth)
+        (Ready (now table) (now payload) mode (wall .0) (path .count + 1) depth)
         × (length (now told) ≡ mostNames)
         × (name ≤ mostName)
-        × (t < typesIn (now table)) ⌝ }
+        × (t < typesIn (now table))
+        × (Rowed (now table) choices row) ⌝ }
     ensures { λ r. ⌜
-        Walks (element· (now (table .entry)) (now (payload .entry)) mode depth name t) (wall .0) c (namesOf path)
-        (now (events .entry)) (now (texts .entry)) r (now (told .exit)) (now (events .exit)) (now (texts .exit)) ⌝ }
+        Walks (element· (now (table .entry)) (now (payload .entry)) mode depth name (typesBy (now (table .entry)) choices t row))
+        (wall .0) c (namesOf path) (now (events .entry)) (now (texts .entry)) r (now (told .exit)) (now (events .exit))
+        (now (texts .exit)) ⌝ }
 {
     let at = c.at;
-    let held = rows::held(table, t);
-    let h = head(payload, mode, wall, at);
+    let lengths = mode.lengths;
+    let h = head(payload, lengths, wall, at);
     let r = extent_of(h, wall);
     match r {
         Reach::Wrong(n) => Walk::Refuse(n, at),
@@ -211,28 +227,36 @@ fn element(
             let coded = x.coded;
             let body = x.body;
             let inner = x.wall;
-            if held {
-                return enter(
-                    table,
-                    payload,
-                    events,
-                    texts,
-                    told,
-                    mode,
-                    depth,
-                    inner,
-                    c,
-                    path,
-                    name,
-                    t,
-                    coded,
-                    body,
-                );
+            let k = codes(table, payload, choices, t, row, inner, body);
+            match k {
+                Coded::Wrong(n) => Walk::Refuse(n, body),
+                Coded::As(cast) => {
+                    let effective = cast.effective;
+                    let held = rows::held(table, effective);
+                    if held {
+                        return enter(
+                            table,
+                            payload,
+                            events,
+                            texts,
+                            told,
+                            mode,
+                            depth,
+                            inner,
+                            c,
+                            path,
+                            name,
+                            cast,
+                            coded,
+                            body,
+                        );
+                    }
+                    if coded {
+                        return from_step(store(events, c, kind::BLANK, name, effective, inner));
+                    }
+                    Walk::Refuse(refusal::NOT_HELD, at)
+                }
             }
-            if coded {
-                return from_step(store(events, c, kind::BLANK, name, t, inner));
-            }
-            Walk::Refuse(refusal::NOT_HELD, at)
         }
     }
 }
@@ -253,7 +277,7 @@ fn inside(
     t: u32,
 ) -> Walk
     requires { ⌜
-        (Ready (now table) (now payload) (wall .0) (path .count + 1) depth)
+        (Ready (now table) (now payload) mode (wall .0) (path .count + 1) depth)
         × (length (now told) ≡ mostNames)
         × (name ≤ mostName)
         × (t < typesIn (now table)) ⌝ }
@@ -297,7 +321,7 @@ fn content(
     t: u32,
 ) -> Walk
     requires { ⌜
-        (Ready (now table) (now payload) (wall .0) (path .count + 1) depth)
+        (Ready (now table) (now payload) mode (wall .0) (path .count + 1) depth)
         × (length (now told) ≡ mostNames)
         × (name ≤ mostName)
         × (t < typesIn (now table)) ⌝ }
@@ -351,7 +375,7 @@ pub fn particle(
     row: Particle,
 ) -> Walk
     requires { ⌜
-        (Ready (now table) (now payload) (wall .0) (path .count) depth)
+        (Ready (now table) (now payload) mode (wall .0) (path .count) depth)
         × (length (now told) ≡ mostNames)
         × (Fits (typesIn (now table)) (particlesIn (now table)) (rowIs row)) ⌝ }
     ensures { λ r. ⌜
@@ -363,8 +387,9 @@ pub fn particle(
         return Walk::Refuse(refusal::DEPTH, at);
     }
     let d = depth - 1;
+    let choices = mode.choices;
     match row {
-        Particle::Element(name, t) => element(
+        Particle::Element(name, t, own) => element(
             table,
             payload,
             events,
@@ -377,6 +402,8 @@ pub fn particle(
             path,
             name,
             t,
+            own,
+            choices,
         ),
         Particle::Sequence(first, n) => rounds(
             table,
@@ -441,7 +468,7 @@ fn choose(
     n: u32,
 ) -> Walk
     requires { ⌜
-        (Ready (now table) (now payload) (wall .0) (path .count) depth)
+        (Ready (now table) (now payload) mode (wall .0) (path .count) depth)
         × (length (now told) ≡ mostNames)
         × (first + n ≤ particlesIn (now table)) ⌝ }
     ensures { λ r. ⌜
@@ -492,7 +519,7 @@ fn occur(
     most: u32,
 ) -> Walk
     requires { ⌜
-        (Ready (now table) (now payload) (wall .0) (path .count) depth)
+        (Ready (now table) (now payload) mode (wall .0) (path .count) depth)
         × (length (now told) ≡ mostNames)
         × (child < particlesIn (now table)) ⌝ }
     ensures { λ r. ⌜
@@ -545,7 +572,7 @@ fn rounds(
     n: u32,
 ) -> Walk
     requires { ⌜
-        (Ready (now table) (now payload) (wall .0) (path .count) depth)
+        (Ready (now table) (now payload) mode (wall .0) (path .count) depth)
         × (length (now told) ≡ mostNames)
         × (Reaches (particlesIn (now table)) first step n) ⌝ }
     ensures { λ r. ⌜

@@ -1,11 +1,12 @@
 // The byte that a payload begins with.
+use model::Choices;
+use model::Lengths;
+use model::Mode;
 use numbers::limit;
 use numbers::mode;
 use numbers::refusal;
-use reader_parts::Mode;
-ghost use mathlib.Core.Path.{_≡_};
-ghost use Rattle.model.specs.Whole.{modeOf};
-ghost use Rattle.reader.specs.Front.{foundIs};
+use table::rows;
+ghost use Rattle.reader.specs.Front.{Makes, Finds};
 
 // A mode, or the number of a refusal.
 pub enum Found {
@@ -13,9 +14,29 @@ pub enum Found {
     Refuse(u32),
 }
 
-// The number of bytes is judged before the first of them.
-pub fn mode_of(payload: &[u8]) -> Found
-    ensures { λ r. ⌜ foundIs r ≡ modeOf (now (payload .entry)) ⌝ }
+// The bytes of the modes in which type codes are sent.
+const NEVER_CASTING: u8 = mode::NEVER_BYTE + mode::CASTING_BYTE;
+
+const OPTIONAL_CASTING: u8 = mode::OPTIONAL_BYTE + mode::CASTING_BYTE;
+
+const ALWAYS_CASTING: u8 = mode::ALWAYS_BYTE + mode::CASTING_BYTE;
+
+// A length coding, with or without type codes, by a table.
+fn by_table(table: &[u32], lengths: Lengths, derived: bool) -> Found
+    ensures { λ r. ⌜ Makes (now (table .entry)) lengths derived r ⌝ }
+{
+    let swaps = rows::swaps(table);
+    let choices = Choices {
+        substitutes: 0 < swaps,
+        derived,
+    };
+    let m = Mode { lengths, choices };
+    Found::Is(m)
+}
+
+// The number of bytes is judged before the first of them; type codes are sent only where the table has derivations.
+pub fn mode_of(table: &[u32], payload: &[u8]) -> Found
+    ensures { λ r. ⌜ Finds (now (table .entry)) (now (payload .entry)) r ⌝ }
 {
     let n = payload.len();
     if n == 0 {
@@ -26,13 +47,25 @@ pub fn mode_of(payload: &[u8]) -> Found
     }
     let x = payload[0];
     if x == mode::NEVER_BYTE {
-        return Found::Is(Mode::Never);
+        return by_table(table, Lengths::Never, false);
     }
     if x == mode::OPTIONAL_BYTE {
-        return Found::Is(Mode::Optional);
+        return by_table(table, Lengths::Optional, false);
     }
     if x == mode::ALWAYS_BYTE {
-        return Found::Is(Mode::Always);
+        return by_table(table, Lengths::Always, false);
+    }
+    if rows::derivations(table) == 0 {
+        return Found::Refuse(refusal::MODE_BYTE);
+    }
+    if x == NEVER_CASTING {
+        return by_table(table, Lengths::Never, true);
+    }
+    if x == OPTIONAL_CASTING {
+        return by_table(table, Lengths::Optional, true);
+    }
+    if x == ALWAYS_CASTING {
+        return by_table(table, Lengths::Always, true);
     }
     Found::Refuse(refusal::MODE_BYTE)
 }

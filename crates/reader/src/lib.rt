@@ -6,18 +6,19 @@ mod rest; // rest.rt: what is left after the root
 mod refusal_path; // refusal_path.rt: what a walk answers, and the path of a refusal
 
 use clear::both;
-use cycle::particle;
+use cycle::element;
 use front::Found;
 use front::mode_of;
+use model::Choices;
+use model::Lengths;
+use model::Mode;
 use numbers::limit;
 use numbers::refusal;
 use reader_parts::Cursor;
-use reader_parts::Mode;
 use reader_parts::Path;
 use refusal_path::Walk;
 use refusal_path::copy_names;
 use rest::padding;
-use table::Particle;
 use table::Verdict;
 use table::check;
 use table::rows::types;
@@ -31,8 +32,9 @@ ghost use Rattle.wire.specs.Res.{got};
 ghost use Rattle.table.specs.First.Verdict.{right};
 ghost use Rattle.table.specs.Valid.{verdict};
 ghost use Rattle.model.specs.Entries.{Entered};
-ghost use Rattle.model.specs.Whole.{modeNumber, modeOf, declines, reading};
-ghost use Rattle.reader_parts.specs.Heads.{modeIs};
+ghost use Rattle.model.specs.Modes.{lengthsIs, modeIs, Choosing};
+ghost use Rattle.model.specs.Whole.{lengthsNumber, modeNumber, modeOf, declines, reading};
+ghost use Rattle.table.specs.Rows.{tableOf};
 ghost use Rattle.reader_parts.specs.Paths.{back, namesOf};
 ghost use Rattle.reader.specs.Answers.{pathIs, answerIs, told, Replies};
 ghost use Rattle.reader.specs.Cleared.{Zeros};
@@ -82,14 +84,28 @@ fn refused(number: u32, place: usize, path: Path) -> Answer
     }
 }
 
+// A length coding as document 01's number.
+fn lengths_number(lengths: Lengths) -> u32
+    ensures { λ r. ⌜ r ≡ lengthsNumber (lengthsIs lengths) ⌝ }
+{
+    match lengths {
+        Lengths::Never => numbers::mode::NEVER,
+        Lengths::Optional => numbers::mode::OPTIONAL,
+        Lengths::Always => numbers::mode::ALWAYS,
+    }
+}
+
 // The mode as document 01's number.
 fn number_of(mode: Mode) -> u32
     ensures { λ r. ⌜ r ≡ modeNumber (modeIs mode) ⌝ }
 {
-    match mode {
-        Mode::Never => numbers::mode::NEVER,
-        Mode::Optional => numbers::mode::OPTIONAL,
-        Mode::Always => numbers::mode::ALWAYS,
+    let lengths = mode.lengths;
+    let n = lengths_number(lengths);
+    let choices = mode.choices;
+    if choices.derived {
+        n + numbers::mode::CASTING
+    } else {
+        n
     }
 }
 
@@ -111,7 +127,10 @@ fn accepted(mode: Mode, c: Cursor, path: Path) -> Answer
     }
 }
 
-// The root at bit 8, into buffers that are zero; then what is left after it.
+// The rows that may be open inside the root, which is the first.
+const BELOW_ROOT: u32 = limit::MOST_OPEN - 1;
+
+// The root at bit 8, which has nothing to choose from, into buffers that are zero; then what is left after it.
 fn root(
     table: &[u32],
     payload: &[u8],
@@ -123,7 +142,8 @@ fn root(
 ) -> Answer
     requires { ⌜
         (Entered (now table) name t)
-        × (modeOf (now payload) ≡ got (modeIs mode))
+        × (modeOf (tableOf (now table) .derivations) (now payload) ≡ got (modeIs mode))
+        × (Choosing (now table) (mode .choices))
         × Zeros (now events)
         × Zeros (now texts) ⌝ }
     ensures { λ r. ⌜
@@ -141,19 +161,25 @@ fn root(
     };
     let path = nowhere();
     let mut told = [0u16; limit::MOST_NAMES];
-    let row = Particle::Element(name, t);
-    let w = particle(
+    let choices = Choices {
+        substitutes: false,
+        derived: false,
+    };
+    let w = element(
         table,
         payload,
         events,
         texts,
         &mut told,
         mode,
-        limit::MOST_OPEN,
+        BELOW_ROOT,
         wall,
         c,
         path,
-        row,
+        name,
+        t,
+        0,
+        choices,
     );
     match w {
         Walk::Refuse(n, at) => {
@@ -202,7 +228,7 @@ fn read_checked(
     if limit::MOST_NAME < root_name {
         return refused(refusal::ROOT, 0, nowhere());
     }
-    let f = mode_of(payload);
+    let f = mode_of(table, payload);
     match f {
         Found::Refuse(n) => refused(n, 0, nowhere()),
         Found::Is(mode) => root(table, payload, events, texts, mode, root_name, root_type),

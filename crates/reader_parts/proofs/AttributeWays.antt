@@ -20,7 +20,7 @@ use Rattle.table.specs.declared.answers.Attribute as of-table
 use Rattle.table.specs.declared.answers.Span as of-span
 use Rattle.model.specs.Model.{event, Plan, Answer, value, maybe, attribute, attributes}
 use Rattle.model.specs.Model.Plan.{done}
-use Rattle.model.specs.Items.{Mode}
+use Rattle.model.specs.Items.{Lengths}
 use Rattle.model.specs.Read.{after, code, stored, read}
 use Rattle.model.specs.Steps as steps
 use Rattle.model.proofs.Steps as steps-laws
@@ -50,7 +50,7 @@ module _ (b : ℕ → ℕ) (wall : ℕ) (c : Cursor) (E T : List ℕ) (a : of-ta
   noted-stop n p i = record { says = λ mode held π. after-stop s π E′ T _ c π E T (h .says T π) n p i π _ _ }
 
   module _ (d : Cursor) (i : s ≡ Go d) where
-    noted-next : (mode : Mode) (held : ℕ → Bool) (π : List ℕ) (k : ℕ) → v ≡ k → outcome (read b mode held (Given a k) (roomOf E′ T d) π wall (d .at .0)) d π E′ T
+    noted-next : (mode : Lengths) (held : ℕ → Bool) (π : List ℕ) (k : ℕ) → v ≡ k → outcome (read b mode held (Given a k) (roomOf E′ T d) π wall (d .at .0)) d π E′ T
         ≡ outcome (after (roomOf E T c) (stored (roomOf E T c) π (c .at .0) (event kinds.attribute (a .name) v (next - c .at .0)) [] next) (λ u p. read b mode held (Given a v) u π wall p)) c π E T
     noted-next mode held π k z = rw (← z) (after-go s π E′ T _ c π E T (h .says T π) d i π (λ u ρ p. read b mode held (Given a v) u ρ wall p))
 
@@ -85,7 +85,7 @@ module _ (b : ℕ → ℕ) (wall : ℕ) (c : Cursor) (E T : List ℕ) (a : of-ta
   }
 
   module _ (m : a .must ≡ false) (r : Read) (e : readIs r ≡ choiceAt b 2 wall (c .at .0)) where
-    optional-is : (mode : Mode) (held : ℕ → Bool) (π : List ℕ) → read b mode held (One a) (roomOf E T c) π wall (c .at .0)
+    optional-is : (mode : Lengths) (held : ℕ → Bool) (π : List ℕ) → read b mode held (One a) (roomOf E T c) π wall (c .at .0)
         ≡ code (simpleAt (plain (choice 2)) b wall (c .at .0)) π (c .at .0)
         (λ (v, ts, q). after (roomOf E T c) (stored (roomOf E T c) π (c .at .0) (event kinds.attribute (a .name) v (q - c .at .0)) ts q) (λ u p. read b mode held (Given a v) u π wall p))
     optional-is mode held π =
@@ -113,7 +113,7 @@ Rest l n i = attributes (attributesFrom l n i) done
 
 -- what is left at a cursor c, with E and T, is all that was asked for at c₀, with E₀ and T₀
 pub record Left (b : ℕ → ℕ) (wall : ℕ) (P₀ P : Plan) (c₀ : Cursor) (E₀ T₀ : List ℕ) (c : Cursor) (E T : List ℕ) : Type 0 where
-  pub same : (mode : Mode) (held : ℕ → Bool) (π : List ℕ)
+  pub same : (mode : Lengths) (held : ℕ → Bool) (π : List ℕ)
       → outcome (read b mode held P (roomOf E T c) π wall (c .at .0)) c π E T ≡ outcome (read b mode held P₀ (roomOf E₀ T₀ c₀) π wall (c₀ .at .0)) c₀ π E₀ T₀
 
 module _ (l : List ℕ) (b : ℕ → ℕ) (wall n first : ℕ) (c₀ : Cursor) (E₀ T₀ : List ℕ) where
@@ -137,7 +137,7 @@ module _ (l : List ℕ) (b : ℕ → ℕ) (wall n first : ℕ) (c₀ : Cursor) (
     module _ (k : i < n) (a : of-table.Attribute) (g : attributeIs a ≡ attributeOf l (first + i)) (s : Step) (E′ T′ : List ℕ)
         (y : Reads (One a) b wall c E T s E′ T′) where
       -- the row that was read, then those after it
-      turn-is : (mode : Mode) (held : ℕ → Bool) (π : List ℕ) → read b mode held (Rest l (n - i) (first + i)) (roomOf E T c) π wall (c .at .0)
+      turn-is : (mode : Lengths) (held : ℕ → Bool) (π : List ℕ) → read b mode held (Rest l (n - i) (first + i)) (roomOf E T c) π wall (c .at .0)
           ≡ after (roomOf E T c) (read b mode held (One a) (roomOf E T c) π wall (c .at .0))
           (λ u p. read b mode held (Rest l (n - (i + 1)) (first + (i + 1))) u π wall p)
       turn-is mode held π =

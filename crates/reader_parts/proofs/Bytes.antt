@@ -1,5 +1,5 @@
 -- A reading has at most 4,095 text bytes an event, so that a count of text bytes fits a word.
-use Prim.Native.Nat.{ℕ, _*_, _≤_}
+use Prim.Native.Nat.{ℕ, _-_, _*_, _≤_}
 use mathlib.Core.Path.{_≡_}
 use mathlib.Core.List.{List}
 use mathlib.Core.Bool.{Bool}
@@ -13,9 +13,9 @@ use Rattle.value.specs.Simple.{Simple, SimpleIs, a-code, a-text}
 use Rattle.value.proofs.SimpleLaws.{simple-found}
 use Rattle.model.specs.Model.{Plan, Nodes, treeSlots, treeBytes}
 use Rattle.model.specs.Model.Answer.{given}
-use Rattle.model.specs.Items.{Mode, Form, present, simply, formOf, formAt, itemAt}
+use Rattle.model.specs.Items.{Lengths, Form, present, simply, formOf, formAt, itemAt}
 use Rattle.model.specs.Read.{Room, read}
-use Rattle.model.proofs.Readings.{Extent, Goes, an-item, an-element, a-blank, nothing, more, read-given}
+use Rattle.model.proofs.Readings.{cast-slots, cast-bytes, Extent, Goes, an-item, an-element, a-blank, nothing, more, read-given}
 use Rattle.model.proofs.Trees.{slots-then, bytes-then}
 
 -- a text is at most that long
@@ -30,14 +30,16 @@ unfolding formAt
 form-short b bit present wall at = gives (omega arith)
 form-short b bit (simply s) wall at = record { says = λ r e. text-short (simple-found b bit s wall at .says r e .is) }
 
-module _ (b : ℕ → ℕ) (bit : Binary b) (mode : Mode) (held : ℕ → Bool) where
+module _ (b : ℕ → ℕ) (bit : Binary b) (mode : Lengths) (held : ℕ → Bool) where
   goes-few : {x : Extent} {P Q : Plan} {r : Room} {wall at q : ℕ} {ns : Nodes} → Goes b mode held x P r wall at ns q Q
       → treeBytes ns ≤ 4095 * treeSlots ns
   unfolding treeSlots treeBytes itemAt
   goes-few {wall} {at} (an-item {i} {v} {q} {ts} e h k) =
       let l = form-short b bit (formOf i) wall at .says (v, ts, q) e in omega arith
-  goes-few (an-element x g e h) = let l = goes-few g in omega arith
-  goes-few (a-blank n e z h) = omega arith
+  goes-few (an-element {y} {ns} x z g e h) =
+      let l = goes-few g in
+      omega (arith, cast-slots y (x .body) (x .t) (x .k) (x .past - x .body) ns, cast-bytes y (x .body) (x .t) (x .k) (x .past - x .body) ns)
+  goes-few (a-blank n x e z h) = omega arith
   goes-few nothing = omega arith
   goes-few (more {ns} {ms} f g) =
       let x = goes-few f in let y = goes-few g in omega (arith, slots-then ns ms, bytes-then ns ms)

@@ -1,4 +1,4 @@
--- The end of an element: each way through it; and an element is its Start, what is inside and its end, one after the other.
+-- The end of an element: each way through it; and an element is its Start, its codes, what is inside and its end, one after the other.
 use Prim.Native.Nat.{ℕ, _+_, _-_}
 use mathlib.Core.Path.{_≡_, refl, sym, ap, _∙_}
 use mathlib.Core.List.{List, [], _∷_}
@@ -12,7 +12,7 @@ use Rattle.wire.specs.declared.Bits.{Bits}
 use Rattle.model.specs.Model.{Event, start, end, Mark, Nodes, Answer, events, texts, treeSlots, treeBytes, _then_}
 use Rattle.model.specs.Model.Nodes.{none, leaf, node}
 use Rattle.model.specs.Model.Answer.{given, refused}
-use Rattle.model.specs.Read.{Room, roomLess, lessOne, onto, after, stored, met, ended, closed, Into, entered}
+use Rattle.model.specs.Read.{Room, roomLess, lessOne, onto, after, stored, met, ended, closed, Into, castAt, entered}
 use Rattle.model.proofs.Trees.{slots-then, bytes-then, events-then, texts-then}
 use Rattle.reader_parts.specs.declared.Cursor.{Cursor}
 use Rattle.reader_parts.specs.declared.Step.{Step}
@@ -100,15 +100,19 @@ module _ (m : Mark) where
             rw (ending-met (m .coded) body wall R (m .name ∷ π) q x, stored-in R (m .name ∷ π) q end [] q (omega arith) (ltb-true 0 (r .slots - 1 - treeSlots ns) y))
             (node-left ns q c π E T)
 
-    -- AN ELEMENT as the code goes it: Start is stored, what is inside is read, the end is judged and stored
-    pub entered-left : outcome (entered (ltb 0 (r .slots)) f m r π wall body) c π E T
-        ≡ outcome (after r (stored r π (m .at) (start m) [] body) (λ s p. after s (f (m .type) s (m .name ∷ π) wall p) (λ u q. ending (m .coded) body wall u (m .name ∷ π) q))) c π E T
-    unfolding entered after
-    entered-left = go (ltb 0 (r .slots)) refl
-      where
-        go : (d : Bool) → ltb 0 (r .slots) ≡ d → outcome (entered d f m r π wall body) c π E T
-            ≡ outcome (after r (stored r π (m .at) (start m) [] body) (λ s p. after s (f (m .type) s (m .name ∷ π) wall p) (λ u q. ending (m .coded) body wall u (m .name ∷ π) q))) c π E T
-        go false y = rw (stored-full r π (m .at) (start m) [] body (omega arith) (omega (arith, ltb-false 0 (r .slots) y)))
-        go true y =
-            rw (stored-in r π (m .at) (start m) [] body (omega arith) (ltb-true 0 (r .slots) y), less-start r)
-            (closed-left (f (m .type) (lessOne r) (m .name ∷ π) wall body))
+    -- AN ELEMENT as the code goes it: Start is stored, then its codes' event, what is inside is read, the end is judged and stored
+    module _ (sent : Bool) (k p : ℕ) where
+      abbrev whole : Room → ℕ → Answer
+      whole s q =
+          after s (after s (castAt sent (m .type) k s (m .name ∷ π) q p) (λ u x. f (m .type) u (m .name ∷ π) wall x))
+          (λ u x. ending (m .coded) body wall u (m .name ∷ π) x)
+
+      pub entered-left : outcome (entered (ltb 0 (r .slots)) sent f m k r π wall body p) c π E T ≡ outcome (after r (stored r π (m .at) (start m) [] body) whole) c π E T
+      unfolding entered after
+      entered-left = go (ltb 0 (r .slots)) refl
+        where
+          go : (d : Bool) → ltb 0 (r .slots) ≡ d → outcome (entered d sent f m k r π wall body p) c π E T ≡ outcome (after r (stored r π (m .at) (start m) [] body) whole) c π E T
+          go false y = rw (stored-full r π (m .at) (start m) [] body (omega arith) (omega (arith, ltb-false 0 (r .slots) y)))
+          go true y =
+              rw (stored-in r π (m .at) (start m) [] body (omega arith) (ltb-true 0 (r .slots) y), less-start r)
+              (closed-left (after (lessOne r) (castAt sent (m .type) k (lessOne r) (m .name ∷ π) body p) (λ u x. f (m .type) u (m .name ∷ π) wall x)))

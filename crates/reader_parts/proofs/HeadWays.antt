@@ -11,22 +11,23 @@ use Rattle.wire.specs.Answer.{readIs}
 use Rattle.wire.proofs.ReadWays.{read-value, read-refuse}
 use Rattle.value.specs.Code.{choiceAt, numberAt, codeAt}
 use Rattle.model.specs.Items.{lengthAt, headAt}
-use Rattle.reader_parts.specs.declared.Mode.{Mode}
-use Rattle.reader_parts.specs.declared.Mode.the-variants.{Never, Optional, Always}
+use Rattle.model.specs.Modes.{lengthsIs}
+use Rattle.model.specs.declared.Lengths.{Lengths}
+use Rattle.model.specs.declared.Lengths.the-variants.{Never, Optional, Always}
 use Rattle.reader_parts.specs.declared.Head.{Head}
 use Rattle.reader_parts.specs.declared.Head.the-variants.{Bare, Sized, Wrong}
-use Rattle.reader_parts.specs.Heads.{modeIs, headIs, Heads, Measured}
+use Rattle.reader_parts.specs.Heads.{headIs, Heads, Measured}
 
 -- TheLength
 module _ (b : ℕ → ℕ) (wall at : ℕ) (r : Read) (e : readIs r ≡ numberAt b (2 ^ 32 - 1) wall at) where
   pub measured-refuse : (n : ℕ) → r ≡ of-read.Refuse n → Measured b wall at (Wrong n)
   unfolding headIs lengthAt codeAt
-  measured-refuse n h = record { says = λ t. sym (then-fault _ (read-refuse e h)); within = tt }
+  measured-refuse n h = record { says = sym (then-fault _ (read-refuse e h)); within = tt }
 
   module _ (n : ℕ) (body : Bits) (h : r ≡ of-read.Value n body) where
     past : wall < body .0 + n → Measured b wall at (Wrong refusal.length)
     unfolding headIs lengthAt codeAt
-    past k = record { says = λ t. sym (then _ (read-value e h) (under-fault refusal.length _ k)); within = tt }
+    past k = record { says = sym (then _ (read-value e h) (under-fault refusal.length _ k)); within = tt }
 
     pub measured-before : wall < body .0 → Measured b wall at (Wrong refusal.length)
     measured-before k = past (omega arith)
@@ -36,40 +37,40 @@ module _ (b : ℕ → ℕ) (wall at : ℕ) (r : Read) (e : readIs r ≡ numberAt
 
     pub measured-in : (end : Bits) → body .0 ≤ wall → n ≤ wall - body .0 → end .0 ≡ body .0 + n → Measured b wall at (Sized body end)
     unfolding headIs lengthAt codeAt
-    measured-in end j k l = record { says = λ t. rw l (sym (then _ (read-value e h) (under-then refusal.length (omega arith) refl))); within = omega arith }
+    measured-in end j k l = record { says = rw l (sym (then _ (read-value e h) (under-then refusal.length (omega arith) refl))); within = omega arith }
 
 pub ruleset measured-ways = (measured-refuse, measured-before, measured-past, measured-in)
 
 -- by a flag
 module _ (b : ℕ → ℕ) (wall at : ℕ) (r : Read) (e : readIs r ≡ choiceAt b 2 wall at) where
   pub flagged-refuse : (n : ℕ) → r ≡ of-read.Refuse n → Heads Optional b wall at (Wrong n)
-  unfolding headIs headAt modeIs codeAt
-  flagged-refuse n h = record { says = λ t. sym (then-fault _ (read-refuse e h)); within = tt }
+  unfolding headIs headAt lengthsIs codeAt
+  flagged-refuse n h = record { says = sym (then-fault _ (read-refuse e h)); within = tt }
 
   module _ (v : ℕ) (next : Bits) (h : r ≡ of-read.Value v next) where
     pub flagged-off : v ≡ 0 → Heads Optional b wall at (Bare next)
-    unfolding headIs headAt modeIs codeAt lengthAt
-    flagged-off z = record { says = λ t. sym (then _ (read-value e h) (rw z)); within = tt }
+    unfolding headIs headAt lengthsIs codeAt lengthAt
+    flagged-off z = record { says = sym (then _ (read-value e h) (rw z)); within = tt }
 
     pub flagged-on : (x : Head) → (v ≡ 0 → ⊥) → Measured b wall (next .0) x → Heads Optional b wall at x
-    unfolding headAt modeIs codeAt lengthAt
+    unfolding headAt lengthsIs codeAt lengthAt
     flagged-on x z m =
         let k : v ≡ suc (v - 1) = omega arith in
-        record { says = λ t. m .says t ∙ sym (then _ (read-value e h) (rw k)); within = m .within }
+        record { says = m .says ∙ sym (then _ (read-value e h) (rw k)); within = m .within }
 
 pub ruleset flagged-ways = (flagged-refuse, flagged-off, flagged-on)
 
--- by the mode
-module _ (b : ℕ → ℕ) (wall : ℕ) (at : Bits) (mode : Mode) where
-  pub head-never : mode ≡ Never → Heads mode b wall (at .0) (Bare at)
-  unfolding headIs headAt modeIs
-  head-never z = record { says = λ t. rw z; within = tt }
+-- by the length coding
+module _ (b : ℕ → ℕ) (wall : ℕ) (at : Bits) (lengths : Lengths) where
+  pub head-never : lengths ≡ Never → Heads lengths b wall (at .0) (Bare at)
+  unfolding headIs headAt lengthsIs
+  head-never z = record { says = rw z; within = tt }
 
-  pub head-optional : (x : Head) → mode ≡ Optional → Heads Optional b wall (at .0) x → Heads mode b wall (at .0) x
+  pub head-optional : (x : Head) → lengths ≡ Optional → Heads Optional b wall (at .0) x → Heads lengths b wall (at .0) x
   head-optional x z m = rw z m
 
-  pub head-always : (x : Head) → mode ≡ Always → Measured b wall (at .0) x → Heads mode b wall (at .0) x
-  unfolding headAt modeIs
-  head-always x z m = record { says = λ t. rw z (m .says t); within = m .within }
+  pub head-always : (x : Head) → lengths ≡ Always → Measured b wall (at .0) x → Heads lengths b wall (at .0) x
+  unfolding headAt lengthsIs
+  head-always x z m = record { says = rw z (m .says); within = m .within }
 
 pub ruleset head-ways = (head-never, head-optional, head-always)

@@ -1,5 +1,6 @@
 mod AttributeWays
 pub mod Bytes
+pub mod CodeWays
 pub mod EndsLaws
 mod HeadWays
 pub mod Laws

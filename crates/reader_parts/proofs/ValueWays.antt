@@ -21,7 +21,7 @@ use Rattle.value.specs.declared.Value.the-variants as of-value
 use Rattle.model.specs.Model.{event, value}
 use Rattle.model.specs.Model.Plan.{done}
 use Rattle.model.specs.Model.Item.{valued}
-use Rattle.model.specs.Items.{Mode, itemAt}
+use Rattle.model.specs.Items.{Lengths, itemAt}
 use Rattle.model.specs.Read.{code, stored, read}
 use Rattle.model.proofs.Steps.{item-valued, value-is}
 use Rattle.reader_parts.specs.declared.Cursor.{Cursor}
@@ -39,7 +39,7 @@ module _ (s : List ℕ) (wall k x y : ℕ) (c : Cursor) (E T : List ℕ) (r : Va
   item-is = item-valued (bitAt s) wall (c .at .0) k x y ∙ sym e
 
   -- the reading of the plan, by what the call answered
-  read-is : (mode : Mode) (held : ℕ → Bool) (π : List ℕ) (a : Value) → r ≡ a → read (bitAt s) mode held (value k x y done) (roomOf E T c) π wall (c .at .0)
+  read-is : (mode : Lengths) (held : ℕ → Bool) (π : List ℕ) (a : Value) → r ≡ a → read (bitAt s) mode held (value k x y done) (roomOf E T c) π wall (c .at .0)
       ≡ code (valueIs (bitAt s) a) π (c .at .0) (λ (v, ts, q). stored (roomOf E T c) π (c .at .0) (event kinds.value v 0 (q - c .at .0)) ts q)
   read-is mode held π a h = value-is (bitAt s) mode held (tableOf []) (roomOf E T c) π wall (c .at .0) k x y ∙ rw (item-is, h)
 

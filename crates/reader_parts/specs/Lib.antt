@@ -1,3 +1,4 @@
 pub mod Paths
 pub mod Out
 pub mod Heads
+pub mod Codes

@@ -13,7 +13,7 @@ use Rattle.model.specs.Model.{event, end, value, maybe, Plan, Answer, events, t
 use Rattle.model.specs.Model.Plan.{done}
 use Rattle.model.specs.Model.Answer.{given, refused}
 use Rattle.table.specs.Rows.{Attribute}
-use Rattle.model.specs.Items.{Mode}
+use Rattle.model.specs.Items.{Lengths}
 use Rattle.model.specs.Read.{Room, after, met, stored, read}
 use Rattle.model.specs.Whole.{eventWords}
 use Rattle.reader_parts.specs.declared.Cursor.{Cursor}
@@ -45,7 +45,7 @@ outcome (refused n p ρ) c π E T = stopped n p ρ
 
 -- CONTRACTS OF LEAVES, for every path. A plan read, in every mode and by any held marks, as it opens no element
 pub record Reads (P : Plan) (b : ℕ → ℕ) (wall : ℕ) (c : Cursor) (E T : List ℕ) (s : Step) (E′ T′ : List ℕ) : Type 0 where
-  pub says : (mode : Mode) (held : ℕ → Bool) (π : List ℕ) → stepView s π E′ T′ ≡ outcome (read b mode held P (roomOf E T c) π wall (c .at .0)) c π E T
+  pub says : (mode : Lengths) (held : ℕ → Bool) (π : List ℕ) → stepView s π E′ T′ ≡ outcome (read b mode held P (roomOf E T c) π wall (c .at .0)) c π E T
 
 -- an event stored, with no text; texts are not touched, whatever they are
 pub record Stores (kind p q next : ℕ) (c : Cursor) (E : List ℕ) (s : Step) (E′ : List ℕ) : Type 0 where
@@ -57,7 +57,7 @@ pub record Keeps (word : ℕ) (ts : List ℕ) (next : ℕ) (c : Cursor) (E T : L
 
 -- an attribute's event stored, with whether it is present, and then its value where it is
 pub record Notes (present next : ℕ) (a : Attribute) (b : ℕ → ℕ) (wall : ℕ) (c : Cursor) (E T : List ℕ) (s : Step) (E′ T′ : List ℕ) : Type 0 where
-  pub says : (mode : Mode) (held : ℕ → Bool) (π : List ℕ) → stepView s π E′ T′
+  pub says : (mode : Lengths) (held : ℕ → Bool) (π : List ℕ) → stepView s π E′ T′
       ≡ outcome (after (roomOf E T c) (stored (roomOf E T c) π (c .at .0) (event kinds.attribute (a .name) present (next - c .at .0)) [] next)
       (λ u p. read b mode held (maybe present (value (a .kind) (a .b) (a .c) done) done) u π wall p)) c π E T
 

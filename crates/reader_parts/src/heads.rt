@@ -1,6 +1,6 @@
-// An element's head: its flag and its length, by the mode.
+// An element's head: its flag and its length, by the length coding.
 use crate::Head;
-use crate::Mode;
+use model::Lengths;
 use numbers::limit;
 use numbers::refusal;
 use value::reading::choice;
@@ -36,7 +36,7 @@ fn read_length(payload: &[u8], wall: Bits, at: Bits) -> Head
 // By a flag: none, or a length.
 fn read_flag(payload: &[u8], wall: Bits, at: Bits) -> Head
     requires { ⌜ wall .0 ≤ 8 * length (now payload) ⌝ }
-    ensures { λ r. ⌜ Heads Mode.Optional (bitAt (now (payload .entry))) (wall .0) (at .0) r ⌝ }
+    ensures { λ r. ⌜ Heads Lengths.Optional (bitAt (now (payload .entry))) (wall .0) (at .0) r ⌝ }
 {
     match choice(payload, wall, at, 2) {
         Read::Refuse(n) => Head::Wrong(n),
@@ -50,13 +50,13 @@ fn read_flag(payload: &[u8], wall: Bits, at: Bits) -> Head
 }
 
 // A head at a place, below a wall.
-pub fn head(payload: &[u8], mode: Mode, wall: Bits, at: Bits) -> Head
+pub fn head(payload: &[u8], lengths: Lengths, wall: Bits, at: Bits) -> Head
     requires { ⌜ wall .0 ≤ 8 * length (now payload) ⌝ }
-    ensures { λ r. ⌜ Heads mode (bitAt (now (payload .entry))) (wall .0) (at .0) r ⌝ }
+    ensures { λ r. ⌜ Heads lengths (bitAt (now (payload .entry))) (wall .0) (at .0) r ⌝ }
 {
-    match mode {
-        Mode::Never => Head::Bare(at),
-        Mode::Optional => read_flag(payload, wall, at),
-        Mode::Always => read_length(payload, wall, at),
+    match lengths {
+        Lengths::Never => Head::Bare(at),
+        Lengths::Optional => read_flag(payload, wall, at),
+        Lengths::Always => read_length(payload, wall, at),
     }
 }

@@ -1,5 +1,6 @@
 // The reader's parts: what it stores, and each part of an element that holds no element. They speak for every path; who opens elements holds it.
 pub mod attributes; // attributes.rt: one attribute, and all of a type
+pub mod codes; // codes.rt: an element's substitution code and type code, and their event
 pub mod ends; // ends.rt: the end of an element
 pub mod heads; // heads.rt: an element's flag and length
 pub mod storing; // storing.rt: one event
@@ -30,17 +31,24 @@ pub struct Path {
     pub count: usize,
 }
 
-// Length coding: never, by a flag, always.
-pub enum Mode {
-    Never,
-    Optional,
-    Always,
-}
-
 // An element's head: where its body begins; that and its declared end; or the number of a refusal.
 pub enum Head {
     Bare(Bits),
     Sized(Bits, Bits),
+    Wrong(u32),
+}
+
+// An element's codes: its effective type, its substitute (from 1, or 0), the place past them, and whether a flag bit was sent.
+pub struct Cast {
+    pub effective: u32,
+    pub substitute: u32,
+    pub next: Bits,
+    pub sent: bool,
+}
+
+// What an element's codes say; or the number of a refusal.
+pub enum Coded {
+    As(Cast),
     Wrong(u32),
 }
 

@@ -28,7 +28,7 @@ module _ (l : List ℕ) (t i kind x y z : ℕ) (at : i ≡ typeAt t) (e : kind �
 
 -- a particle row that begins at i
 module _ (l : List ℕ) (T A n i kind x y z : ℕ) (at : i ≡ particleAt T A n) (e : kind ≡ wordAt l i) (p : x ≡ wordAt l (i + 1)) (q : y ≡ wordAt l (i + 2)) where
-  pub read-element : kind ≡ particle.element → element x y ≡ rowAt l T A n
+  pub read-element : kind ≡ particle.element → element x y n ≡ rowAt l T A n
   unfolding rowAt rowFrom
   read-element f = sym (rw (← at, ← e, f, ← p, ← q))
 

@@ -10,7 +10,7 @@ use Rattle.table.specs.First.Verdict.{right, wrong}
 use Rattle.table.specs.Rows.{Table, tableOf, contentOf, contentFrom, rowOf, rowAt, rowFrom, attributesOf, attributesFrom, attributeOf, firstOf, countOf}
 use Rattle.table.specs.Rows.Row.{element, sequence, occurs}
 use Rattle.table.specs.Rows.Content.{simple, particles}
-use Rattle.table.specs.Valid.{verdict, verdictFrom, headerWords, given, rowWords, rows, typeRow, frontWords, contentWords, emptyWords, simpleWords, particlesWords, kindWords, rangeWords, enumerationWords, unusedWords, attributeRow, attributeWords, particleRow, particleWords, elementWords, groupWords, occursWords}
+use Rattle.table.specs.Valid.{verdict, verdictFrom, headerWords, given, rowWords, rows, typeRow, frontWords, contentWords, emptyWords, simpleWords, particlesWords, kindWords, rangeWords, enumerationWords, unusedWords, attributeRow, attributeWords, particleRow, particleWords, elementWords, groupWords, occursWords, countWords, derivedWords, substituteWords, among, once, wordsFrom, typePair, rowPair, derivedRow, substituteRow, typePairRow, rowPairRow, castWords, formWords, formSize, lengthRight}
 
 -- type 0 particles at row 0 with attribute row 0; type 1 boolean; type 2 ranged -3 to 4; type 3 text; all held
 abbrev pub worked : List ℕ
@@ -26,6 +26,24 @@ worked =
     ++ (3 ∷ 3 ∷ 0 ∷ 3 ∷ [])
     ++ (0 ∷ 12 ∷ 1 ∷ 0 ∷ [])
 
+-- form 2: type 1 (boolean) has derived 2 (text), 3 (empty), 4 (unsigned), type 3 has 4; element 12 of type 3 has the substitutes 13 (type 1), 14 (type 2), 15 (type 3)
+abbrev pub cast : List ℕ
+cast =
+    (2 ∷ 5 ∷ 0 ∷ 3 ∷ [])
+    ++ (1 ∷ 2 ∷ 0 ∷ 0 ∷ 0 ∷ 0 ∷ 0 ∷ [])
+    ++ (1 ∷ 1 ∷ 0 ∷ 0 ∷ 0 ∷ 0 ∷ 0 ∷ [])
+    ++ (1 ∷ 1 ∷ 0 ∷ 0 ∷ 5 ∷ 0 ∷ 0 ∷ [])
+    ++ (1 ∷ 0 ∷ 0 ∷ 0 ∷ 0 ∷ 0 ∷ 0 ∷ [])
+    ++ (1 ∷ 1 ∷ 0 ∷ 0 ∷ 2 ∷ 0 ∷ 0 ∷ [])
+    ++ (1 ∷ 1 ∷ 2 ∷ 0 ∷ [])
+    ++ (0 ∷ 11 ∷ 1 ∷ 0 ∷ [])
+    ++ (0 ∷ 12 ∷ 3 ∷ 0 ∷ [])
+    ++ (3 ∷ 3 ∷ [])
+    ++ (2 ∷ 3 ∷ 4 ∷ [])
+    ++ (13 ∷ 1 ∷ 14 ∷ 2 ∷ 15 ∷ 3 ∷ [])
+    ++ (0 ∷ 0 ∷ 0 ∷ 3 ∷ 0 ∷ 0 ∷ 2 ∷ 1 ∷ 0 ∷ 0 ∷ [])
+    ++ (0 ∷ 0 ∷ 0 ∷ 0 ∷ 0 ∷ 3 ∷ [])
+
 pub record Case : Type 0 where
   pub table : List ℕ
   pub gives : Verdict
@@ -37,6 +55,9 @@ case l v = record { table = l; gives = v }
 abbrev changed : ℕ → ℕ → Verdict → Case
 changed i x v = case (set worked i x) v
 
+abbrev recast : ℕ → ℕ → Verdict → Case
+recast i x v = case (set cast i x) v
+
 abbrev pub cases : List Case
 cases =
     case worked right
@@ -46,7 +67,7 @@ cases =
     ∷ case (take 3 worked) (wrong 3)
     ∷ case (worked ++ (0 ∷ [])) (wrong 52)
     ∷ case (take 50 worked) (wrong 50)
-    ∷ changed 0 2 (wrong 0)
+    ∷ changed 0 3 (wrong 0)
     ∷ changed 1 257 (wrong 1)
     ∷ changed 3 5 (wrong 51)
     ∷ changed 3 1025 (wrong 3)
@@ -74,16 +95,33 @@ cases =
     ∷ changed 46 65536 right
     ∷ changed 46 65537 (wrong 46)
     ∷ changed 50 1 (wrong 50)
+    ∷ case cast right
+    ∷ recast 0 3 (wrong 0)
+    ∷ recast 51 4 (wrong 78)
+    ∷ case (take 52 cast) (wrong 52)
+    ∷ case (take 77 cast) (wrong 77)
+    ∷ recast 0 1 (wrong 78)
+    ∷ recast 53 5 (wrong 53)
+    ∷ recast 57 5 (wrong 57)
+    ∷ recast 62 4 (wrong 62)
+    ∷ recast 65 4 (wrong 65)
+    ∷ recast 54 1 (wrong 65)
+    ∷ recast 54 2 (wrong 65)
+    ∷ recast 72 1 (wrong 72)
+    ∷ recast 77 4 (wrong 77)
+    ∷ recast 4 0 right
+    ∷ recast 5 3 (wrong 5)
+    ∷ case (set (take 51 cast) 0 1) right
     ∷ []
 
 pub verdicts : map (λ (c : Case). verdict (c .table)) cases ≡ map (λ (c : Case). c .gives) cases
-unfolding verdict verdictFrom headerWords given rowWords rows typeRow frontWords contentWords emptyWords simpleWords particlesWords kindWords rangeWords enumerationWords unusedWords attributeRow attributeWords particleRow particleWords elementWords groupWords occursWords first judge _then_
+unfolding verdict verdictFrom headerWords given rowWords rows typeRow frontWords contentWords emptyWords simpleWords particlesWords kindWords rangeWords enumerationWords unusedWords attributeRow attributeWords particleRow particleWords elementWords groupWords occursWords first judge _then_ countWords derivedWords substituteWords among once wordsFrom typePair rowPair derivedRow substituteRow typePairRow rowPairRow castWords formWords formSize lengthRight
 verdicts = refl
 
 pub record Worked (t : Table) : Type 0 where
   pub types : t .types ≡ 4
   pub contents : map (t .content) (0 ∷ 1 ∷ 2 ∷ 3 ∷ []) ≡ particles 0 ∷ simple 0 0 0 ∷ simple 1 0xfffffffd 4 ∷ simple 5 0 0 ∷ []
-  pub rows : map (t .row) (0 ∷ 1 ∷ 2 ∷ 3 ∷ []) ≡ sequence 1 2 ∷ element 11 3 ∷ occurs 3 0 3 ∷ element 12 1 ∷ []
+  pub rows : map (t .row) (0 ∷ 1 ∷ 2 ∷ 3 ∷ []) ≡ sequence 1 2 ∷ element 11 3 1 ∷ occurs 3 0 3 ∷ element 12 1 3 ∷ []
   pub attributes : t .attributes 0 ≡ record { name = 20; must = false; kind = 1; b = 0xfffffffd; c = 4 } ∷ []
 
 pub worked-rows : Worked (tableOf worked)

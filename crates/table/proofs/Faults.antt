@@ -5,33 +5,19 @@ use mathlib.Core.Path.{_≡_, refl, sym, ap, subst, _∙_}
 use mathlib.Core.List.{List, _++_}
 use mathlib.Core.Bool.{Bool, true, false, true≢false}
 use native.Mathlib.Omega.{arith}
-use borrow.Author.Tests.{eqb-true, eqb-false, le-ltb}
-use lib.Dec.{eqb}
-use lib.ListN.{length, getD, length-append, List·getD-append}
+use borrow.Author.Tests.{le-ltb}
+use lib.ListN.{length, getD, List·getD-append}
 use lib.Seq.{getD-append-add}
 use Rattle.numbers.specs.Limit.{mostTypes, mostAttributes, mostParticles}
 use Rattle.signed.proofs.Laws.{ordered}
-use Rattle.table.specs.Words.{typeAt, attributeAt, particleAt, sizeOf, wordAt, typesIn, attributesIn, particlesIn}
+use Rattle.table.specs.Words.{plainForm, castForm, wordAt, typesIn, attributesIn, particlesIn}
 use Rattle.table.specs.First.{Verdict, first, judge, _then_}
 use Rattle.table.specs.First.Verdict.{right, wrong}
 use Rattle.table.proofs.FirstLaws.{then-right, right-every, every-at, wrong-fails}
-use Rattle.table.specs.Valid.{given, headerWords, rows, typeRow, attributeRow, particleRow, rowWords, verdict, verdictFrom, Sized, rightAt}
-use Rattle.table.proofs.Lines.{types-lined, attributes-lined, particles-lined, rows-end}
+use Rattle.table.specs.Valid.{given, headerWords, rowWords, formWords, lengthRight, verdict, verdictFrom, Sized, rightAt}
+use Rattle.table.proofs.Laws.{length-says, length-told}
+use Rattle.table.proofs.Lines.{words-length}
 use Rattle.table.specs.Faults.{Whole, Fault, Says, at-word, at-length}
-
--- one test for each word
-module _ (w : ℕ → ℕ) (T A P : ℕ) where
-  pub row-words-length : 4 + length (rowWords w T A P) ≡ sizeOf T A P
-  unfolding rowWords
-  row-words-length =
-      omega (
-        arith,
-        length-append (rows (typeRow w A P) 0 T) (rows (attributeRow w T) 0 A ++ rows (particleRow w T A P) 0 P),
-        length-append (rows (attributeRow w T) 0 A) (rows (particleRow w T A P) 0 P),
-        rows-end typeAt _ (types-lined w A P) 0 T,
-        rows-end (attributeAt T) _ (attributes-lined w T) 0 A,
-        rows-end (particleAt T A) _ (particles-lined w T A P) 0 P,
-      )
 
 module _ (l : List ℕ) where
   abbrev T : ℕ
@@ -44,7 +30,7 @@ module _ (l : List ℕ) where
   P = particlesIn l
 
   abbrev R : List Bool
-  R = rowWords (wordAt l) T A P
+  R = rowWords (wordAt l) T A P ++ formWords (wordAt l) T A P
 
   -- the header's tests come first
   header-at : (i : ℕ) → i < 4 → rightAt l i ≡ getD (headerWords l) i true
@@ -61,7 +47,7 @@ module _ (l : List ℕ) where
 
   header-given : (i : ℕ) → getD (headerWords l) i true ≡ false → i < length l
   unfolding headerWords
-  header-given zero e = given-false 0 1 1 e
+  header-given zero e = given-false 0 plainForm castForm e
   header-given (suc zero) e = given-false 1 1 mostTypes e
   header-given (suc (suc zero)) e = given-false 2 0 mostAttributes e
   header-given (suc (suc (suc zero))) e = given-false 3 0 mostParticles e
@@ -99,12 +85,12 @@ module _ (l : List ℕ) where
       rows-wrong : (k : ℕ) → verdict l ≡ wrong k → first 4 R ≡ wrong k → Said
       rows-wrong k f g =
           let b = wrong-fails 4 R k g in
-          let inside : k < length l = omega (arith, b .1 .place, b .1 .inside, row-words-length (wordAt l) T A P) in
+          let inside : k < length l = omega (arith, b .1 .place, b .1 .inside, s .by-form, words-length (wordAt l) T A P) in
           let fails : rightAt l k ≡ false = rw (b .1 .place) (row-at (b .0) ∙ b .1 .fails) in
           let past : (j : ℕ) → j < k → 4 ≤ j → rightAt l j ≡ true = λ j h i. word-right j (j - 4) (omega arith) (b .1 .before (j - 4) (omega (arith, b .1 .place))) in
           (wrong k, f, at-word inside (λ h. s) fails (λ j h. ordered j 4 (header-right j) (past j h)))
 
-    after-header : verdict l ≡ judge (length l) (eqb (length l) (sizeOf T A P)) then first 4 R
+    after-header : verdict l ≡ judge (length l) (lengthRight l T A P) then first 4 R
     unfolding verdict verdictFrom
     after-header = then-right _ _ e
 
@@ -112,13 +98,13 @@ module _ (l : List ℕ) where
     by-rows s f right g = rows-right s (f ∙ g) g
     by-rows s f (wrong k) g = rows-wrong s k (f ∙ g) g
 
-    by-length : (b : Bool) → eqb (length l) (sizeOf T A P) ≡ b → Said
+    by-length : (b : Bool) → lengthRight l T A P ≡ b → Said
     unfolding judge _then_
-    by-length true f = by-rows (eqb-true _ _ f) (after-header ∙ rw f) (first 4 R) refl
-    by-length false f = length-wrong (eqb-false _ _ f) (after-header ∙ rw f)
+    by-length true f = by-rows (length-says l f) (after-header ∙ rw f) (first 4 R) refl
+    by-length false f = length-wrong (λ s. true≢false (sym (length-told l s) ∙ f)) (after-header ∙ rw f)
 
   by-header : (v : Verdict) → first 0 (headerWords l) ≡ v → Said
-  by-header right e = by-length e (eqb (length l) (sizeOf T A P)) refl
+  by-header right e = by-length e (lengthRight l T A P) refl
   by-header (wrong k) e = header-wrong k e
 
   pub verdict-says : (Says l) (verdict l)

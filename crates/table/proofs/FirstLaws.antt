@@ -2,7 +2,7 @@
 use Prim.Native.Nat.{ℕ, zero, suc, _+_, _≤_, _<_}
 use mathlib.Core.Path.{_≡_, refl, sym, ap, _∙_}
 use mathlib.Core.List.{List, [], _∷_, _++_}
-use mathlib.Core.Bool.{Bool, true, false}
+use mathlib.Core.Bool.{Bool, true, false, _&&_, true≢false}
 use native.Mathlib.Omega.{arith}
 use lib.ListN.{length, getD}
 use Rattle.table.specs.First.{Verdict, first, judge, _then_}
@@ -89,6 +89,11 @@ pub every-at : (xs : List Bool) → Every xs → (j : ℕ) → getD xs j true �
 every-at [] h j = refl
 every-at (x ∷ xs) h zero = h .0
 every-at (x ∷ xs) h (suc j) = every-at xs (h .1) j
+
+-- two tests joined
+pub both-true : (x y : Bool) → (x && y) ≡ true → (x ≡ true) × (y ≡ true)
+both-true true y e = (refl, e)
+both-true false y e = absurd (true≢false (sym e))
 
 -- Wrong: the test at that place, the j-th, fails, and each before it holds.
 pub record Fails (i : ℕ) (xs : List Bool) (k j : ℕ) : Type 0 where

@@ -1,22 +1,21 @@
 -- The laws of a right table: it keeps to what `Keeps` says. Callers cite these and never the words.
 use Prim.Native.Nat.{ℕ, zero, suc, _+_, _≤_, _<_}
 use mathlib.Core.Path.{_≡_, refl, sym, _∙_}
-use mathlib.Core.List.{List, []}
+use mathlib.Core.List.{List, [], _++_}
 use mathlib.Core.Bool.{Bool, true, false, _&&_, _||_, true≢false}
 use native.Mathlib.Omega.{arith}
-use borrow.Author.Tests.{ltb-true, leb-true, eqb-true, eq-eqb, ne-eqb, lt-ltb}
+use borrow.Author.Tests.{ltb-true, leb-true, eqb-true, eq-eqb, ne-eqb, lt-ltb, le-leb}
 use lib.Dec.{leb, eqb}
 use lib.ListN.{length}
 use Rattle.signed.specs.Words.{rank}
-use Rattle.signed.proofs.Laws.{ordered}
-use Rattle.table.specs.Words.{typeAt, sizeOf, wordAt, typesIn, attributesIn, particlesIn}
-use Rattle.table.specs.First.{first, judge}
-use Rattle.table.specs.First.Verdict.{right}
-use Rattle.table.proofs.FirstLaws.{judge-right, both-right, Every, right-every, every-append}
+use Rattle.table.specs.Words.{castForm, typeAt, sizeOf, wordAt, typesIn, attributesIn, particlesIn, rowsEnd, derivationsIn, substitutesIn}
+use Rattle.table.specs.First.{first, judge, _then_}
+use Rattle.table.specs.First.Verdict.{right, wrong}
+use Rattle.table.proofs.FirstLaws.{judge-right, then-right, both-right, Every, right-every, every-append, both-true}
 use Rattle.numbers.specs.Simple.{ranged}
-use Rattle.numbers.specs.Limit.{mostTypes, mostAttributes, mostParticles, mostValues, mostTimes, unbounded, mostTableWords}
-use Rattle.table.specs.Valid.{within, given, headerWords, frontWords, rangeWords, enumerationWords, kindWords, simpleWords, particlesWords, contentWords, attributeWords, elementWords, groupWords, occursWords, particleWords, rows, typeRow, attributeRow, particleRow, rowWords, verdict, verdictFrom, Sized}
-use Rattle.table.proofs.Lines.{typesVerdict, attributesVerdict, particlesVerdict, rows-in-parts}
+use Rattle.numbers.specs.Limit.{mostTypes, mostAttributes, mostParticles, mostValues, mostTimes, unbounded, mostTableWords, mostDerivations, mostSubstitutes}
+use Rattle.table.specs.Valid.{within, given, headerWords, frontWords, rangeWords, enumerationWords, kindWords, simpleWords, particlesWords, contentWords, attributeWords, elementWords, groupWords, occursWords, particleWords, typeRow, attributeRow, particleRow, rowWords, countWords, castWords, formWords, formSize, lengthRight, verdict, verdictFrom, Sized}
+use Rattle.table.proofs.Lines.{typesVerdict, attributesVerdict, particlesVerdict, rows-in-parts, words-in-parts, rows-every, form-words-length}
 use Rattle.table.specs.Keeps.{ElementOk, GroupOk, OccursOk, RowOk, SimpleOk, ContentOk, AttributeOk, Each, CountsOk}
 use Rattle.table.specs.Rows.Content.{simple}
 use Rattle.table.specs.Rows.{Attribute, contentFrom, rowFrom, contentOf, rowAt, rowOf, attributeType, attributeOf, attributesFrom, firstOf, countOf, attributesOf, tableOf}
@@ -26,20 +25,16 @@ use Rattle.table.specs.declared.answers.Particle as code·particle
 use Rattle.table.specs.declared.answers.Content as code·content
 
 -- From tests to facts.
-and-true : (x y : Bool) → (x && y) ≡ true → (x ≡ true) × (y ≡ true)
-and-true true y e = (refl, e)
-and-true false y e = absurd (true≢false (sym e))
-
-element-ok : (T name type z : ℕ) → Every (elementWords T name type z) → ElementOk T name type
+element-ok : (T P name type row z : ℕ) → row < P → Every (elementWords T name type z) → ElementOk T P name type row
 unfolding elementWords
-element-ok T name type z h = record { name-small = leb-true _ _ (h .0); type-known = ltb-true _ _ (h .1 .0) }
+element-ok T P name type row z g h = record { name-small = leb-true _ _ (h .0); type-known = ltb-true _ _ (h .1 .0); row-known = g }
 
 group-ok : (P least p start count z : ℕ) → Every (groupWords P least p start count z) → GroupOk P p least start count
 unfolding groupWords
 group-ok P least p start count z h =
-    let place = and-true _ _ (h .0) in
-    let number = and-true _ _ (h .1 .0) in
-    let within = and-true _ _ (number .0) in
+    let place = both-true _ _ (h .0) in
+    let number = both-true _ _ (h .1 .0) in
+    let within = both-true _ _ (number .0) in
     record { over = ltb-true _ _ (place .0); within = leb-true _ _ (number .1); enough = leb-true _ _ (within .0); few = leb-true _ _ (within .1) }
 
 most-ok : (least most : ℕ) (u v : Bool) → eqb most unbounded ≡ u → least ≤ mostTimes → (u || v) ≡ true
@@ -49,14 +44,14 @@ most-ok least most false v e h f g = let r = g f in (r .0, omega arith, r .2)
 
 bounded-ok : (least most : ℕ) → (within 1 mostTimes most && leb least most) ≡ true → (1 ≤ most) × (most ≤ mostTimes) × (least ≤ most)
 bounded-ok least most e =
-    let b = and-true _ _ e in
-    let w = and-true _ _ (b .0) in
+    let b = both-true _ _ e in
+    let w = both-true _ _ (b .0) in
     (leb-true _ _ (w .0), leb-true _ _ (w .1), leb-true _ _ (b .1))
 
 occurs-ok : (P p child least most : ℕ) → Every (occursWords P p child least most) → OccursOk P p child least most
 unfolding occursWords
 occurs-ok P p child least most h =
-    let place = and-true _ _ (h .0) in
+    let place = both-true _ _ (h .0) in
     let small = leb-true least mostTimes (h .1 .0) in
     let m = most-ok least most _ _ refl small (h .1 .1 .0) (bounded-ok least most) in
     record {
@@ -68,13 +63,13 @@ occurs-ok P p child least most h =
       ordered = m .2;
     }
 
-row-from-ok : (T P p kind x y z : ℕ) → Every (particleWords T P p kind x y z) → RowOk T P p (rowFrom kind x y z)
+row-from-ok : (T P p kind x y z : ℕ) → p < P → Every (particleWords T P p kind x y z) → RowOk T P p (rowFrom p kind x y z)
 unfolding particleWords rowFrom
-row-from-ok T P p zero x y z h = element-ok T x y z (h .1)
-row-from-ok T P p (suc zero) x y z h = group-ok P 1 p x y z (h .1)
-row-from-ok T P p (suc (suc zero)) x y z h = group-ok P 2 p x y z (h .1)
-row-from-ok T P p (suc (suc (suc zero))) x y z h = occurs-ok P p x y z (h .1)
-row-from-ok T P p (suc (suc (suc (suc k)))) x y z h = absurd (true≢false (sym (h .0)))
+row-from-ok T P p zero x y z g h = element-ok T P x y p z g (h .1)
+row-from-ok T P p (suc zero) x y z g h = group-ok P 1 p x y z (h .1)
+row-from-ok T P p (suc (suc zero)) x y z g h = group-ok P 2 p x y z (h .1)
+row-from-ok T P p (suc (suc (suc zero))) x y z g h = occurs-ok P p x y z (h .1)
+row-from-ok T P p (suc (suc (suc (suc k)))) x y z g h = absurd (true≢false (sym (h .0)))
 
 range-ok : (b c : ℕ) → Every (rangeWords b c) → rank b ≤ rank c
 unfolding rangeWords
@@ -82,7 +77,7 @@ range-ok b c h = leb-true _ _ (h .1 .0)
 
 values-ok : (b c : ℕ) → Every (enumerationWords b c) → (1 ≤ b) × (b ≤ mostValues)
 unfolding enumerationWords
-values-ok b c h = let w = and-true _ _ (h .0) in (leb-true _ _ (w .0), leb-true _ _ (w .1))
+values-ok b c h = let w = both-true _ _ (h .0) in (leb-true _ _ (w .0), leb-true _ _ (w .1))
 
 simple-ok : (kind b c : ℕ) → Every (simpleWords kind b c) → SimpleOk kind b c
 unfolding simpleWords kindWords
@@ -99,13 +94,26 @@ content-from-ok P zero a b c h = tt
 content-from-ok P (suc zero) a b c h = simple-ok a b c h
 content-from-ok P (suc (suc k)) a b c h = ltb-true _ _ (h .0)
 
--- every one of some rows is right
-rows-every : (f : ℕ → List Bool) (i n k : ℕ) → Every (rows f i n) → i ≤ k → k < i + n → Every (f k)
-unfolding rows
-rows-every f i zero k h g m = absurd (omega arith)
-rows-every f i (suc n) k h g m =
-    let parts = every-append (f i) (rows f (suc i) n) h in
-    ordered i k (λ b. rows-every f (suc i) n k (parts .1) b (omega arith)) (λ b. let e : k ≡ i = omega arith in rw e (parts .0))
+-- The length: right where its test holds; a wrong one is named at the number of words given.
+module _ (l : List ℕ) where
+  pub length-says : lengthRight l (typesIn l) (attributesIn l) (particlesIn l) ≡ true → Sized l
+  unfolding lengthRight
+  length-says e = let h = both-true _ _ e in record { by-form = eqb-true _ _ (h .0); few = leb-true _ _ (h .1) }
+
+  pub length-told : Sized l → lengthRight l (typesIn l) (attributesIn l) (particlesIn l) ≡ true
+  unfolding lengthRight
+  length-told s = rw (eq-eqb _ _ (s .by-form), le-leb _ _ (s .few))
+
+  pub rows-within : Sized l → rowsEnd l ≤ length l
+  rows-within s = omega (arith, s .by-form, form-words-length (wordAt l) (typesIn l) (attributesIn l) (particlesIn l))
+
+  unsized-by : (b : Bool) → lengthRight l (typesIn l) (attributesIn l) (particlesIn l) ≡ b → first 0 (headerWords l) ≡ right → (Sized l → ⊥) → verdict l ≡ wrong (length l)
+  unfolding verdict verdictFrom judge _then_
+  unsized-by true f e n = absurd (n (length-says f))
+  unsized-by false f e n = then-right _ _ e ∙ rw f
+
+  pub unsized : first 0 (headerWords l) ≡ right → (Sized l → ⊥) → verdict l ≡ wrong (length l)
+  unsized = unsized-by _ refl
 
 -- The laws.
 module _ (l : List ℕ) (valid : verdict l ≡ right) where
@@ -121,12 +129,17 @@ module _ (l : List ℕ) (valid : verdict l ≡ right) where
   abbrev P : ℕ
   P = particlesIn l
 
-  parts : (first 0 (headerWords l) ≡ right) × (judge (length l) (eqb (length l) (sizeOf T A P)) ≡ right) × (first 4 (rowWords (wordAt l) T A P) ≡ right)
+  parts : (first 0 (headerWords l) ≡ right)
+      × (judge (length l) (lengthRight l T A P) ≡ right)
+      × (first 4 (rowWords (wordAt l) T A P ++ formWords (wordAt l) T A P) ≡ right)
   unfolding verdict verdictFrom
   parts = let h = both-right _ _ valid in let g = both-right _ _ (h .1) in (h .0, g .0, g .1)
 
+  word-parts : (first 4 (rowWords (wordAt l) T A P) ≡ right) × (first (sizeOf T A P) (formWords (wordAt l) T A P) ≡ right)
+  word-parts = both-right _ _ (sym (words-in-parts (wordAt l) T A P) ∙ parts .2)
+
   row-parts : (typesVerdict (wordAt l) T A P ≡ right) × (attributesVerdict (wordAt l) T A P ≡ right) × (particlesVerdict (wordAt l) T A P ≡ right)
-  row-parts = let h = both-right _ _ (sym (rows-in-parts (wordAt l) T A P) ∙ parts .2) in let g = both-right _ _ (h .1) in (h .0, g .0, g .1)
+  row-parts = let h = both-right _ _ (sym (rows-in-parts (wordAt l) T A P) ∙ word-parts .0) in let g = both-right _ _ (h .1) in (h .0, g .0, g .1)
 
   -- every row of each kind
   type-every : (t : ℕ) → t < T → Every (typeRow (wordAt l) A P t)
@@ -140,7 +153,7 @@ module _ (l : List ℕ) (valid : verdict l ≡ right) where
 
   pub row-ok : (p : ℕ) → p < P → RowOk T P p (tableOf l .row p)
   unfolding tableOf rowOf rowAt particleRow
-  row-ok p h = row-from-ok T P p _ _ _ _ (particle-every p h)
+  row-ok p h = row-from-ok T P p _ _ _ _ h (particle-every p h)
 
   -- the two parts of a type row
   abbrev front : ℕ → List Bool
@@ -182,8 +195,8 @@ module _ (l : List ℕ) (valid : verdict l ≡ right) where
   unfolding tableOf attributeOf attributeRow attributeWords
   attribute-ok a h =
       let r = attribute-every a h in
-      let type = and-true _ _ (r .1 .1 .0) in
-      let plain = and-true _ _ (type .1) in
+      let type = both-true _ _ (r .1 .1 .0) in
+      let plain = both-true _ _ (type .1) in
       let known = ltb-true _ _ (type .0) in
       let one = eqb-true _ _ (plain .0) in
       record {
@@ -208,12 +221,12 @@ module _ (l : List ℕ) (valid : verdict l ≡ right) where
 
   -- the length, and the numbers of rows
   pub sized : Sized l
-  sized = eqb-true _ _ (judge-right _ _ (parts .1))
+  sized = length-says l (judge-right _ _ (parts .1))
 
   given-ok : (i least most : ℕ) → i < 4 → given l i least most ≡ true → (least ≤ w i) × (w i ≤ most)
   unfolding given
   given-ok i least most h e =
-      let b = and-true _ _ (rw (lt-ltb i (length l) (omega (arith, sized))) at e) in
+      let b = both-true _ _ (rw (lt-ltb i (length l) (omega (arith, rows-within l sized))) at e) in
       (leb-true _ _ (b .0), leb-true _ _ (b .1))
 
   pub counts-ok : CountsOk T A P
@@ -228,8 +241,21 @@ module _ (l : List ℕ) (valid : verdict l ≡ right) where
         particles-few = given-ok 3 0 mostParticles (omega arith) (h .1 .1 .1 .0) .1;
       }
 
+  -- in form 2 every word behind the rows
+  pub cast-every : eqb (w 0) castForm ≡ true → Every (castWords (wordAt l) T A P (rowsEnd l) (derivationsIn l) (substitutesIn l))
+  unfolding formWords
+  cast-every e = rw e at (right-every _ _ (word-parts .1))
+
+  pub cast-counts : eqb (w 0) castForm ≡ true → (derivationsIn l ≤ mostDerivations) × (substitutesIn l ≤ mostSubstitutes)
+  unfolding castWords countWords
+  cast-counts e = let h = cast-every e in (leb-true _ _ (h .0), leb-true _ _ (h .1 .0))
+
+  pub plain-length : eqb (w 0) castForm ≡ false → length l ≡ rowsEnd l
+  unfolding formSize
+  plain-length e = rw e at (sized .by-form)
+
   pub length-few : length l ≤ mostTableWords
-  length-few = omega (arith, sized, counts-ok)
+  length-few = sized .few
 
   -- the same of what the code answers
   pub particle-met : (p : ℕ) → p < P → (r : code·particle.Particle) → rowIs r ≡ tableOf l .row p → RowOk T P p (rowIs r)

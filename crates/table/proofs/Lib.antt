@@ -2,8 +2,12 @@ mod Tests
 mod Choices
 mod Given
 mod OneRow
+mod CastRows
 mod Turns
+mod Once
 mod Order
+pub mod CastLaws
+pub mod Casts
 mod Decoded
 mod Example
 mod Faults

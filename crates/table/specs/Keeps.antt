@@ -2,6 +2,7 @@
 use Prim.Native.Nat.{ℕ, _+_, _≤_, _<_}
 use mathlib.Core.Path.{_≡_}
 use mathlib.Core.List.{List, [], _∷_}
+use lib.ListN.{length, getD}
 use Rattle.signed.specs.Words.{rank}
 use Rattle.numbers.specs.Simple.{ranged, enumeration}
 use Rattle.numbers.specs.Limit.{mostTypes, mostAttributes, mostParticles, mostChildren, mostValues, mostName, mostTimes, unbounded}
@@ -10,9 +11,10 @@ use Rattle.table.specs.Rows.Row.{element, sequence, choice, occurs}
 use Rattle.table.specs.Rows.Content.{empty, simple, particles}
 
 -- What a right row keeps to, in a table of T types and P particle rows.
-pub record ElementOk (T name type : ℕ) : Type 0 where
+pub record ElementOk (T P name type row : ℕ) : Type 0 where
   pub name-small : name ≤ mostName
   pub type-known : type < T
+  pub row-known : row < P
 
 -- consecutive rows over the parent's row p, so many at least
 pub record GroupOk (P p least start count : ℕ) : Type 0 where
@@ -30,7 +32,7 @@ pub record OccursOk (P p child least most : ℕ) : Type 0 where
   pub ordered : least ≤ most
 
 abbrev pub RowOk : (T P p : ℕ) → Row → Type 0
-RowOk T P p (element name type) = ElementOk T name type
+RowOk T P p (element name type row) = ElementOk T P name type row
 RowOk T P p (sequence start count) = GroupOk P p 1 start count
 RowOk T P p (choice start count) = GroupOk P p 2 start count
 RowOk T P p (occurs child least most) = OccursOk P p child least most
@@ -63,3 +65,8 @@ pub record CountsOk (T A P : ℕ) : Type 0 where
   pub types-few : T ≤ mostTypes
   pub attributes-few : A ≤ mostAttributes
   pub particles-few : P ≤ mostParticles
+
+-- types to choose from: each is one of the table's, and there are few of them
+pub record TypesOk (T most : ℕ) (types : List ℕ) : Type 0 where
+  pub known : (k : ℕ) → k < length types → getD types k 0 < T
+  pub few : length types ≤ most

@@ -7,3 +7,4 @@ pub mod Faults
 pub mod Keeps
 pub mod Held
 pub mod Runs
+pub mod Stamps

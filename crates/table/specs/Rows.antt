@@ -5,10 +5,11 @@ use mathlib.Core.Bool.{Bool}
 use lib.Dec.{eqb}
 use Rattle.numbers.specs.Content.{ofContent}
 use Rattle.numbers.specs.Particle.{ofParticle}
-use Rattle.table.specs.Words.{typeAt, attributeAt, particleAt, wordAt, typesIn, attributesIn}
+use Rattle.table.specs.Words.{typeAt, attributeAt, particleAt, derivedAt, substituteAt, typePairAt, rowPairAt, wordAt, typesIn, attributesIn, rowsEnd, derivationsIn, substitutesIn}
 
+-- an element row also says its own number, by which its substitutes are found
 pub data Row : Type 0 where
-  element : (name type : ℕ) → Row
+  element : (name type row : ℕ) → Row
   sequence : (first count : ℕ) → Row
   choice : (first count : ℕ) → Row
   occurs : (child least most : ℕ) → Row
@@ -32,13 +33,17 @@ pub record Table : Type 0 where
   pub attributes : ℕ → List Attribute
   pub content : ℕ → Content
   pub row : ℕ → Row
+  -- the types of an element row's substitutes, and a type's derived types, in code order; how many derived entries there are in all
+  pub substitutes : ℕ → List ℕ
+  pub derived : ℕ → List ℕ
+  pub derivations : ℕ
 
 unfoldable pub contentFrom : (content a b c : ℕ) → Content
 contentFrom content a b c = ofContent record { empty = empty; simple = simple a b c; particles = particles a } content
 
-unfoldable pub rowFrom : (kind x y z : ℕ) → Row
-rowFrom kind x y z =
-    ofParticle record { element = element x y; sequence = sequence x y; choice = choice x y; occurs = occurs x y z } kind
+unfoldable pub rowFrom : (p kind x y z : ℕ) → Row
+rowFrom p kind x y z =
+    ofParticle record { element = element x y p; sequence = sequence x y; choice = choice x y; occurs = occurs x y z } kind
 
 module _ (l : List ℕ) where
   abbrev w : ℕ → ℕ
@@ -49,7 +54,7 @@ module _ (l : List ℕ) where
 
   -- the particle row p behind so many type and attribute rows
   unfoldable pub rowAt : (T A p : ℕ) → Row
-  rowAt T A p = let i = particleAt T A p in rowFrom (w i) (w (i + 1)) (w (i + 2)) (w (i + 3))
+  rowAt T A p = let i = particleAt T A p in rowFrom p (w i) (w (i + 1)) (w (i + 2)) (w (i + 3))
 
   unfoldable pub rowOf : (p : ℕ) → Row
   rowOf p = rowAt (typesIn l) (attributesIn l) p
@@ -79,8 +84,23 @@ module _ (l : List ℕ) where
   unfoldable pub attributesOf : (t : ℕ) → List Attribute
   attributesOf t = attributesFrom (countOf t) (firstOf t)
 
+  -- the types of n substitutes from i on, and those of a row; n derived entries from i on, and those of a type
+  unfoldable pub substitutesFrom : (n i : ℕ) → List ℕ
+  substitutesFrom zero i = []
+  substitutesFrom (suc n) i = w (substituteAt (rowsEnd l) (derivationsIn l) i + 1) ∷ substitutesFrom n (i + 1)
+
+  unfoldable pub substitutesOf : (p : ℕ) → List ℕ
+  substitutesOf p = let j = rowPairAt (rowsEnd l) (derivationsIn l) (substitutesIn l) (typesIn l) p in substitutesFrom (w (j + 1)) (w j)
+
+  unfoldable pub derivedFrom : (n i : ℕ) → List ℕ
+  derivedFrom zero i = []
+  derivedFrom (suc n) i = w (derivedAt (rowsEnd l) i) ∷ derivedFrom n (i + 1)
+
+  unfoldable pub derivedOf : (t : ℕ) → List ℕ
+  derivedOf t = let j = typePairAt (rowsEnd l) (derivationsIn l) (substitutesIn l) t in derivedFrom (w (j + 1)) (w j)
+
   unfoldable pub tableOf : Table
-  tableOf = record { types = typesIn l; attributes = λ t. attributesOf t; content = λ t. contentOf t; row = λ p. rowOf p }
+  tableOf = record { types = typesIn l; attributes = λ t. attributesOf t; content = λ t. contentOf t; row = λ p. rowOf p; substitutes = λ p. substitutesOf p; derived = λ t. derivedOf t; derivations = derivationsIn l }
 
   unfoldable pub heldOf : (t : ℕ) → Bool
   heldOf t = eqb (w (typeAt t)) 1

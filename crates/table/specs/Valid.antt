@@ -1,27 +1,29 @@
 -- What is right of each word of a table, given the words before it: a list of tests, one for each word in order. Then the verdict.
-use Prim.Native.Nat.{ℕ, zero, suc, _+_}
+use Prim.Native.Nat.{ℕ, zero, suc, _+_, _≤_}
 use mathlib.Core.Path.{_≡_}
 use mathlib.Core.List.{List, [], _∷_, _++_}
-use mathlib.Core.Bool.{Bool, true, false, cond, _&&_, _||_}
+use mathlib.Core.Bool.{Bool, true, false, cond, not, _&&_, _||_}
 use lib.Dec.{ltb, leb, eqb}
 use lib.ListN.{length, getD}
 use Rattle.numbers.specs.Content.{simple, particles, ofContent}
 use Rattle.numbers.specs.Particle.{ofParticleOr}
 use Rattle.numbers.specs.Simple.{ranged, enumeration, float}
-use Rattle.numbers.specs.Limit.{mostTypes, mostAttributes, mostParticles, mostChildren, mostValues, mostName, mostTimes, unbounded}
+use Rattle.numbers.specs.Limit.{mostTypes, mostAttributes, mostParticles, mostChildren, mostValues, mostName, mostTimes, unbounded, mostDerivations, mostSubstitutes, mostTableWords}
+use Rattle.numbers.specs.Particle as particle
 use Rattle.signed.specs.Words.{rank}
-use Rattle.table.specs.Words.{typeAt, attributeAt, particleAt, sizeOf, wordAt, typesIn, attributesIn, particlesIn}
+use Rattle.table.specs.Words.{plainForm, castForm, typeAt, attributeAt, particleAt, sizeOf, derivedAt, substituteAt, typePairAt, rowPairAt, castSizeOf, wordAt, typesIn, attributesIn, particlesIn}
 use Rattle.table.specs.First.{Verdict, first, judge, _then_}
 
 abbrev pub within : (least most x : ℕ) → Bool
 within least most x = leb least x && leb x most
 
--- The header words, each where it is given: 1; T types, one at least; A attribute rows; P particle rows.
+-- The header words, each where it is given: the form; T types, one at least; A attribute rows; P particle rows.
 unfoldable pub given : (l : List ℕ) (i least most : ℕ) → Bool
 given l i least most = cond (ltb i (length l)) (within least most (wordAt l i)) true
 
 unfoldable pub headerWords : List ℕ → List Bool
-headerWords l = given l 0 1 1 ∷ given l 1 1 mostTypes ∷ given l 2 0 mostAttributes ∷ given l 3 0 mostParticles ∷ []
+headerWords l =
+    given l 0 plainForm castForm ∷ given l 1 1 mostTypes ∷ given l 2 0 mostAttributes ∷ given l 3 0 mostParticles ∷ []
 
 -- A type row: held, content, first attribute row, attribute count (a pair is blamed on its later word); then a, b and c by content.
 unfoldable pub frontWords : (A held content start count : ℕ) → List Bool
@@ -87,6 +89,39 @@ particleWords T P p kind x y z =
     }
     kind
 
+-- Form 2. D derived entries and S substitutes; a derived entry is a type, a substitute a name and a type.
+unfoldable pub countWords : (D S : ℕ) → List Bool
+countWords D S = leb D mostDerivations ∷ leb S mostSubstitutes ∷ []
+
+unfoldable pub derivedWords : (T type : ℕ) → List Bool
+derivedWords T type = ltb type T ∷ []
+
+unfoldable pub substituteWords : (T name type : ℕ) → List Bool
+substituteWords T name type = leb name mostName ∷ ltb type T ∷ []
+
+-- no number stands twice in a list
+unfoldable pub among : ℕ → List ℕ → Bool
+among x [] = false
+among x (y ∷ l) = eqb x y || among x l
+
+unfoldable pub once : List ℕ → Bool
+once [] = true
+once (x ∷ l) = not (among x l) && once l
+
+-- n words from the place i on
+unfoldable pub wordsFrom : (w : ℕ → ℕ) (i n : ℕ) → List ℕ
+wordsFrom w i zero = []
+wordsFrom w i (suc n) = w i ∷ wordsFrom w (i + 1) n
+
+-- of a type: first derived entry and how many; each once, and never the type itself
+unfoldable pub typePair : (D t start count : ℕ) → List ℕ → List Bool
+typePair D t start count entries = leb start D ∷ (leb (start + count) D && once (t ∷ entries)) ∷ []
+
+-- of a particle row: first substitute and how many; none but of an element
+unfoldable pub rowPair : (S kind start count : ℕ) → List Bool
+rowPair S kind start count =
+    cond (eqb kind particle.element) (leb start S ∷ leb (start + count) S ∷ []) (eqb start 0 ∷ eqb count 0 ∷ [])
+
 -- the tests of n rows, from row i on
 unfoldable pub rows : (f : ℕ → List Bool) (i n : ℕ) → List Bool
 rows f i zero = []
@@ -111,6 +146,34 @@ module _ (w : ℕ → ℕ) where
   unfoldable pub rowWords : (T A P : ℕ) → List Bool
   rowWords T A P = rows (typeRow A P) 0 T ++ (rows (attributeRow T) 0 A ++ rows (particleRow T A P) 0 P)
 
+  -- form 2's rows behind the place B, where the others end
+  unfoldable pub derivedRow : (T B i : ℕ) → List Bool
+  derivedRow T B i = derivedWords T (w (derivedAt B i))
+
+  unfoldable pub substituteRow : (T B D i : ℕ) → List Bool
+  substituteRow T B D i = let j = substituteAt B D i in substituteWords T (w j) (w (j + 1))
+
+  unfoldable pub typePairRow : (B D S t : ℕ) → List Bool
+  typePairRow B D S t =
+      let j = typePairAt B D S t in
+      typePair D t (w j) (w (j + 1)) (wordsFrom w (derivedAt B (w j)) (w (j + 1)))
+
+  unfoldable pub rowPairRow : (T A B D S p : ℕ) → List Bool
+  rowPairRow T A B D S p = let j = rowPairAt B D S T p in rowPair S (w (particleAt T A p)) (w j) (w (j + 1))
+
+  unfoldable pub castWords : (T A P B D S : ℕ) → List Bool
+  castWords T A P B D S =
+      countWords D S
+      ++ (rows (derivedRow T B) 0 D
+      ++ (rows (substituteRow T B D) 0 S ++ (rows (typePairRow B D S) 0 T ++ rows (rowPairRow T A B D S) 0 P)))
+
+  -- form 1 has none of them
+  unfoldable pub formWords : (T A P : ℕ) → List Bool
+  formWords T A P = let B = sizeOf T A P in cond (eqb (w 0) castForm) (castWords T A P B (w B) (w (B + 1))) []
+
+  unfoldable pub formSize : (T A P : ℕ) → ℕ
+  formSize T A P = let B = sizeOf T A P in cond (eqb (w 0) castForm) (castSizeOf B (w B) (w (B + 1)) T P) B
+
 -- the verdict on one row of a table's words, and on all rows of a kind; places are the words' own
 module _ (l : List ℕ) where
   abbrev pub typeVerdict : (A P t : ℕ) → Verdict
@@ -131,18 +194,40 @@ module _ (l : List ℕ) where
   abbrev pub particlesVerdict : (T A P : ℕ) → Verdict
   particlesVerdict T A P = first (particleAt T A 0) (rows (particleRow (wordAt l) T A P) 0 P)
 
+  abbrev pub derivedVerdict : (T B D : ℕ) → Verdict
+  derivedVerdict T B D = first (derivedAt B 0) (rows (derivedRow (wordAt l) T B) 0 D)
+
+  abbrev pub substitutesVerdict : (T B D S : ℕ) → Verdict
+  substitutesVerdict T B D S = first (substituteAt B D 0) (rows (substituteRow (wordAt l) T B D) 0 S)
+
+  abbrev pub typePairsVerdict : (B D S T : ℕ) → Verdict
+  typePairsVerdict B D S T = first (typePairAt B D S 0) (rows (typePairRow (wordAt l) B D S) 0 T)
+
+  abbrev pub rowPairsVerdict : (T A B D S P : ℕ) → Verdict
+  rowPairsVerdict T A B D S P = first (rowPairAt B D S T 0) (rows (rowPairRow (wordAt l) T A B D S) 0 P)
+
+-- the length that the form gives, and no more than the largest table has
+unfoldable pub lengthRight : (l : List ℕ) (T A P : ℕ) → Bool
+lengthRight l T A P = eqb (length l) (formSize (wordAt l) T A P) && leb (length l) mostTableWords
+
 -- The header words that are given, then the length, of which a wrong one is named at the number of words given, then every other word.
 unfoldable pub verdictFrom : (l : List ℕ) (T A P : ℕ) → Verdict
 verdictFrom l T A P =
-    first 0 (headerWords l) then judge (length l) (eqb (length l) (sizeOf T A P)) then first 4 (rowWords (wordAt l) T A P)
+    first 0 (headerWords l) then judge (length l) (lengthRight l T A P)
+    then first 4 (rowWords (wordAt l) T A P ++ formWords (wordAt l) T A P)
 
 unfoldable pub verdict : List ℕ → Verdict
 verdict l = verdictFrom l (typesIn l) (attributesIn l) (particlesIn l)
 
 -- the length is right
-abbrev pub Sized : List ℕ → Type 0
-Sized l = length l ≡ sizeOf (typesIn l) (attributesIn l) (particlesIn l)
+pub record Sized (l : List ℕ) : Type 0 where
+  pub by-form : length l ≡ formSize (wordAt l) (typesIn l) (attributesIn l) (particlesIn l)
+  pub few : length l ≤ mostTableWords
 
 -- word i is right, given the words before it
 unfoldable pub rightAt : List ℕ → ℕ → Bool
-rightAt l i = getD (headerWords l ++ rowWords (wordAt l) (typesIn l) (attributesIn l) (particlesIn l)) i true
+rightAt l i =
+    let T = typesIn l in
+    let A = attributesIn l in
+    let P = particlesIn l in
+    getD (headerWords l ++ (rowWords (wordAt l) T A P ++ formWords (wordAt l) T A P)) i true

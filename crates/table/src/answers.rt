@@ -28,9 +28,16 @@ pub struct Attribute {
     pub c: u32,
 }
 
-// A particle row: name and type; first child and number of children; child, least and most.
+// Types that stand in a table's words: the place of the first, whether each is the second word of a pair, and how many there are.
+pub struct TypeList {
+    pub first: usize,
+    pub paired: bool,
+    pub count: u32,
+}
+
+// A particle row: name, type and the row's own number; first child and number of children; child, least and most.
 pub enum Particle {
-    Element(u32, u32),
+    Element(u32, u32, u32),
     Sequence(u32, u32),
     Choice(u32, u32),
     Occurs(u32, u32, u32),

@@ -6,12 +6,19 @@ ghost use Rattle.table.specs.First.{first, judge};
 ghost use Rattle.table.specs.Valid.{given, headerWords};
 ghost use Rattle.table.specs.Views.{verdictIs};
 
-// The places of the numbers of types, of attribute rows and of particle rows; the first word is 1.
+// The places of the form and of the numbers of types, of attribute rows and of particle rows.
+pub const FORM: usize = 0;
+
 pub const TYPES: usize = 1;
 
 pub const ATTRIBUTES: usize = 2;
 
 pub const PARTICLES: usize = 3;
+
+// The forms: rows alone, or derived types and substitutes behind them.
+const PLAIN_FORM: u32 = 1;
+
+pub const CAST_FORM: u32 = 2;
 
 // Word i, where it is given, is least to most.
 fn within(table: &[u32], i: usize, least: u32, most: u32) -> Verdict
@@ -30,13 +37,13 @@ fn within(table: &[u32], i: usize, least: u32, most: u32) -> Verdict
     Verdict::Right
 }
 
-// 1, then the numbers of types, of attribute rows and of particle rows.
+// The form, then the numbers of types, of attribute rows and of particle rows.
 pub fn given(table: &[u32]) -> Verdict
     ensures { λ r. ⌜ verdictIs r ≡ first 0 (headerWords (now (table .entry))) ⌝ }
 {
-    let one = within(table, 0, 1, 1);
-    let Verdict::Right = one else {
-        return one;
+    let form = within(table, FORM, PLAIN_FORM, CAST_FORM);
+    let Verdict::Right = form else {
+        return form;
     };
     let types = within(table, TYPES, 1, limit::MOST_TYPES);
     let Verdict::Right = types else {

@@ -3,16 +3,19 @@ use crate::answers::Attribute;
 use crate::answers::Content;
 use crate::answers::Particle;
 use crate::answers::Span;
+use crate::answers::TypeList;
 use crate::header;
 use crate::places::attribute_at;
+use crate::places::casts_at;
 use crate::places::particle_at;
 use crate::places::type_at;
 use numbers::content;
 use numbers::particle;
 ghost use mathlib.Core.Path.{_≡_};
+ghost use Prim.Native.Nat.{_<_};
 ghost use Rattle.table.specs.Rows.{tableOf, heldOf, attributeOf, rowAt};
-ghost use Rattle.table.specs.Views.{contentIs, rowIs, attributeIs, Spans};
-ghost use Rattle.table.specs.Words.{wordAt};
+ghost use Rattle.table.specs.Views.{contentIs, rowIs, attributeIs, Spans, Listed, listedAt};
+ghost use Rattle.table.specs.Words.{wordAt, rowsEnd, substitutesIn};
 
 // The word at a place.
 pub fn word(table: &[u32], i: usize) -> u32
@@ -94,7 +97,7 @@ fn row_at(table: &[u32], types: u32, attributes: u32, i: u32) -> Particle
     let x = word(table, base + 1);
     let y = word(table, base + 2);
     if kind == particle::ELEMENT {
-        return Particle::Element(x, y);
+        return Particle::Element(x, y, i);
     }
     if kind == particle::SEQUENCE {
         return Particle::Sequence(x, y);
@@ -113,4 +116,80 @@ pub fn particle(table: &[u32], i: u32) -> Particle
     let types = word(table, header::TYPES);
     let attributes = word(table, header::ATTRIBUTES);
     row_at(table, types, attributes, i)
+}
+
+// Where the rows end: there a table of form 2 goes on.
+fn rows_end(table: &[u32]) -> usize
+    ensures { λ r. ⌜ (r ≡ rowsEnd (now (table .entry))) × (r < 1099511627776) ⌝ }
+{
+    let types = word(table, header::TYPES);
+    let attributes = word(table, header::ATTRIBUTES);
+    let particles = word(table, header::PARTICLES);
+    particle_at(types, attributes, particles)
+}
+
+// How many derived entries there are in all: type codes are sent only where there are any.
+pub fn derivations(table: &[u32]) -> u32
+    ensures { λ r. ⌜ r ≡ tableOf (now (table .entry)) .derivations ⌝ }
+{
+    word(table, rows_end(table))
+}
+
+// How many substitutes there are in all.
+pub fn swaps(table: &[u32]) -> u32
+    ensures { λ r. ⌜ r ≡ substitutesIn (now (table .entry)) ⌝ }
+{
+    word(table, rows_end(table) + 1)
+}
+
+// The derived types of type t.
+pub fn derived(table: &[u32], t: u32) -> TypeList
+    ensures { λ r. ⌜
+        (Listed (now (table .entry)) (tableOf (now (table .entry)) .derived t) r) × (r .first < 4398046511104) ⌝ }
+{
+    let end = rows_end(table);
+    let entries = word(table, end);
+    let swaps = word(table, end + 1);
+    let pair = casts_at(end, entries, swaps, t);
+    let start = word(table, pair);
+    let count = word(table, pair + 1);
+    let first = end + 2 + (start as usize);
+    TypeList {
+        first,
+        paired: false,
+        count,
+    }
+}
+
+// The types of a row's substitutes.
+pub fn substitutes(table: &[u32], row: u32) -> TypeList
+    ensures { λ r. ⌜
+        (Listed (now (table .entry)) (tableOf (now (table .entry)) .substitutes row) r)
+        × (r .first < 4398046511104) ⌝ }
+{
+    let end = rows_end(table);
+    let types = word(table, header::TYPES);
+    let entries = word(table, end);
+    let swaps = word(table, end + 1);
+    let pair = casts_at(end, entries, swaps, types) + 2 * (row as usize);
+    let start = word(table, pair);
+    let count = word(table, pair + 1);
+    let first = end + 2 + (entries as usize) + 2 * (start as usize) + 1;
+    TypeList {
+        first,
+        paired: true,
+        count,
+    }
+}
+
+// One of a list, counted from 0.
+pub fn listed(table: &[u32], list: TypeList, k: u32) -> u32
+    requires { ⌜ list .first < 4398046511104 ⌝ }
+    ensures { λ r. ⌜ r ≡ wordAt (now (table .entry)) (listedAt list k) ⌝ }
+{
+    let j = k as usize;
+    if list.paired {
+        return word(table, list.first + 2 * j);
+    }
+    word(table, list.first + j)
 }

@@ -77,7 +77,7 @@ pub extern "C" fn probe_attribute(words: &[u32], i: u32, out: &mut [u32; 4]) -> 
 #[no_mangle]
 pub extern "C" fn probe_particle(words: &[u32], i: u32, out: &mut [u32; 4]) -> u32 {
     match table::rows::particle(words, i) {
-        Particle::Element(name, t) => accepted(name, t, 0, out),
+        Particle::Element(name, t, _) => accepted(name, t, 0, out),
         Particle::Sequence(first, n) => {
             accepted(first, n, 0, out);
             particle::SEQUENCE

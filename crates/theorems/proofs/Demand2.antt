@@ -5,7 +5,7 @@ use mathlib.Core.Path.{_≡_, refl, sym, ap, _∙_}
 use mathlib.Core.List.{List, [], map}
 use native.Mathlib.Omega.{arith}
 use lib.ListN.{length, length-map}
-use Rattle.table.specs.Rows.{heldOf}
+use Rattle.table.specs.Rows.{tableOf, heldOf}
 use Rattle.value.specs.Simple.{AllBytes}
 use Rattle.model.specs.Model.{Nodes, events, texts, treeSlots, treeBytes}
 use Rattle.model.specs.Items.{Mode}
@@ -17,6 +17,7 @@ use Rattle.model.proofs.Plain.{list-plain, plain-list}
 use Rattle.theorems.proofs.Lists.{lists-all, spells-all}
 use Rattle.theorems.proofs.WriteSound.{write-is}
 use Rattle.theorems.proofs.WriteComplete.{is-written}
+use Rattle.theorems.proofs.Neat.{right-neat}
 use Rattle.model.proofs.PackLaws.{pack-length}
 use Rattle.theorems.proofs.Payload.{payload-found, payload-reads, payload-sum, payload-bytes, packed-is}
 use Rattle.model.specs.Whole.{modeNumber, accepted, roomOf, reading, eventWords, made, writing}
@@ -29,10 +30,10 @@ module _ (l : List ℕ) (name type : ℕ) where
   pub valid-written : (mode : Mode) (L X : List ℕ) (room : ℕ) (h : Valid l name type mode L X) → bytesFor (h .bits) ≤ min room 8192
       → writing l name type (modeNumber mode) L X room ≡ made (payloadOf mode (h .bits)) (8 + length (h .bits))
   valid-written mode L X room h k =
-      writing-entered l name type (modeNumber mode) L X room mode (h .enters) (mode-asked mode) (h .shape)
-      ∙ written-then (heldOf l) (planOf l name type) mode (listOf L) X room _ _ (record {
+      writing-entered l name type (modeNumber mode) L X room mode (h .enters) (mode-asked (tableOf l .derivations) mode (h .casts)) (h .shape)
+      ∙ written-then (heldOf l) (planOf l name type (mode .casting)) mode (listOf L) X room _ _ (record {
         bits = h .bits;
-        writes = rw (h .list, h .text) (rw (lists-all (h .tree), spells-all (h .tree)) at (is-written mode (heldOf l) (h .is) (list-plain (h .tree) (h .no-blank)) [] []));
+        writes = rw (h .list, h .text) (rw (lists-all (h .tree), spells-all (h .tree)) at (is-written (mode .lengths) (heldOf l) (h .is) (right-neat (h .enters) (mode .casting)) (list-plain (h .tree) (h .no-blank)) [] []));
         bytes = refl;
         used = refl;
         fits = k;
@@ -47,8 +48,8 @@ module _ (l : List ℕ) (name type : ℕ) where
       let b : treeBytes (h .tree) ≡ length X = bytes-length (h .tree) ∙ sym (ap length (h .text)) in
       let c = h .shape .few in
       reading-entered l name type (payloadOf mode (h .bits)) words bytes (h .enters)
-      ∙ payload-reads (heldOf l) (planOf l name type) _ (roomOf words bytes) mode (h .tree) _
-      (packed-is (heldOf l) (planOf l name type) mode (h .bits) (h .tree) (roomOf words bytes) (h .is) k (omega arith) (omega arith))
+      ∙ payload-reads (heldOf l) (planOf l name type) (tableOf l .derivations) _ (roomOf words bytes) mode (h .tree) _
+      (packed-is (heldOf l) (planOf l name type) (tableOf l .derivations) mode (h .bits) (h .tree) (roomOf words bytes) (h .is) k (omega arith) (omega arith) (h .casts))
 
   -- only valid lists are written
   pub record Makes (n : ℕ) (L X : List ℕ) (room : ℕ) (s : List ℕ) (used : ℕ) : Type 0 where
@@ -63,14 +64,16 @@ module _ (l : List ℕ) (name type : ℕ) where
   written-valid n L X room s used e =
       let f = writing-found l name type n L X room s used e in
       let g = f .writes in
+      let known = asked-mode (tableOf l .derivations) n .says (f .way) (f .mode-is) in
       let short : length (g .bits) < 2 ^ 32 = omega (arith, g .fits) in
-      let w = write-is (f .way) (heldOf l) (planOf l name type) (listOf L) X .says (g .bits) [] [] (g .writes) short 8 in
+      let w = write-is (f .way .lengths) (heldOf l) (planOf l name type (f .way .casting)) (listOf L) X .says (g .bits) [] [] (g .writes) short 8 in
       record {
         mode = f .way;
-        mode-is = asked-mode n .says (f .way) (f .mode-is);
+        mode-is = known .is;
         valid = record {
           enters = f .enters;
           shape = f .shape;
+          casts = known .casts;
           tree = w .tree;
           bits = g .bits;
           is = w .is;
@@ -102,7 +105,7 @@ module _ (l : List ℕ) (name type : ℕ) where
       = λ words bytes a b.
       ap (λ (x : List ℕ). reading l name type x words bytes) (f .bytes) ∙ r words bytes a b ∙ ap (accepted (f .mode) (h .tree)) (sym (f .bits-used)) in
       let full = reading-found l name type s (length L) (length X) (f .mode) (h .tree) used (again (length L) (length X) (omega arith) (omega arith)) in
-      let sum = payload-sum (heldOf l) (planOf l name type) s (roomOf (length L) (length X)) (f .mode) (h .tree) used (payload-found (heldOf l) (planOf l name type) s (roomOf (length L) (length X)) (f .mode) (h .tree) used (full .reads)) in
+      let sum = payload-sum (heldOf l) (planOf l name type) (tableOf l .derivations) s (roomOf (length L) (length X)) (f .mode) (h .tree) used (payload-found (heldOf l) (planOf l name type) (tableOf l .derivations) s (roomOf (length L) (length X)) (f .mode) (h .tree) used (full .reads)) in
       record {
         mode = f .mode;
         mode-is = f .mode-is;
@@ -118,19 +121,19 @@ module _ (l : List ℕ) (name type : ℕ) where
       → writing l name type (modeNumber mode) (eventWords (events ns)) (texts ns) room ≡ made s used
   read-write s words bytes room mode ns used o e b k =
       let f = reading-found l name type s words bytes mode ns used e in
-      let i = payload-found (heldOf l) (planOf l name type) s (roomOf words bytes) mode ns used (f .reads) in
+      let i = payload-found (heldOf l) (planOf l name type) (tableOf l .derivations) s (roomOf words bytes) mode ns used (f .reads) in
       let w = i .found .bits in
-      let same = payload-bytes (heldOf l) (planOf l name type) s (roomOf words bytes) mode ns used o i in
+      let same = payload-bytes (heldOf l) (planOf l name type) (tableOf l .derivations) s (roomOf words bytes) mode ns used o i in
       let size : length s ≡ 1 + (length w + 7) / 8 = ap length same ∙ ap suc (pack-length w) ∙ omega arith in
       let n = words-length (events ns) in
       let z = slots-length ns in
       let r = i .found .slots in
       let few = i .mode-byte .few in
       let shape : Shaped (eventWords (events ns)) = record { whole = omega arith; few = omega arith } in
-      writing-entered l name type (modeNumber mode) (eventWords (events ns)) (texts ns) room mode (f .enters) (mode-asked mode) shape
-      ∙ written-then (heldOf l) (planOf l name type) mode (listOf (eventWords (events ns))) (texts ns) room s used (record {
+      writing-entered l name type (modeNumber mode) (eventWords (events ns)) (texts ns) room mode (f .enters) (mode-asked (tableOf l .derivations) mode (i .mode-byte .casts)) shape
+      ∙ written-then (heldOf l) (planOf l name type (mode .casting)) mode (listOf (eventWords (events ns))) (texts ns) room s used (record {
         bits = w;
-        writes = rw (list-back (events ns)) (rw (lists-all ns, spells-all ns) at (is-written mode (heldOf l) (i .found .is) (list-plain ns b) [] []));
+        writes = rw (list-back (events ns)) (rw (lists-all ns, spells-all ns) at (is-written (mode .lengths) (heldOf l) (i .found .is) (right-neat (f .enters) (mode .casting)) (list-plain ns b) [] []));
         bytes = same;
         used = omega (arith, i .found .stands .next);
         fits = omega arith;
@@ -140,5 +143,5 @@ module _ (l : List ℕ) (name type : ℕ) where
   pub sum-used : (s : List ℕ) (words bytes : ℕ) (mode : Mode) (ns : Nodes) (used : ℕ) → reading l name type s words bytes ≡ accepted mode ns used → 8 + total (events ns) ≡ used
   sum-used s words bytes mode ns used e =
       let f = reading-found l name type s words bytes mode ns used e in
-      let i = payload-found (heldOf l) (planOf l name type) s (roomOf words bytes) mode ns used (f .reads) in
-      omega (arith, payload-sum (heldOf l) (planOf l name type) s (roomOf words bytes) mode ns used i, bits-total ns)
+      let i = payload-found (heldOf l) (planOf l name type) (tableOf l .derivations) s (roomOf words bytes) mode ns used (f .reads) in
+      omega (arith, payload-sum (heldOf l) (planOf l name type) (tableOf l .derivations) s (roomOf words bytes) mode ns used i, bits-total ns)

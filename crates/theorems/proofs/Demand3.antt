@@ -14,7 +14,7 @@ use Rattle.wire.proofs.BitLaws.{bit-lt}
 use Rattle.table.specs.Words.{typeAt, wordAt}
 use Rattle.table.specs.Rows.{Table, tableOf, heldOf}
 use Rattle.table.proofs.Held.{table-same}
-use Rattle.model.specs.Model.{Mark, Nodes, Path, Plan, Answer, rooted}
+use Rattle.model.specs.Model.{Mark, Nodes, Path, Plan, Answer, tableIn, rooted}
 use Rattle.model.specs.Model.Answer.{given, refused}
 use Rattle.model.specs.Items.{Mode}
 use Rattle.model.specs.Read.{Room, read}
@@ -42,8 +42,11 @@ module _ (l l′ : List ℕ) (pair : Pair l l′) where
     abbrev room : Room
     room = roomOf words bytes
 
-    abbrev P : Plan
+    abbrev P : Bool → Plan
     P = planOf l name type
+
+    abbrev D : ℕ
+    D = tableOf l .derivations
 
     enters-first : Entered l′ name type → Entered l name type
     enters-first h = record {
@@ -59,8 +62,9 @@ module _ (l l′ : List ℕ) (pair : Pair l l′) where
       name-small = h .name-small;
     }
 
-    same-plan : planOf l′ name type ≡ P
-    same-plan = ap (λ (T : Table). rooted T name type) (sym (table-same l l′ (pair .alike)))
+    -- by either table the same is due, and the same modes are there
+    same-payload : payload (heldOf l′) (planOf l′ name type) (tableOf l′ .derivations) s room ≡ payload (heldOf l′) P D s room
+    same-payload = ap (λ (T : Table). payload (heldOf l′) (λ casting. rooted (tableIn casting T) name type) (T .derivations) s room) (sym (table-same l l′ (pair .alike)))
 
     said-reply : (pads : ℕ → Bool) (mode : Mode) (o : Option (Mark × Path)) (ns : Nodes) (q : ℕ) → pads q ≡ true → replied pads mode (said o ns q) ≡ saysLess mode o ns q
     unfolding replied padded said saysLess
@@ -73,12 +77,12 @@ module _ (l l′ : List ℕ) (pair : Pair l l′) where
     unfolding payload inMode rootIn
     second-accepts mode ns q e =
         let a = reading-found l′ name type s words bytes mode ns q e in
-        let e′ : payload (heldOf l′) P s room ≡ accepted mode ns q = ap (λ (Q : Plan). payload (heldOf l′) Q s room) (sym same-plan) ∙ a .reads in
-        let i = payload-found (heldOf l′) P s room mode ns q e′ in
+        let e′ : payload (heldOf l′) P D s room ≡ accepted mode ns q = sym same-payload ∙ a .reads in
+        let i = payload-found (heldOf l′) P D s room mode ns q e′ in
         let f = i .found in
-        let shown = is-shown (bitAt s) mode (heldOf l) (heldOf l′) holds-all (f .is) room [] (8 * length s) q (f .stands) (f .within) (f .slots) (f .bytes) ∙ walk-said (newOf l l′) [] ns q in
+        let shown = is-shown (bitAt s) (mode .lengths) (heldOf l) (heldOf l′) holds-all (f .is) room [] (8 * length s) q (f .stands) (f .within) (f .slots) (f .bytes) ∙ walk-said (newOf l l′) [] ns q in
         reading-entered l name type s words bytes (enters-first (a .enters))
-        ∙ rw (moded-then s mode (i .mode-byte), shown) (said-reply (padding s) mode (firstBare (outermost (newOf l l′) [] ns)) (replaced (newOf l l′) ns) q (padded-then s q (f .within) (i .pads)))
+        ∙ rw (moded-then D s mode (i .mode-byte), shown) (said-reply (padding s) mode (firstBare (outermost (newOf l l′) [] ns)) (replaced (newOf l l′) ns) q (padded-then s q (f .within) (i .pads)))
 
     -- (b) If only the first accepts: the second refuses while an element that the first shows as a Blank is still open, or for lack of output room
     pub only-first-accepts : (mode : Mode) (ns : Nodes) (q n p : ℕ) (ρ : Path) → reading l name type s words bytes ≡ accepted mode ns q → reading l′ name type s words bytes ≡ declined n p ρ
@@ -86,13 +90,13 @@ module _ (l l′ : List ℕ) (pair : Pair l l′) where
     unfolding payload inMode rootIn replied padded
     only-first-accepts mode ns q n p ρ e e′ =
         let a = reading-found l name type s words bytes mode ns q e in
-        let i = payload-found (heldOf l) P s room mode ns q (a .reads) in
+        let i = payload-found (heldOf l) P D s room mode ns q (a .reads) in
         let f = i .found in
-        let read-on : payload (heldOf l′) P s room ≡ declined n p ρ =
-        ap (λ (Q : Plan). payload (heldOf l′) Q s room) (sym same-plan) ∙ sym (reading-entered l′ name type s words bytes (enters-second (a .enters))) ∙ e′ in
-        go (read (bitAt s) mode (heldOf l′) P room [] (8 * length s) 8)
-        (is-followed (bitAt s) (bit-lt s) mode (heldOf l) (heldOf l′) holds-all (f .is) room [] (8 * length s) q (f .stands) (f .within))
-        (padded-then s q (f .within) (i .pads)) (rw (moded-then s mode (i .mode-byte)) at read-on)
+        let read-on : payload (heldOf l′) P D s room ≡ declined n p ρ =
+        sym same-payload ∙ sym (reading-entered l′ name type s words bytes (enters-second (a .enters))) ∙ e′ in
+        go (read (bitAt s) (mode .lengths) (heldOf l′) (P (mode .casting)) room [] (8 * length s) 8)
+        (is-followed (bitAt s) (bit-lt s) (mode .lengths) (heldOf l) (heldOf l′) holds-all (f .is) room [] (8 * length s) q (f .stands) (f .within))
+        (padded-then s q (f .within) (i .pads)) (rw (moded-then D s mode (i .mode-byte)) at read-on)
       where
         go : (o : Answer) → Follows (newOf l l′) [] ns q o → padding s q ≡ true → replied (padding s) mode o ≡ declined n p ρ → Excuse (newOf l l′) [] ns n p ρ
         go (given ms k) f h e = absurd (let y = rw (f, h) at e in let z : _≡_ {A = ℕ} 0 1 = cc in omega arith)

@@ -3,29 +3,31 @@
 use Prim.Native.Nat.{ℕ, zero, suc, _+_, _<_, _≤_}
 use mathlib.Core.Path.{_≡_, refl}
 use mathlib.Core.Bool.{Bool, true, false}
-use mathlib.Core.List.{List, [], _∷_, _++_, map, append-nil, map-append}
+use mathlib.Core.List.{List, [], _∷_, _++_, map, append-assoc, append-nil, map-append}
 use native.Mathlib.Omega.{arith}
+use lib.ListN.{length}
+use Rattle.numbers.specs.Kind as kinds
 use Rattle.table.specs.Rows.{Row, Attribute, Table}
 use Rattle.table.specs.Rows as rows
 use Rattle.value.specs.Simple.{Simple, simpleOf, SimpleIs}
 use Rattle.value.specs.Values.{InKind}
 use Rattle.value.proofs.ValueLaws.{kind-is, times-values}
-use Rattle.model.specs.Model.{end, eventOf, Plan, Nodes, events, texts, flagOf, value, maybe, attribute, contents, within, due, plan}
+use Rattle.model.specs.Model.{end, eventOf, Types, Plan, Nodes, events, texts, flagOf, value, maybe, attribute, contents, within, typesOf, due, plan}
 use Rattle.model.specs.Model as model
-use Rattle.model.specs.Model.Plan.{done}
+use Rattle.model.specs.Model.Plan.{done, element}
 use Rattle.model.specs.Model.Item.{valued, counted}
-use Rattle.model.specs.Items.{Mode, Form, present, simply, formOf, FormIs, is-present, is-simple, ItemIs, Length, coded, HeadIs, no-head, flag-off, flag-on, head-on}
-use Rattle.model.proofs.ItemLaws.{same-type}
+use Rattle.model.specs.Items.{Lengths, Form, present, simply, formOf, FormIs, is-present, is-simple, ItemIs, Length, coded, HeadIs, no-head, flag-off, flag-on, head-on}
 use Rattle.model.proofs.ItemOut.{form-plain, optional-value, picked-value}
-use Rattle.model.specs.Grammar.{Is, an-item, an-element, a-blank}
+use Rattle.model.specs.Grammar.{castIn, Is, an-item, an-element, a-blank}
 use Rattle.model.specs.Write.{Bare, bare}
 use Rattle.model.proofs.Trees.{events-then, texts-then}
 use Rattle.model.proofs.Join.{plan-join, attributes-join}
 use Rattle.theorems.proofs.Parts.{Split, is-split, done-none, no-deep}
-use Rattle.theorems.specs.Content.{word, Flag, Part, row, children, repeats, inside, attributes, content, Model}
+use Rattle.theorems.proofs.Choices.{codes-chosen, cast-listed, cast-texts}
+use Rattle.theorems.specs.Content.{word, Flag, castOf, Part, one, row, children, repeats, inside, attributes, content, Model}
 
 -- a head's flag is one of the mode's
-flag-is : {mode : Mode} {type t : ℕ} {h : Length} {s : List ℕ} → HeadIs mode type t h s → Flag mode (flagOf (coded h))
+flag-is : {mode : Lengths} {h : Length} {s : List ℕ} → HeadIs mode h s → Flag mode (flagOf (coded h))
 unfolding flagOf
 flag-is no-head = refl
 flag-is flag-off = omega arith
@@ -50,7 +52,7 @@ counted-within : (least most v : ℕ) (ts w : List ℕ) → ItemIs (counted leas
 unfolding formOf
 counted-within least most v ts w h = omega (arith, times-values _ _ v (form-plain h _ refl .0))
 
-module _ (mode : Mode) (held : ℕ → Bool) (T : Table) where
+module _ (mode : Lengths) (held : ℕ → Bool) (T : Table) where
   abbrev listed : Nodes → List Bare
   listed ns = map bare (events ns)
 
@@ -66,14 +68,14 @@ module _ (mode : Mode) (held : ℕ → Bool) (T : Table) where
     Rest = model.attributes l done
 
     present-model : (at : ℕ) (ns : Nodes) (w : List ℕ) → Is mode held (value (a .kind) (a .b) (a .c) Rest) at ns w
-        → Modelled d (attributes (a ∷ l)) (word 2 (a .name) 1 ∷ listed ns) (texts ns)
+        → Modelled d (attributes (a ∷ l)) (word kinds.attribute (a .name) 1 ∷ listed ns) (texts ns)
     unfolding value events texts eventOf
     present-model at ns w (an-item {v} {ts} {w = x} g j) =
         Model.present (value-of (a .kind) (a .b) (a .c) v ts x g) (ih _ _ _ j)
 
     optional-model : a .must ≡ false → (v at : ℕ) (ns : Nodes) (w : List ℕ) → v < 2
         → Is mode held (maybe v (value (a .kind) (a .b) (a .c) Rest) Rest) at ns w
-        → Modelled d (attributes (a ∷ l)) (word 2 (a .name) v ∷ listed ns) (texts ns)
+        → Modelled d (attributes (a ∷ l)) (word kinds.attribute (a .name) v ∷ listed ns) (texts ns)
     unfolding maybe
     optional-model e zero at ns w h i = Model.absent e (ih _ _ _ i)
     optional-model e (suc zero) at ns w h i = present-model at ns w i
@@ -116,6 +118,19 @@ module _ (mode : Mode) (held : ℕ → Bool) (T : Table) where
         let first = attributes-model d (T .attributes t) _ _ _ (s .first) in
         both-model s (Model.within first (content-model (T .content t) _ _ _ (s .second)))
 
+    pub one-model : (name : ℕ) (y : Types) → Gives (element name y (λ t. within T (plan T d) t) done) d (one name y)
+    unfolding events texts flagOf
+    one-model name y at ns w (an-element {t} {k} {h} {s} {c} {i} x e z g m j) =
+        let inner = castIn y (at + length s) t k (length c) i in
+        let listing = cast-listed y (at + length s) t k (length c) i in
+        let spelling = cast-texts y (at + length s) t k (length c) i in
+        let last = append-assoc (castOf y t k) (listed i) (bare end ∷ []) in
+        rw (done-none mode held j, map-append bare (events inner) (end ∷ []), append-nil (texts inner))
+        (rw (listing, spelling, last)
+        (Model.element (flag-is x) (codes-chosen e) z (inside-model t _ i _ g)))
+    one-model name y at ns w (a-blank v x e z u j) =
+        rw (done-none mode held j) (Model.blank (flag-is x) (codes-chosen e) z)
+
     abbrev others : ℕ → (ℕ → Row) → Plan
     others n g = model.rows (plan T d) n g done
 
@@ -145,13 +160,10 @@ module _ (mode : Mode) (held : ℕ → Bool) (T : Table) where
         both-model s (Model.repeat (ih (T .row c) _ _ _ (s .first)) (repeats-model n c _ _ _ (s .second)))
 
   pub row-model : (d : ℕ) (r : Row) → Gives (plan T d r done) d (row r)
-  unfolding plan due events texts eventOf formOf flagOf
+  unfolding plan due events texts eventOf formOf
   row-model zero r at ns w i = absurd (no-deep mode held i refl)
-  row-model (suc d) (Row.element name type) at ns w (an-element {t} {h} {i} y z g m j) =
-      rw (done-none mode held j, same-type y, map-append bare (events i) (end ∷ []), append-nil (texts i))
-      (Model.element (flag-is y) z (inside-model d (row-model d) t _ i _ g))
-  row-model (suc d) (Row.element name type) at ns w (a-blank {t} v y z u j) =
-      rw (done-none mode held j, same-type y) (Model.blank (flag-is y) z)
+  row-model (suc d) (Row.element name type r) at ns w i =
+      Model.declared (one-model d (row-model d) name (typesOf T type r) at ns w i)
   row-model (suc d) (Row.sequence first count) at ns w i =
       Model.sequence (children-model d (row-model d) count first at ns w i)
   row-model (suc d) (Row.choice first count) at ns w (an-item {v} {ts} {r} h j) =

@@ -1,3 +1,5 @@
+mod Bounded
+mod Choices
 mod Complete
 pub mod Demand2
 pub mod Demand3
@@ -8,6 +10,7 @@ mod Lists
 mod ModelIs
 pub mod NamedReading
 pub mod NamedWriting
+mod Neat
 mod One
 mod Own
 mod Parts

@@ -4,122 +4,54 @@
 use Prim.Native.Nat.{ℕ, zero, suc, _+_, _*_, _<_, _≤_, _^_}
 use mathlib.Core.Path.{_≡_, refl, sym, ap, ap₂, subst, _∙_}
 use mathlib.Core.Bool.{Bool, true, false, true≢false}
-use mathlib.Core.List.{List, [], _∷_, _++_, map, append-nil, map-append}
+use mathlib.Core.List.{List, [], _∷_, _++_, map, append-assoc, append-nil, map-append}
 use native.Mathlib.Omega.{arith}
-use lib.ListN.{length, length-append, List·getD-eq-default}
-use Rattle.signed.proofs.Laws.{ordered}
-use Rattle.table.specs.Rows.{Row, Attribute, Table, rowFrom, rowAt, rowOf, contentOf, attributeType, firstOf, attributesOf, tableOf}
-use Rattle.table.specs.Rows as rows
-use Rattle.table.specs.First.Verdict.{right}
-use Rattle.table.specs.Valid.{verdict}
-use Rattle.table.specs.Words.{typesIn, attributesIn, particlesIn}
-use Rattle.table.specs.Keeps.{Each, SimpleOk, AttributeOk, ContentOk, RowOk}
-use Rattle.table.proofs.Laws.{row-ok, content-ok, attributes-ok, sized, counts-ok}
+use lib.ListN.{length, length-append}
+use Rattle.numbers.specs.Kind as kinds
+use Rattle.numbers.specs.Limit.{mostEvents}
+use Rattle.table.specs.Rows.{Row, Attribute, Table}
 use Rattle.wire.proofs.Width.{width-under, width-pow}
 use Rattle.value.specs.Code.{HasCode, bitsOf}
 use Rattle.value.specs.Code as code
 use Rattle.value.specs.Simple.{a-code, timesCode}
 use Rattle.value.specs.Values.{InKind}
 use Rattle.value.proofs.ValueLaws.{mostBits, bits-most, kind-bits, values-times, times-short}
-use Rattle.model.specs.Model.{end, Item, eventOf, Plan, Nodes, _then_, events, texts, value, maybe, attribute, contents, within, due, plan}
+use Rattle.model.specs.Model.{end, Item, eventOf, Types, Plan, Nodes, _then_, events, texts, value, maybe, attribute, contents, within, due, plan}
 use Rattle.model.specs.Model as model
 use Rattle.model.specs.Model.Plan.{done, item, element}
 use Rattle.model.specs.Model.Item.{required, optional, valued, picked, counted}
 use Rattle.model.specs.Model.Nodes.{none, leaf, node}
-use Rattle.model.specs.Items.{Mode, flag, lengths, formOf, is-present, is-simple, ItemIs}
-use Rattle.model.specs.Grammar.{opens, Is, nothing, an-item, an-element, a-blank}
+use Rattle.model.specs.Items.{Lengths, flag, theLength, formOf, is-present, is-simple, ItemIs}
+use Rattle.model.specs.Grammar.{opens, castIn, Is, nothing, an-item, an-element, a-blank}
 use Rattle.model.specs.Write.{Bare, bare, flagIn, lengthOf, headOut}
 use Rattle.theorems.proofs.WriteSound.{head-written, flag-back, measures}
 use Rattle.model.proofs.ItemOut.{bare-event}
 use Rattle.model.proofs.Trees.{events-then, texts-then}
 use Rattle.model.proofs.Join.{join, plan-join, attributes-join}
 use Rattle.theorems.proofs.Parts.{is-join}
-use Rattle.theorems.specs.Content.{word, Flag, Part, row, children, repeats, inside, attributes, content, Model}
-
--- WHAT A RIGHT TABLE GIVES: rows and types whose codes take few bits
-abbrev pub KindFine : ℕ → ℕ → Type 0
-KindFine kind b = kind ≡ 4 → b ≤ 65536
-
-abbrev pub RowFine : ℕ → Row → Type 0
-RowFine types (Row.element name type) = type < types
-RowFine types (Row.sequence first count) = Unit {0}
-RowFine types (Row.choice first count) = count ≤ 64
-RowFine types (Row.occurs child least most) = most ≤ 65536
-
-abbrev pub ContentFine : rows.Content → Type 0
-ContentFine rows.Content.empty = Unit {0}
-ContentFine (rows.Content.simple kind b c) = KindFine kind b
-ContentFine (rows.Content.particles i) = Unit {0}
-
-abbrev pub AttributeFine : Attribute → Type 0
-AttributeFine a = KindFine (a .kind) (a .b)
-
-abbrev pub AllFine : List Attribute → Type 0
-AllFine [] = Unit {0}
-AllFine (a ∷ l) = AttributeFine a × AllFine l
-
-pub record Bounded (T : Table) : Type 0 where
-  pub rows : (p : ℕ) → RowFine (T .types) (T .row p)
-  pub contents : (t : ℕ) → t < T .types → ContentFine (T .content t)
-  pub attributes : (t : ℕ) → t < T .types → AllFine (T .attributes t)
-
-kind-fine : {kind b c : ℕ} → SimpleOk kind b c → KindFine kind b
-kind-fine h e = h .values e .1
-
-row-fine : (types P p : ℕ) (r : Row) → RowOk types P p r → RowFine types r
-row-fine types P p (Row.element name type) h = h .type-known
-row-fine types P p (Row.sequence first count) h = tt
-row-fine types P p (Row.choice first count) h = h .few
-row-fine types P p (Row.occurs child least most) h = h .most-small
-
-content-fine : (P : ℕ) (c : rows.Content) → ContentOk P c → ContentFine c
-content-fine P rows.Content.empty h = tt
-content-fine P (rows.Content.simple kind b c) h = kind-fine h
-content-fine P (rows.Content.particles i) h = tt
-
-all-fine : (T : Table) (types : ℕ → ℕ) (i : ℕ) (l : List Attribute) → Each (λ a. AttributeOk T (types a)) i l → AllFine l
-all-fine T types i [] h = tt
-all-fine T types i (a ∷ l) h = (kind-fine (h .0 .value), all-fine T types (i + 1) l (h .1))
-
--- past the last row there are zeros: an element of type 0
-row-past : (l : List ℕ) → verdict l ≡ right → (p : ℕ) → particlesIn l ≤ p → RowFine (typesIn l) (rowOf l p)
-unfolding rowOf rowAt rowFrom
-row-past l r p h =
-    let n = sized l r in
-    let i = 4 + 7 * typesIn l + 3 * attributesIn l + 4 * p in
-    rw (List·getD-eq-default l 0 {n = i} (omega arith), List·getD-eq-default l 0 {n = i + 2} (omega arith))
-    (counts-ok l r .types-some)
-
-pub right-bounded : (l : List ℕ) → verdict l ≡ right → Bounded (tableOf l)
-unfolding tableOf
-right-bounded l r = record {
-  rows = λ p.
-      ordered p (particlesIn l)
-      (λ h. row-fine (typesIn l) (particlesIn l) p (rowOf l p) (row-ok l r p h))
-      (λ h. row-past l r p h);
-  contents = λ t h. content-fine (particlesIn l) (contentOf l t) (content-ok l r t h);
-  attributes = λ t h. all-fine (tableOf l) (attributeType l) (firstOf l t) (attributesOf l t) (attributes-ok l r t h);
-}
+use Rattle.theorems.proofs.Choices.{Coded, chosen-coded, cast-listed, cast-texts}
+use Rattle.theorems.proofs.Bounded.{TypesFine, KindFine, RowFine, ContentFine, AttributeFine, AllFine, Bounded, default-known, effective-known}
+use Rattle.theorems.specs.Content.{word, Flag, Chosen, castOf, Part, one, row, children, repeats, inside, attributes, content, Model}
 
 -- a head has few bits
-head-few : (mode : Mode) (q n : ℕ) → n < 2 ^ 32 → length (headOut mode (lengthOf q n)) ≤ 41
+head-few : (mode : Lengths) (q n : ℕ) → n < 2 ^ 32 → length (headOut mode (lengthOf q n)) ≤ 41
 unfolding headOut mostBits HasCode
-head-few Mode.never q n h = omega arith
-head-few Mode.optional zero n h = omega (arith, bits-most flag 0 (omega arith), width-pow 1)
-head-few Mode.optional (suc k) n h =
+head-few Lengths.never q n h = omega arith
+head-few Lengths.optional zero n h = omega (arith, bits-most flag 0 (omega arith), width-pow 1)
+head-few Lengths.optional (suc k) n h =
     let f = bits-most flag 1 (omega arith) in
-    let m = bits-most lengths n (omega arith) in
-    omega (arith, length-append (bitsOf flag 1) (bitsOf lengths n), width-pow 1)
-head-few Mode.always zero n h = omega arith
-head-few Mode.always (suc k) n h = omega (arith, bits-most lengths n (omega arith))
+    let m = bits-most theLength n (omega arith) in
+    omega (arith, length-append (bitsOf flag 1) (bitsOf theLength n), width-pow 1)
+head-few Lengths.always zero n h = omega arith
+head-few Lengths.always (suc k) n h = omega (arith, bits-most theLength n (omega arith))
 
-flag-in : (mode : Mode) (q : ℕ) → Flag mode q → flagIn mode q ≡ q
+flag-in : (mode : Lengths) (q : ℕ) → Flag mode q → flagIn mode q ≡ q
 unfolding flagIn
-flag-in Mode.never q h = sym h
-flag-in Mode.optional q h = omega arith
-flag-in Mode.always q h = sym h
+flag-in Lengths.never q h = sym h
+flag-in Lengths.optional q h = omega arith
+flag-in Lengths.always q h = sym h
 
-module _ (mode : Mode) (held : ℕ → Bool) where
+module _ (mode : Lengths) (held : ℕ → Bool) where
   -- a tree of these events and texts, whose bits are w, from the place at
   pub record Placed (P : Plan) (L : List Bare) (X w : List ℕ) (at : ℕ) : Type 0 where
     pub tree : Nodes
@@ -175,56 +107,72 @@ module _ (mode : Mode) (held : ℕ → Bool) where
     few = omega (arith, length-append (s .bits) (r .bits), length-append K L, s .few, r .few);
   }
 
-  element-stands : (name type q : ℕ) (f : ℕ → Plan) {L : List Bare} {X : List ℕ}
-      → Flag mode q → held type ≡ true → Stands (f type) L X → length L ≤ 2048
-      → Stands (element name type f done) (word 1 name q ∷ (L ++ (word 6 0 0 ∷ []))) X
+  -- an element, whose codes are few bits too
+  element-stands : (name q : ℕ) (y : Types) (f : ℕ → Plan) {t k : ℕ} {L : List Bare} {X : List ℕ}
+      → Flag mode q → Coded y t k → held t ≡ true → Stands (f t) L X → length L ≤ mostEvents
+      → Stands (element name y f done) (word kinds.start name q ∷ (castOf y t k ++ (L ++ (word kinds.end 0 0 ∷ [])))) X
   unfolding events texts
-  element-stands name type q f {L} {X} g z s n =
+  element-stands name q y f {t} {k} {L} {X} g code z s n =
+      let c = code .bits in
       let w = s .bits in
-      let short : length w < 2 ^ 32 = omega (arith, s .few) in
-      let l = lengthOf q (length w) in
+      let m = length-append c w in
+      let short : length (c ++ w) < 2 ^ 32 = omega (arith, s .few, code .few) in
+      let l = lengthOf q (length (c ++ w)) in
       let o = headOut mode l in
       let e = flag-in mode q g in
-      let flags = sym e ∙ flag-back mode q (length w) e in
+      let flags = sym e ∙ flag-back mode q (length (c ++ w)) e in
       record {
-        bits = (o ++ w) ++ [];
+        bits = (o ++ (c ++ w)) ++ [];
         placed = λ at.
-            let p = s .placed (at + length o) in
+            let p = s .placed (at + length (o ++ c)) in
+            let inner = castIn y (at + length o) t k (length c) (p .tree) in
+            let listing = cast-listed y (at + length o) t k (length c) (p .tree) in
+            let spelling = cast-texts y (at + length o) t k (length c) (p .tree) in
             record {
-              tree = node (opens name type l at (length o)) (p .tree) none;
-              is = an-element (head-written mode type q (length w) e short) z (p .is) (measures q (length w)) nothing;
+              tree = node (opens name t l at (length o)) inner none;
+              is =
+                  an-element (head-written mode q (length (c ++ w)) e short) (code .are) z (p .is)
+                  (measures q (length (c ++ w))) nothing;
               list =
-                  ap₂ _∷_ (λ i. record { kind = 1; p = name; q = flags i })
-                  (ap (λ (K : List Bare). K ++ (word 6 0 0 ∷ [])) (p .list)
-                  ∙ sym (map-append bare (events (p .tree)) (end ∷ [])));
-              text = p .text ∙ sym (append-nil (texts (p .tree)));
+                  ap₂ _∷_ (λ i. record { kind = kinds.start; p = name; q = flags i })
+                  (ap (λ (K : List Bare). castOf y t k ++ (K ++ (word kinds.end 0 0 ∷ []))) (p .list)
+                  ∙ sym (append-assoc (castOf y t k) (map bare (events (p .tree))) (word kinds.end 0 0 ∷ []))
+                  ∙ ap (λ (K : List Bare). K ++ (word kinds.end 0 0 ∷ [])) (sym listing)
+                  ∙ sym (map-append bare (events inner) (end ∷ [])));
+              text = p .text ∙ sym spelling ∙ sym (append-nil (texts inner));
             };
         few =
-            let m = length-append L (word 6 0 0 ∷ []) in
-            let k = head-few mode q (length w) short in
-            omega (arith, length-append (o ++ w) [], length-append o w, s .few);
+            let j = length-append L (word kinds.end 0 0 ∷ []) in
+            let i = length-append (castOf y t k) (L ++ (word kinds.end 0 0 ∷ [])) in
+            let h = head-few mode q (length (c ++ w)) short in
+            omega (arith, length-append (o ++ (c ++ w)) [], length-append o (c ++ w), s .few, code .few);
       }
 
-  -- no bit of a Blank is looked at: none will do
-  blank-stands : (name type : ℕ) (f : ℕ → Plan)
-      → Flag mode 1 → held type ≡ false → Stands (element name type f done) (word 7 name type ∷ []) []
+  -- no bit of a Blank behind its codes is looked at: none will do
+  blank-stands : (name : ℕ) (y : Types) (f : ℕ → Plan) {t k : ℕ}
+      → Flag mode 1 → Coded y t k → held t ≡ false → Stands (element name y f done) (word kinds.blank name t ∷ []) []
   unfolding events texts
-  blank-stands name type f g z =
-      let o = headOut mode (lengthOf 1 0) in
+  blank-stands name y f {t} g code z =
+      let c = code .bits in
+      let m = length-append c [] in
+      let short : length (c ++ []) < 2 ^ 32 = omega (arith, code .few) in
+      let o = headOut mode (lengthOf 1 (length (c ++ []))) in
       record {
-        bits = (o ++ []) ++ [];
+        bits = (o ++ (c ++ [])) ++ [];
         placed = λ at. record {
-          tree = leaf at (model.event 7 name type (length (o ++ []))) [] none;
-          is = a-blank [] (head-written mode type 1 0 (flag-in mode 1 g) (omega arith)) z tt nothing;
+          tree = leaf at (model.event kinds.blank name t (length (o ++ (c ++ [])))) [] none;
+          is = a-blank [] (head-written mode 1 (length (c ++ [])) (flag-in mode 1 g) short) (code .are) z tt nothing;
           list = refl;
           text = refl;
         };
-        few = omega (arith, length-append (o ++ []) [], length-append o [], head-few mode 1 0 (omega arith));
+        few =
+            let h = head-few mode 1 (length (c ++ [])) short in
+            omega (arith, length-append (o ++ (c ++ [])) [], length-append o (c ++ []), code .few);
       }
 
   value-stands : (kind b c : ℕ) {v : ℕ} {X Y : List ℕ} {L : List Bare} {P : Plan}
       → KindFine kind b → InKind kind b c v X → Stands P L Y
-      → Stands (value kind b c P) (word 3 v 0 ∷ L) (X ++ Y)
+      → Stands (value kind b c P) (word kinds.value v 0 ∷ L) (X ++ Y)
   unfolding value eventOf formOf
   value-stands kind b c h i s =
       let k = kind-bits i in
@@ -232,7 +180,7 @@ module _ (mode : Mode) (held : ℕ → Bool) where
 
   -- an optional attribute's flag, one bit
   flag-stands : (name : ℕ) {k : ℕ → Plan} {v : ℕ} {X : List ℕ} {L : List Bare} → v < 2 → Stands (k v) L X
-      → Stands (item (optional name) k) (word 2 name v ∷ L) X
+      → Stands (item (optional name) k) (word kinds.attribute name v ∷ L) X
   unfolding eventOf formOf HasCode mostBits
   flag-stands name {v = v} h s =
       let m = bits-most flag v h in
@@ -241,21 +189,22 @@ module _ (mode : Mode) (held : ℕ → Bool) where
   -- attributes, those that must be there and the others
   present-stands : (t : Bool) (a : Attribute) {v : ℕ} {X Y : List ℕ} {L : List Bare} {P : Plan}
       → AttributeFine a → InKind (a .kind) (a .b) (a .c) v X → Stands P L Y
-      → Stands (attribute t a P) (word 2 (a .name) 1 ∷ word 3 v 0 ∷ L) (X ++ Y)
+      → Stands (attribute t a P) (word kinds.attribute (a .name) 1 ∷ word kinds.value v 0 ∷ L) (X ++ Y)
   unfolding attribute maybe eventOf formOf
   present-stands true a h i s =
       item-stands (required (a .name)) is-present (omega arith) (value-stands (a .kind) (a .b) (a .c) h i s)
   present-stands false a h i s = flag-stands (a .name) (omega arith) (value-stands (a .kind) (a .b) (a .c) h i s)
 
   absent-stands : (t : Bool) (a : Attribute) {X : List ℕ} {L : List Bare} {P : Plan}
-      → t ≡ false → Stands P L X → Stands (attribute t a P) (word 2 (a .name) 0 ∷ L) X
+      → t ≡ false → Stands P L X → Stands (attribute t a P) (word kinds.attribute (a .name) 0 ∷ L) X
   unfolding attribute maybe
   absent-stands true a e s = absurd (true≢false e)
   absent-stands false a e s = flag-stands (a .name) (omega arith) s
 
-  module _ (T : Table) (bounded : Bounded T) where
+  module _ (T : Table) (P : ℕ) (bounded : Bounded T P) where
     -- what is due for a part, and what must be known of it
     abbrev planFor : ℕ → Part → Plan
+    planFor d (one name y) = element name y (λ t. within T (plan T d) t) done
     planFor d (row r) = plan T d r done
     planFor d (children first n) = model.rows (plan T d) n (λ i. T .row (first + i)) done
     planFor d (repeats c n) = model.rows (plan T d) n (λ i. T .row c) done
@@ -264,12 +213,13 @@ module _ (mode : Mode) (held : ℕ → Bool) where
     planFor d (content c) = contents (plan T d) (T .row) c
 
     abbrev Fine : Part → Type 0
-    Fine (row r) = RowFine (T .types) r
-    Fine (children first n) = Unit {0}
-    Fine (repeats c n) = Unit {0}
+    Fine (one name y) = TypesFine (T .types) y
+    Fine (row r) = RowFine T P r
+    Fine (children first n) = first + n ≤ P
+    Fine (repeats c n) = c < P
     Fine (inside t) = t < T .types
     Fine (attributes l) = AllFine l
-    Fine (content c) = ContentFine c
+    Fine (content c) = ContentFine P c
 
     -- one row, then others
     abbrev others : ℕ → ℕ → (ℕ → Row) → Plan
@@ -281,24 +231,33 @@ module _ (mode : Mode) (held : ℕ → Bool) where
     unfolding model.rows
     rows-stand d n g K L X Y s r = rw (plan-join T d (g 0) (others d n (λ i. g (suc i)))) (both-stand s r)
 
+    -- what is chosen of fine types has codes
+    codes-stand : {y : Types} {t k : ℕ} → TypesFine (T .types) y → Chosen y t k → Coded y t k
+    codes-stand {y} {t} {k} h c =
+        let known = default-known h k (c .substitute) in
+        chosen-coded y t k (h .substitutes .few) (h .derived _ known .few) c
+
     pub model-is : {d : ℕ} {Q : Part} {L : List Bare} {X : List ℕ}
-        → Model T mode held d Q L X → Fine Q → length L ≤ 2048 → Stands (planFor d Q) L X
+        → Model T mode held d Q L X → Fine Q → length L ≤ mostEvents → Stands (planFor d Q) L X
     unfolding plan due contents within model.attributes model.rows eventOf formOf HasCode mostBits
-    model-is (Model.element {name} {type} {flag} {L} f z m) h n =
-        let k = length-append L (word 6 0 0 ∷ []) in
-        element-stands name type flag _ f z (model-is m h (omega arith)) (omega arith)
-    model-is (Model.blank {name} {type} f z) h n = blank-stands name type _ f z
-    model-is (Model.sequence m) h n = model-is m tt n
+    model-is (Model.element {name} {t} {k} {flag} {y} {L} f c z m) h n =
+        let i = length-append (castOf y t k) (L ++ (word kinds.end 0 0 ∷ [])) in
+        let j = length-append L (word kinds.end 0 0 ∷ []) in
+        let inner = model-is m (effective-known h c) (omega arith) in
+        element-stands name flag y _ f (codes-stand h c) z inner (omega arith)
+    model-is (Model.blank {name} {y} f c z) h n = blank-stands name y _ f (codes-stand h c) z
+    model-is (Model.declared m) h n = model-is m h n
+    model-is (Model.sequence m) h n = model-is m h n
     model-is (Model.choice {first} {count} {v} l m) h n =
         let b = bits-most (code.choice count) v l in
-        let w = width-under count 6 h in
+        let w = width-under count 6 (h .1) in
         item-stands (picked count) (is-simple (a-code {c = code.choice _} {v = v} (omega arith))) (omega arith)
-        (model-is m (bounded .rows (first + v)) (omega arith))
+        (model-is m (bounded .rows (first + v) (omega (arith, h .0))) (omega arith))
     model-is (Model.occurs {least} {most} {k} a b c m) h n =
-        let f = values-times least most h k a b c in
-        let s = times-short least most h k f in
+        let f = values-times least most (h .1) k a b c in
+        let s = times-short least most (h .1) k f in
         item-stands (counted least most) (is-simple (a-code {c = timesCode least most} {v = k} f)) (omega arith)
-        (model-is m tt (omega arith))
+        (model-is m (h .0) (omega arith))
     model-is Model.no-child h n = none-stands
     model-is {d} (Model.child {first} {n = j} {K} {L} {X} {Y} m o) h n =
         let k = length-append K L in
@@ -306,13 +265,14 @@ module _ (mode : Mode) (held : ℕ → Bool) where
         let one-on : (i : ℕ) → first + 1 + i ≡ first + suc i = λ i. omega arith in
         let shift : others d j (λ i. T .row (first + 1 + i)) ≡ others d j (λ i. T .row (first + suc i))
         = λ k. others d j (λ i. T .row (one-on i k)) in
-        rows-stand d j (λ i. T .row (first + i)) K L X Y (rw zero-on (model-is m (bounded .rows first) (omega arith)))
-        (rw shift at (model-is o tt (omega arith)))
+        let one = model-is m (bounded .rows first (omega arith)) (omega arith) in
+        rows-stand d j (λ i. T .row (first + i)) K L X Y (rw zero-on one)
+        (rw shift at (model-is o (omega arith) (omega arith)))
     model-is Model.no-repeat h n = none-stands
     model-is {d} (Model.repeat {c} {n = j} {K} {L} {X} {Y} m o) h n =
         let k = length-append K L in
-        let one = model-is m (bounded .rows c) (omega arith) in
-        rows-stand d j (λ i. T .row c) K L X Y one (model-is o tt (omega arith))
+        let first = model-is m (bounded .rows c h) (omega arith) in
+        rows-stand d j (λ i. T .row c) K L X Y first (model-is o h (omega arith))
     model-is {d} (Model.within {type} {K} {L} m o) h n =
         let k = length-append K L in
         rw (attributes-join (T .attributes type) (contents (plan T d) (T .row) (T .content type)))
@@ -323,5 +283,5 @@ module _ (mode : Mode) (held : ℕ → Bool) where
     model-is (Model.absent {a} e m) h n = absent-stands (a .must) a e (model-is m (h .1) (omega arith))
     model-is Model.empty h n = none-stands
     model-is (Model.simple {kind} {b} {c} {v} {X} i) h n =
-        subst (Stands (value kind b c done) (word 3 v 0 ∷ [])) (append-nil X) (value-stands kind b c h i none-stands)
-    model-is (Model.particles {i} m) h n = model-is m (bounded .rows i) n
+        subst (Stands (value kind b c done) (word kinds.value v 0 ∷ [])) (append-nil X) (value-stands kind b c h i none-stands)
+    model-is (Model.particles {i} m) h n = model-is m (bounded .rows i h) n

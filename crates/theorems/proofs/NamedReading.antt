@@ -2,57 +2,56 @@
 use Prim.Native.Nat.{ℕ, suc, _≤_}
 use mathlib.Core.Path.{_≡_, refl}
 use mathlib.Core.Bool.{Bool, true, false, cond}
-use mathlib.Core.List.{List}
+use mathlib.Core.List.{List, [], _∷_}
 use native.Mathlib.Omega.{arith}
 use lib.Dec.{leb, eqb}
 use lib.ListN.{length, getD}
+use Rattle.numbers.specs.Refusal as refusal
 use Rattle.wire.specs.Res.{got, fault, _>>_, guard, atMost}
 use Rattle.table.specs.Rows.{tableOf}
 use Rattle.model.specs.Model.{Plan, Path}
-use Rattle.model.specs.Items.{Mode}
+use Rattle.model.specs.Items.{Lengths, Mode}
+use Rattle.model.proofs.ItemLaws.{stopOf}
 use Rattle.model.specs.Read.{Room}
-use Rattle.model.proofs.Readings.{Stop, too-deep, no-item, no-bytes, no-slot, no-head, unheld, no-start, no-blank, Refuses, here, inside, unmet, no-end, later}
-use Rattle.model.specs.Whole.{modeAt, modeOf, Reply, accepted, declined, asked, reading, outcome}
+use Rattle.model.proofs.Readings.{Stop, too-deep, no-item, no-bytes, no-slot, no-head, unheld, no-start, no-blank, Refuses, here, no-codes, no-cast, inside, unmet, no-end, later}
+use Rattle.model.specs.Whole.{modeByte, modesFor, modeBy, modeOf, Reply, accepted, declined, asked, reading, outcome}
 use Rattle.model.proofs.Replies.{Replies, no-table, no-root, no-mode, stopped, unpadded, reading-replies}
-use Rattle.model.proofs.Named.{Named, named-most, item-named, head-named}
+use Rattle.model.proofs.Named.{Named, named-cond, named-most, item-named, head-named, codes-named}
 use Rattle.theorems.specs.NamedReading.{Accepts}
 
 -- the reading of a plan
-module _ (b : ℕ → ℕ) (mode : Mode) (held : ℕ → Bool) where
+module _ (b : ℕ → ℕ) (mode : Lengths) (held : ℕ → Bool) where
   stop-numbered : {P : Plan} {r : Room} {wall at n : ℕ} → Stop b mode held r wall at P n → 1 ≤ n
   stop-numbered too-deep = omega arith
   stop-numbered {wall} {at} (no-item {i} e) = rw e at (item-named b wall i at)
   stop-numbered (no-bytes e h) = omega arith
   stop-numbered (no-slot e h k) = omega arith
-  stop-numbered {wall} {at} (no-head {type} e) = rw e at (head-named b wall mode type at)
-  stop-numbered (unheld e z) = omega arith
-  stop-numbered (no-start x k) = omega arith
-  stop-numbered (no-blank n e z k) = omega arith
+  stop-numbered {wall} {at} (no-head e) = rw e at (head-named b wall mode at)
+  stop-numbered (unheld x h z) = omega arith
+  stop-numbered (no-start x z k) = omega arith
+  stop-numbered (no-blank n x h z k) = omega arith
 
   refuses-numbered : {P : Plan} {r : Room} {π ρ : Path} {wall at n p : ℕ} → Refuses b mode held P r π wall at n p ρ
       → 1 ≤ n
   refuses-numbered (here x) = stop-numbered x
-  refuses-numbered (inside x s d) = refuses-numbered d
-  refuses-numbered (unmet x s g e) = omega arith
-  refuses-numbered (no-end x s g e h) = omega arith
+  refuses-numbered (no-codes {body} {y} {wall} h e c) = rw c at (codes-named b (stopOf h body wall) y body)
+  refuses-numbered (no-cast x z c s) = omega arith
+  refuses-numbered (inside x z s d) = refuses-numbered d
+  refuses-numbered (unmet x z s g e) = omega arith
+  refuses-numbered (no-end x z s g e h) = omega arith
   refuses-numbered (later f d) = refuses-numbered d
 
 -- the entry
-byte-named : (x : ℕ) → Named (modeAt x)
-unfolding modeAt
-byte-named x = go (eqb x 0x0F) (eqb x 0x4F) (eqb x 0x8F)
-  where
-    go : (t u v : Bool)
-        → Named (cond t (got Mode.never) (cond u (got Mode.optional) (cond v (got Mode.always) (fault 4))))
-    go true u v = tt
-    go false true v = tt
-    go false false true = tt
-    go false false false = omega arith
+pub by-named : (f : Mode → ℕ) (l : List Mode) (x e : ℕ) → 1 ≤ e → Named (modeBy f l x e)
+unfolding modeBy
+by-named f [] x e h = h
+by-named f (m ∷ l) x e h = named-cond (eqb x (f m)) _ _ tt (by-named f l x e h)
 
-mode-named : (s : List ℕ) → Named (modeOf s)
+mode-named : (D : ℕ) (s : List ℕ) → Named (modeOf D s)
 unfolding modeOf
-mode-named s =
-    named-most 1 (length s) 3 _ (omega arith) (named-most (length s) 8192 3 _ (omega arith) (byte-named (getD s 0 0)))
+mode-named D s =
+    named-most 1 (length s) 3 _ (omega arith)
+    (named-most (length s) 8192 3 _ (omega arith) (by-named modeByte (modesFor D) (getD s 0 0) refusal.modeByte (omega arith)))
 
 pub asked-named : (types name type : ℕ) → Named (asked types name type)
 unfolding asked atMost guard _>>_
@@ -67,8 +66,8 @@ replies-numbered : {l : List ℕ} {name type : ℕ} {s : List ℕ} {words bytes 
     → Replies l name type s words bytes (declined n p π) → 1 ≤ n
 replies-numbered (no-table v) = omega arith
 replies-numbered {l} {name} {type} (no-root v a) = rw a at (asked-named (tableOf l .types) name type)
-replies-numbered {s} (no-mode v a m) = rw m at (mode-named s)
-replies-numbered (stopped {mode} i r) = refuses-numbered _ mode _ r
+replies-numbered {l} {s} (no-mode v a m) = rw m at (mode-named (tableOf l .derivations) s)
+replies-numbered (stopped {mode} i r) = refuses-numbered _ (mode .lengths) _ r
 replies-numbered (unpadded i r e) = omega arith
 
 -- 0 is an acceptance

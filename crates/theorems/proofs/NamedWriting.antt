@@ -6,19 +6,20 @@ use mathlib.Core.List.{List, [], _∷_}
 use native.Mathlib.Omega.{arith}
 use lib.Dec.{leb, eqb}
 use lib.ListN.{length}
+use Rattle.numbers.specs.Refusal.{writeMode}
 use Rattle.wire.specs.Res.{Res, got, fault}
 use Rattle.table.specs.First.{Verdict}
 use Rattle.table.specs.First.Verdict.{right, wrong}
 use Rattle.table.specs.Valid.{verdict}
 use Rattle.table.specs.Rows.{tableOf, heldOf}
-use Rattle.model.specs.Model.{rooted}
+use Rattle.model.specs.Entries.{planOf}
 use Rattle.model.specs.Items.{Mode}
 use Rattle.model.specs.Write as out
 use Rattle.model.specs.Pack.{pack}
-use Rattle.model.specs.Whole.{modeByte, payload, asked, Made, made, unmade, roomed, spent, modeAsked, shaped, eventsFrom, written, orUnmade, verdictMade, writing, outcomeMade}
+use Rattle.model.specs.Whole.{modeByte, modeNumber, modesFor, payload, asked, Made, made, unmade, roomed, spent, modeAsked, shaped, eventsFrom, written, orUnmade, verdictMade, writing, outcomeMade}
 use Rattle.model.proofs.Named.{Named}
 use Rattle.theorems.proofs.WriteSound.{write-is}
-use Rattle.theorems.proofs.NamedReading.{asked-named}
+use Rattle.theorems.proofs.NamedReading.{by-named, asked-named}
 use Rattle.theorems.specs.NamedWriting.{Makes}
 
 abbrev Spoken : Made → Type 0
@@ -64,20 +65,17 @@ shaped-spoken l m h =
     let bad = unmade 18 (length l / 4) in
     spoken-cond (eqb (length l % 4) 0) _ bad (spoken-cond (leb (length l / 4) 2048) m bad h (omega arith)) (omega arith)
 
-mode-asked-named : (n : ℕ) → Named (modeAsked n)
+mode-asked-named : (D n : ℕ) → Named (modeAsked D n)
 unfolding modeAsked
-mode-asked-named zero = tt
-mode-asked-named (suc zero) = tt
-mode-asked-named (suc (suc zero)) = tt
-mode-asked-named (suc (suc (suc k))) = omega arith
+mode-asked-named D n = by-named modeNumber (modesFor D) n writeMode (omega arith)
 
 pub writing-spoken : (l : List ℕ) (name type mode : ℕ) (L X : List ℕ) (room : ℕ) → Spoken (writing l name type mode L X room)
 unfolding writing written
 writing-spoken l name type mode L X room =
     verdict-spoken (verdict l) _
     (or-spoken (asked (tableOf l .types) name type) _ (asked-named (tableOf l .types) name type)
-    (λ u. or-spoken (modeAsked mode) _ (mode-asked-named mode)
-    (λ m. shaped-spoken L _ (spent-spoken _ _ _ (write-is m (heldOf l) (rooted (tableOf l) name type) (eventsFrom L 0 (length L / 4)) X .numbered) (roomed-spoken room m)))))
+    (λ u. or-spoken (modeAsked (tableOf l .derivations) mode) _ (mode-asked-named (tableOf l .derivations) mode)
+    (λ m. shaped-spoken L _ (spent-spoken _ _ _ (write-is (m .lengths) (heldOf l) (planOf l name type (m .casting)) (eventsFrom L 0 (length L / 4)) X .numbered) (roomed-spoken room m)))))
 
 -- 0 is a payload
 pub zero-makes : (l : List ℕ) (name type mode : ℕ) (L X : List ℕ) (room events octets : ℕ) → outcomeMade mode events octets (writing l name type mode L X room) .number ≡ 0 → Makes (writing l name type mode L X room)

@@ -15,7 +15,7 @@ use Rattle.table.specs.Rows.Content.{empty, simple, particles}
 use Rattle.model.specs.Model.{Plan, Nodes, Path, treeSlots, treeBytes, value, maybe, attribute, attributes, contents, rows, within, due, plan}
 use Rattle.model.specs.Model.Plan.{done, element}
 use Rattle.model.specs.Model.Answer.{given}
-use Rattle.model.specs.Items.{Mode}
+use Rattle.model.specs.Items.{Lengths}
 use Rattle.model.specs.Grammar.{Is, nothing, an-item, an-element, a-blank}
 use Rattle.model.specs.Read.{Room, read}
 use Rattle.theorems.proofs.Sound.{read-found}
@@ -29,7 +29,7 @@ has-one b at [] (y ∷ x) h k e = absurd (omega arith)
 has-one b at (z ∷ w) [] h k e = absurd (omega arith)
 has-one b at (z ∷ w) (y ∷ x) h k e = ap₂ _∷_ (sym (h .0) ∙ k .0) (has-one b (at + 1) w x (h .1) (k .1) (omega arith))
 
-module _ (mode : Mode) (held : ℕ → Bool) (P : Plan) where
+module _ (mode : Lengths) (held : ℕ → Bool) (P : Plan) where
   pub unambiguous : (b : ℕ → ℕ) {at p q : ℕ} {ns ms : Nodes} {w x : List ℕ} → Is mode held P at ns w → At b at w p → Is mode held P at ms x → At b at x q → Same ns ms p q w x
   unambiguous b {at} {p} {q} {ns} {ms} {w} {x} i f j g =
       let r : Room = record { slots = max (treeSlots ns) (treeSlots ms); bytes = max (treeBytes ns) (treeBytes ms) } in
@@ -46,11 +46,11 @@ module _ (mode : Mode) (held : ℕ → Bool) (P : Plan) where
       let f = read-found b mode held bit P r π wall at ns q a e in
       is-read c mode held (f .is) s ρ far q (at-same h (f .stands)) k l m
 
-pub is-under : {mode : Mode} {held : ℕ → Bool} {P Q : Plan} {at : ℕ} {ns : Nodes} {w : List ℕ} → Under P Q → Is mode held P at ns w → Is mode held Q at ns w
+pub is-under : {mode : Lengths} {held : ℕ → Bool} {P Q : Plan} {at : ℕ} {ns : Nodes} {w : List ℕ} → Under P Q → Is mode held P at ns w → Is mode held Q at ns w
 is-under at-done nothing = nothing
 is-under (at-item u) (an-item {v} h j) = an-item h (is-under (u v) j)
-is-under (at-element u s) (an-element {t} h z g m j) = an-element h z (is-under (u t) g) m (is-under s j)
-is-under (at-element u s) (a-blank w h z b j) = a-blank w h z b (is-under s j)
+is-under (at-element u s) (an-element {t} h d z g m j) = an-element h d z (is-under (u t) g) m (is-under s j)
+is-under (at-element u s) (a-blank w h d z b j) = a-blank w h d z b (is-under s j)
 
 abbrev Over : (Row → Plan → Plan) → (Row → Plan → Plan) → Type 0
 Over f g = (row : Row) (P Q : Plan) → Under P Q → Under (f row P) (g row Q)
@@ -82,7 +82,7 @@ contents-under o r (particles i) = o (r i) done done at-done
 
 due-under : (T : Table) {f g : Row → Plan → Plan} → Over f g → Over (due T f) (due T g)
 unfolding due within
-due-under T o (Row.element name type) P Q u = at-element (λ t. attributes-under (T .attributes t) _ _ (contents-under o (T .row) (T .content t))) u
+due-under T o (Row.element name type row) P Q u = at-element (λ t. attributes-under (T .attributes t) _ _ (contents-under o (T .row) (T .content t))) u
 due-under T o (Row.sequence first count) P Q u = rows-under o count _ P Q u
 due-under T o (Row.choice first count) P Q u = at-item λ v. o _ P Q u
 due-under T o (Row.occurs child least most) P Q u = at-item λ v. rows-under o v _ P Q u
@@ -94,6 +94,6 @@ plan-under T (suc d) zero h row P Q u = absurd (omega arith)
 plan-under T (suc d) (suc c) h row P Q u = due-under T (plan-under T d c (omega arith)) row P Q u
 
 -- so no bits have two readings, whatever number of rows each needs
-pub one-reading : {mode : Mode} {held : ℕ → Bool} {P Q R : Plan} → Under P R → Under Q R → (b : ℕ → ℕ) {at p q : ℕ} {ns ms : Nodes} {w x : List ℕ}
+pub one-reading : {mode : Lengths} {held : ℕ → Bool} {P Q R : Plan} → Under P R → Under Q R → (b : ℕ → ℕ) {at p q : ℕ} {ns ms : Nodes} {w x : List ℕ}
     → Is mode held P at ns w → At b at w p → Is mode held Q at ms x → At b at x q → Same ns ms p q w x
 one-reading {mode} {held} {R} u v b i f j g = unambiguous mode held R b (is-under u i) f (is-under v j) g

@@ -10,7 +10,7 @@ use Rattle.wire.specs.Bits.{source}
 use Rattle.wire.specs.At.{At}
 use Rattle.table.specs.Rows.{Attribute, Table}
 use Rattle.model.specs.Model.{Item, eventOf}
-use Rattle.model.specs.Items.{Mode, ItemIs}
+use Rattle.model.specs.Items.{Lengths, ItemIs}
 use Rattle.model.proofs.ItemLaws.{item-reads}
 use Rattle.model.proofs.PackLaws.{each-has}
 use Rattle.model.specs.Write.{Bare}
@@ -29,6 +29,6 @@ item-own i w {v} {v′} {ts} {ts′} h k =
     record { values = e; texts = ap (λ (r : ℕ × List ℕ × ℕ). r .1) z; events = ap (λ (x : ℕ). eventOf i x (length w)) e }
 
 -- an absent attribute has no Value: after its event come the events of the attributes after it, with all the texts
-pub absent-no-value : {T : Table} {mode : Mode} {held : ℕ → Bool} {d : ℕ} {a : Attribute} {l : List Attribute} {L : List Bare} {X : List ℕ}
+pub absent-no-value : {T : Table} {mode : Lengths} {held : ℕ → Bool} {d : ℕ} {a : Attribute} {l : List Attribute} {L : List Bare} {X : List ℕ}
     → Model T mode held d (attributes (a ∷ l)) (word kinds.attribute (a .name) 0 ∷ L) X → Model T mode held d (attributes l) L X
 absent-no-value (Model.absent e m) = m

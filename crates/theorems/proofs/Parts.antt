@@ -9,11 +9,11 @@ use Rattle.numbers.specs.Kind as kinds
 use Rattle.model.specs.Model.{event, eventOf, Plan, Nodes, _then_}
 use Rattle.model.specs.Model.Plan.{done, deep, item, element}
 use Rattle.model.specs.Model.Nodes.{none, leaf, node}
-use Rattle.model.specs.Items.{Mode}
-use Rattle.model.specs.Grammar.{opens, Is, nothing, an-item, an-element, a-blank}
+use Rattle.model.specs.Items.{Lengths}
+use Rattle.model.specs.Grammar.{opens, castIn, Is, nothing, an-item, an-element, a-blank}
 use Rattle.model.proofs.Join.{join}
 
-module _ (mode : Mode) (held : ℕ → Bool) where
+module _ (mode : Lengths) (held : ℕ → Bool) where
   moved : {P : Plan} {at to : ℕ} {ns : Nodes} {w : List ℕ} → at ≡ to → Is mode held P at ns w → Is mode held P to ns w
   moved e i = rw e at i
 
@@ -21,9 +21,10 @@ module _ (mode : Mode) (held : ℕ → Bool) where
   unfolding join _then_
   is-join nothing j = moved (omega arith) j
   is-join {x} (an-item {w} {x = y} h i) j = rw (append-assoc w y x) (an-item h (is-join i (moved (omega (arith, length-append w y)) j)))
-  is-join {x} (an-element {s} {w} {x = y} h z g m i) j =
-      rw (append-assoc (s ++ w) y x) (an-element h z g m (is-join i (moved (omega (arith, length-append (s ++ w) y)) j)))
-  is-join {x} (a-blank {s} {x = y} w h z u i) j = rw (append-assoc (s ++ w) y x) (a-blank w h z u (is-join i (moved (omega (arith, length-append (s ++ w) y)) j)))
+  is-join {x} (an-element {s} {c} {w} {x = y} h d z g m i) j =
+      rw (append-assoc (s ++ (c ++ w)) y x) (an-element h d z g m (is-join i (moved (omega (arith, length-append (s ++ (c ++ w)) y)) j)))
+  is-join {x} (a-blank {s} {c} {x = y} w h d z u i) j =
+      rw (append-assoc (s ++ (c ++ w)) y x) (a-blank w h d z u (is-join i (moved (omega (arith, length-append (s ++ (c ++ w)) y)) j)))
 
   pub record Split (P Q : Plan) (at : ℕ) (ks : Nodes) (z : List ℕ) : Type 0 where
     pub ns : Nodes
@@ -50,29 +51,32 @@ module _ (mode : Mode) (held : ℕ → Bool) where
         tree = ap (leaf at (eventOf i v (length w)) ts) (s .tree);
         bits = ap (λ (l : List ℕ). w ++ l) (s .bits) ∙ sym (append-assoc w (s .w) (s .x));
       }
-  is-split (element name type f P) {at} (an-element {t} {h = l} {s = o} {w} {i} {r} h z g m j) =
+  is-split (element name y f P) {at} (an-element {t} {k} {h = l} {s = o} {c} {w} {i} {r} h d z g m j) =
       let s = is-split P j in
+      let all = o ++ (c ++ w) in
+      let inner = castIn y (at + length o) t k (length c) i in
       record {
-        ns = node (opens name t l at (length o)) i (s .ns);
+        ns = node (opens name t l at (length o)) inner (s .ns);
         ms = s .ms;
-        w = (o ++ w) ++ s .w;
+        w = all ++ s .w;
         x = s .x;
-        first = an-element h z g m (s .first);
-        second = moved (omega (arith, length-append (o ++ w) (s .w))) (s .second);
-        tree = ap (node (opens name t l at (length o)) i) (s .tree);
-        bits = ap (λ (l : List ℕ). (o ++ w) ++ l) (s .bits) ∙ sym (append-assoc (o ++ w) (s .w) (s .x));
+        first = an-element h d z g m (s .first);
+        second = moved (omega (arith, length-append all (s .w))) (s .second);
+        tree = ap (node (opens name t l at (length o)) inner) (s .tree);
+        bits = ap (λ (l : List ℕ). all ++ l) (s .bits) ∙ sym (append-assoc all (s .w) (s .x));
       }
-  is-split (element name type f P) {at} (a-blank {t} {s = o} {r} w h z u j) =
+  is-split (element name y f P) {at} (a-blank {t} {s = o} {c} {r} w h d z u j) =
       let s = is-split P j in
+      let all = o ++ (c ++ w) in
       record {
-        ns = leaf at (event kinds.blank name t (length (o ++ w))) [] (s .ns);
+        ns = leaf at (event kinds.blank name t (length all)) [] (s .ns);
         ms = s .ms;
-        w = (o ++ w) ++ s .w;
+        w = all ++ s .w;
         x = s .x;
-        first = a-blank w h z u (s .first);
-        second = moved (omega (arith, length-append (o ++ w) (s .w))) (s .second);
-        tree = ap (leaf at (event kinds.blank name t (length (o ++ w))) []) (s .tree);
-        bits = ap (λ (l : List ℕ). (o ++ w) ++ l) (s .bits) ∙ sym (append-assoc (o ++ w) (s .w) (s .x));
+        first = a-blank w h d z u (s .first);
+        second = moved (omega (arith, length-append all (s .w))) (s .second);
+        tree = ap (leaf at (event kinds.blank name t (length all)) []) (s .tree);
+        bits = ap (λ (l : List ℕ). all ++ l) (s .bits) ∙ sym (append-assoc all (s .w) (s .x));
       }
 
   -- nothing stands where nothing more may come; and nothing is a row too many
@@ -82,5 +86,5 @@ module _ (mode : Mode) (held : ℕ → Bool) where
   pub no-deep : {P : Plan} {at : ℕ} {ns : Nodes} {w : List ℕ} → Is mode held P at ns w → P ≡ deep → ⊥
   no-deep nothing e = let z : _≡_ {A = ℕ} 0 1 = cc in omega arith
   no-deep (an-item h j) e = let z : _≡_ {A = ℕ} 0 1 = cc in omega arith
-  no-deep (an-element h z g m j) e = let y : _≡_ {A = ℕ} 0 1 = cc in omega arith
-  no-deep (a-blank w h z u j) e = let y : _≡_ {A = ℕ} 0 1 = cc in omega arith
+  no-deep (an-element h d z g m j) e = let y : _≡_ {A = ℕ} 0 1 = cc in omega arith
+  no-deep (a-blank w h d z u j) e = let y : _≡_ {A = ℕ} 0 1 = cc in omega arith

@@ -1,5 +1,5 @@
 -- Whole payloads: mode byte, root, padding. What is read of a payload is so, and what is so is read; the bytes of a payload are those of its bits.
-use Prim.Native.Nat.{ℕ, zero, suc, _+_, _-_, _*_, _/_, _≤_}
+use Prim.Native.Nat.{ℕ, zero, suc, _+_, _-_, _*_, _/_, _<_, _≤_}
 use mathlib.Core.Path.{_≡_, refl, sym, ap, ap₂, _∙_}
 use mathlib.Core.Bool.{Bool, true, false, cond}
 use mathlib.Core.List.{List, [], _∷_}
@@ -8,6 +8,7 @@ use native.Mathlib.Decide.{decLt, ℕ-discrete}
 use borrow.Author.Tests.{eq-eqb, ne-eqb, eqb-true, ltb-true, lt-ltb}
 use lib.Dec.{eqb, ltb}
 use lib.ListN.{length, getD}
+use Rattle.numbers.specs.Refusal as refusal
 use Rattle.numbers.specs.Refusal.{payloadSize}
 use Rattle.numbers.specs.Limit.{mostPayload}
 use Rattle.wire.specs.Res.{Res, got, fault, Ensures}
@@ -27,32 +28,20 @@ use Rattle.theorems.proofs.Complete.{is-read}
 use Rattle.model.proofs.Sums.{is-sum, is-bits}
 use Rattle.model.specs.Pack.{pack}
 use Rattle.model.proofs.PackLaws.{bit-next, bytes-moved, bytes-back, bytes-bit, source-bit, source-past, has-each, each-has}
-use Rattle.model.specs.Whole.{modeByte, modeAt, modeOf, zeros, padding, Reply, accepted, declined, padded, replied, rootIn, inMode, payload}
+use Rattle.model.proofs.Entries.{mode-known}
+use Rattle.model.proofs.EntryWays.{mode-is, mode-byte}
+use Rattle.model.specs.Whole.{modeByte, modeOf, zeros, padding, Reply, accepted, declined, padded, replied, rootIn, inMode, payload}
 use Rattle.theorems.specs.Payload.{Moded, Zeros, Padded, PayloadIs}
 
-mode-found : (x : ℕ) → Ensures (modeAt x) (λ m. x ≡ modeByte m)
-unfolding modeAt modeByte
-mode-found x = elim (ℕ-discrete x 0x0F) [
-  | yes h ↦ rw (eq-eqb x 0x0F h) (gives h)
-  | no h ↦ rw (ne-eqb x 0x0F h) (elim (ℕ-discrete x 0x4F) [
-    | yes k ↦ rw (eq-eqb x 0x4F k) (gives k)
-    | no k ↦ rw (ne-eqb x 0x4F k) (elim (ℕ-discrete x 0x8F) [ yes l ↦ rw (eq-eqb x 0x8F l) (gives l) | no l ↦ rw (ne-eqb x 0x8F l) stops ])
-  ])
-]
-
-mode-reads : (m : Mode) → modeAt (modeByte m) ≡ got m
-unfolding modeAt modeByte
-mode-reads Mode.never = refl
-mode-reads Mode.optional = refl
-mode-reads Mode.always = refl
-
-pub moded : (s : List ℕ) → Ensures (modeOf s) (Moded s)
+pub moded : (D : ℕ) (s : List ℕ) → Ensures (modeOf D s) (Moded D s)
 unfolding modeOf
-moded s = under payloadSize λ a. under payloadSize λ c. record { says = λ m e. record { filled = a; few = c; byte = mode-found (getD s 0 0) .says m e } }
+moded D s =
+    under payloadSize λ a. under payloadSize λ c. record {
+      says = λ m e. let k = mode-known modeByte D (getD s 0 0) refusal.modeByte .says m e in record { filled = a; few = c; byte = k .is; casts = k .casts };
+    }
 
-pub moded-then : (s : List ℕ) (mode : Mode) → Moded s mode → modeOf s ≡ got mode
-unfolding modeOf
-moded-then s mode h = under-then payloadSize (h .filled) (under-then payloadSize (h .few) (rw (h .byte) (mode-reads mode)))
+pub moded-then : (D : ℕ) (s : List ℕ) (mode : Mode) → Moded D s mode → modeOf D s ≡ got mode
+moded-then D s mode h = mode-byte D s (h .filled) (h .few) ∙ mode-is D mode (h .casts) (getD s 0 0) (h .byte)
 
 zeros-found : (b : ℕ → ℕ) (at n : ℕ) → zeros b at n ≡ true → Zeros b at (at + n)
 unfolding zeros
@@ -83,45 +72,45 @@ unfolding padding
 padded-then s q k h =
     rw (lt-ltb (8 * length s - q) 8 (omega arith)) (zeros-then (bitAt s) q (8 * length s - q) (λ i l m. h .zero i l (omega arith)))
 
-module _ (held : ℕ → Bool) (P : Plan) where
+module _ (held : ℕ → Bool) (P : Bool → Plan) (D : ℕ) where
   abbrev Replies : List ℕ → Room → Reply → Type 0
-  Replies s room (accepted mode ns q) = PayloadIs held P s room mode ns q
+  Replies s room (accepted mode ns q) = PayloadIs held P D s room mode ns q
   Replies s room (declined n p π) = Unit
 
-  payload-is : (s : List ℕ) (room : Room) → Replies s room (payload held P s room)
+  payload-is : (s : List ℕ) (room : Room) → Replies s room (payload held P D s room)
   unfolding payload inMode rootIn replied padded
-  payload-is s room = go (modeOf s) (moded s)
+  payload-is s room = go (modeOf D s) (moded D s)
     where
-      end : (mode : Mode) (t : Bool) (ns : Nodes) (q : ℕ) → padding s q ≡ t → Moded s mode → Found (bitAt s) (Is mode held P 8) room (8 * length s) 8 ns q
+      end : (mode : Mode) (t : Bool) (ns : Nodes) (q : ℕ) → padding s q ≡ t → Moded D s mode → Found (bitAt s) (Is (mode .lengths) held (P (mode .casting)) 8) room (8 * length s) 8 ns q
           → Replies s room (padded t mode ns q)
       end mode true ns q e h f = record { mode-byte = h; found = f; pads = padded-found s q e }
       end mode false ns q e h f = tt
 
-      rest : (mode : Mode) (o : Answer) → Moded s mode → Finds (bitAt s) (Is mode held P 8) room [] (8 * length s) 8 o → Replies s room (replied (padding s) mode o)
+      rest : (mode : Mode) (o : Answer) → Moded D s mode → Finds (bitAt s) (Is (mode .lengths) held (P (mode .casting)) 8) room [] (8 * length s) 8 o → Replies s room (replied (padding s) mode o)
       rest mode (given ns q) h f = end mode (padding s q) ns q refl h f
       rest mode (refused n p π) h f = tt
 
-      go : (m : Res Mode) → Ensures m (Moded s) → Replies s room (inMode m (rootIn held P s room))
+      go : (m : Res Mode) → Ensures m (Moded D s) → Replies s room (inMode m (rootIn held P s room))
       go (got mode) h =
           let m = h .says mode refl in
-          rest mode (read (bitAt s) mode held P room [] (8 * length s) 8) m (read-is (bitAt s) mode held (bit-lt s) P room [] (8 * length s) 8 (omega (arith, m .filled)))
+          rest mode (read (bitAt s) (mode .lengths) held (P (mode .casting)) room [] (8 * length s) 8) m (read-is (bitAt s) (mode .lengths) held (bit-lt s) (P (mode .casting)) room [] (8 * length s) 8 (omega (arith, m .filled)))
       go (fault n) h = tt
 
-  pub payload-found : (s : List ℕ) (room : Room) (mode : Mode) (ns : Nodes) (q : ℕ) → payload held P s room ≡ accepted mode ns q → PayloadIs held P s room mode ns q
+  pub payload-found : (s : List ℕ) (room : Room) (mode : Mode) (ns : Nodes) (q : ℕ) → payload held P D s room ≡ accepted mode ns q → PayloadIs held P D s room mode ns q
   payload-found s room mode ns q e = rw e at (payload-is s room)
 
-  pub payload-reads : (s : List ℕ) (room : Room) (mode : Mode) (ns : Nodes) (q : ℕ) → PayloadIs held P s room mode ns q → payload held P s room ≡ accepted mode ns q
+  pub payload-reads : (s : List ℕ) (room : Room) (mode : Mode) (ns : Nodes) (q : ℕ) → PayloadIs held P D s room mode ns q → payload held P D s room ≡ accepted mode ns q
   unfolding payload inMode rootIn replied padded
   payload-reads s room mode ns q h =
       let f = h .found in
-      rw (moded-then s mode (h .mode-byte), is-read (bitAt s) mode held (f .is) room [] (8 * length s) q (f .stands) (f .within) (f .slots) (f .bytes), padded-then s q (f .within) (h .pads))
+      rw (moded-then D s mode (h .mode-byte), is-read (bitAt s) (mode .lengths) held (f .is) room [] (8 * length s) q (f .stands) (f .within) (f .slots) (f .bytes), padded-then s q (f .within) (h .pads))
 
   -- the bits of all events plus 8 are the bits used
-  pub payload-sum : (s : List ℕ) (room : Room) (mode : Mode) (ns : Nodes) (q : ℕ) → PayloadIs held P s room mode ns q → 8 + treeBits ns ≡ q
-  payload-sum s room mode ns q h = let f = h .found in omega (arith, is-sum mode held (f .is), f .stands .next)
+  pub payload-sum : (s : List ℕ) (room : Room) (mode : Mode) (ns : Nodes) (q : ℕ) → PayloadIs held P D s room mode ns q → 8 + treeBits ns ≡ q
+  payload-sum s room mode ns q h = let f = h .found in omega (arith, is-sum (mode .lengths) held (f .is), f .stands .next)
 
   -- the bytes of a payload are those of its bits
-  pub payload-bytes : (s : List ℕ) (room : Room) (mode : Mode) (ns : Nodes) (q : ℕ) → AllBytes s → (h : (PayloadIs held P) s room mode ns q) → s ≡ modeByte mode ∷ pack (h .found .bits)
+  pub payload-bytes : (s : List ℕ) (room : Room) (mode : Mode) (ns : Nodes) (q : ℕ) → AllBytes s → (h : (PayloadIs held P D) s room mode ns q) → s ≡ modeByte mode ∷ pack (h .found .bits)
   unfolding pack
   payload-bytes [] room mode ns q c h = absurd (omega (arith, h .mode-byte .filled))
   payload-bytes (y ∷ s) room mode ns q c h =
@@ -141,16 +130,16 @@ module _ (held : ℕ → Bool) (P : Plan) where
       ∙ bytes-back s (c .1))))
 
   -- and bits that are so make such a payload
-  pub packed-is : (mode : Mode) (w : List ℕ) (ns : Nodes) (r : Room) → Is mode held P 8 ns w → 1 + (length w + 7) / 8 ≤ mostPayload → treeSlots ns ≤ r .slots → treeBytes ns ≤ r .bytes
-      → PayloadIs held P (modeByte mode ∷ pack w) r mode ns (8 + length w)
+  pub packed-is : (mode : Mode) (w : List ℕ) (ns : Nodes) (r : Room) → Is (mode .lengths) held (P (mode .casting)) 8 ns w → 1 + (length w + 7) / 8 ≤ mostPayload → treeSlots ns ≤ r .slots → treeBytes ns ≤ r .bytes
+      → (mode .casting ≡ true → 0 < D) → PayloadIs held P D (modeByte mode ∷ pack w) r mode ns (8 + length w)
   unfolding pack
-  packed-is mode w ns r i few h k =
+  packed-is mode w ns r i few h k c =
       let n = (length w + 7) / 8 in
       let s = bytesAt (source w) 0 n in
       let size : length s ≡ n = bytes-length (source w) 0 n in
-      let bit = source-bit w (is-bits mode held i) in
+      let bit = source-bit w (is-bits (mode .lengths) held i) in
       record {
-        mode-byte = record { filled = omega arith; few = omega arith; byte = refl };
+        mode-byte = record { filled = omega arith; few = omega arith; byte = refl; casts = c };
         found = record {
           bits = w;
           is = i;

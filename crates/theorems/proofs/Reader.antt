@@ -1,19 +1,19 @@
 -- READER, of the entry `reading`, over words and bytes: it gives a list exactly when the grammar has it and rows, walls and room suffice; the list
 -- follows the content models, its Blanks stand where they should, and its bits add up.
-use Prim.Native.Nat.{ℕ, _+_, _*_, _≤_}
+use Prim.Native.Nat.{ℕ, _+_, _-_, _*_, _≤_}
 use mathlib.Core.Path.{_≡_, _∙_}
 use mathlib.Core.List.{List, map}
 use native.Mathlib.Omega.{arith}
 use lib.ListN.{length}
 use Rattle.numbers.specs.Limit.{mostEvents, mostOpen}
-use Rattle.table.specs.Rows.{Row, tableOf, heldOf}
-use Rattle.model.specs.Model.{Nodes, events, texts}
+use Rattle.table.specs.Rows.{tableOf, heldOf}
+use Rattle.model.specs.Model.{Nodes, events, texts, only, tableIn}
 use Rattle.model.specs.Items.{Mode}
 use Rattle.model.specs.Trees.{total}
 use Rattle.model.proofs.Trees.{slots-length, bytes-length}
 use Rattle.model.specs.Write.{bare}
-use Rattle.theorems.specs.Content.{row, Model}
-use Rattle.theorems.proofs.FollowsModel.{row-model}
+use Rattle.theorems.specs.Content.{one, Model}
+use Rattle.theorems.proofs.FollowsModel.{row-model, one-model}
 use Rattle.model.specs.Blanks.{Exact}
 use Rattle.model.proofs.Blanks.{is-exact}
 use Rattle.theorems.proofs.Payload.{payload-found, payload-reads}
@@ -27,16 +27,19 @@ module _ (l : List ℕ) (name type : ℕ) (s : List ℕ) (words bytes : ℕ) (mo
   pub reading-sound : reading l name type s words bytes ≡ accepted mode ns used → IsReading l name type s words bytes mode ns used
   reading-sound e =
       let f = reading-found l name type s words bytes mode ns used e in
-      record { enters = f .enters; is = payload-found (heldOf l) (planOf l name type) s (roomOf words bytes) mode ns used (f .reads) }
+      record { enters = f .enters; is = payload-found (heldOf l) (planOf l name type) (tableOf l .derivations) s (roomOf words bytes) mode ns used (f .reads) }
 
   pub reading-complete : (IsReading l name type s words bytes mode ns used) → reading l name type s words bytes ≡ accepted mode ns used
   reading-complete h =
-      reading-entered l name type s words bytes (h .enters) ∙ payload-reads (heldOf l) (planOf l name type) s (roomOf words bytes) mode ns used (h .is)
+      reading-entered l name type s words bytes (h .enters) ∙ payload-reads (heldOf l) (planOf l name type) (tableOf l .derivations) s (roomOf words bytes) mode ns used (h .is)
 
   module _ (e : reading l name type s words bytes ≡ accepted mode ns used) where
     -- content models and occurrence bounds, values of their kinds, held marks, flags, at most 64 rows open
-    pub list-follows : Model (tableOf l) mode (heldOf l) mostOpen (row (Row.element name type)) (map bare (events ns)) (texts ns)
-    list-follows = let f = reading-sound e .is .found in row-model mode (heldOf l) (tableOf l) mostOpen (Row.element name type) 8 ns (f .bits) (f .is)
+    pub list-follows : Model (tableIn (mode .casting) (tableOf l)) (mode .lengths) (heldOf l) (mostOpen - 1) (one name (only type)) (map bare (events ns)) (texts ns)
+    list-follows =
+        let f = reading-sound e .is .found in
+        let T = tableIn (mode .casting) (tableOf l) in
+        one-model (mode .lengths) (heldOf l) T (mostOpen - 1) (row-model (mode .lengths) (heldOf l) T (mostOpen - 1)) name (only type) 8 ns (f .bits) (f .is)
 
     -- a Blank only of a type that is not held, an opened element only of one that is
     pub blanks-exact : Exact (heldOf l) ns

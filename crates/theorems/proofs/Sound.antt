@@ -1,26 +1,26 @@
 -- READER SOUND (`read-is`): what is read is so by the grammar, stands there, and is within the wall and the room; a refusal's place is
 -- within the wall, and its path goes on from the path.
 use Prim.Native.Nat.{ℕ, zero, suc, _+_, _-_, _≤_}
-use mathlib.Core.Path.{_≡_, refl, sym, _∙_}
+use mathlib.Core.Path.{_≡_, refl, sym, ap, subst, _∙_}
 use mathlib.Core.Bool.{Bool, true, false}
 use mathlib.Core.List.{List, [], _∷_, _++_, append-assoc}
 use native.Mathlib.Omega.{arith}
 use borrow.Author.Tests.{eqb-true}
-use lib.ListN.{length}
+use lib.ListN.{length, length-append}
 use Rattle.wire.specs.Res.{got}
 use Rattle.wire.specs.At.{At}
 use Rattle.wire.proofs.BitLaws.{at-none, at-both}
 use Rattle.wire.specs.Lawful.{Binary}
-use Rattle.model.specs.Model.{event, Plan, Nodes, Path, _then_}
+use Rattle.model.specs.Model.{event, Types, Plan, Nodes, Path, _then_}
 use Rattle.model.specs.Model.Plan.{done, element}
 use Rattle.model.specs.Model.Nodes.{none, leaf, node}
 use Rattle.model.specs.Model.Answer.{given}
-use Rattle.model.specs.Items.{Mode, Length, free, long, coded, Measures, headAt}
-use Rattle.model.proofs.ItemLaws.{FoundHead, headOf, stopOf, item-found, head-found}
+use Rattle.model.specs.Items.{Lengths, Length, free, long, coded, Measures, HeadIs, CodesAre, headAt}
+use Rattle.model.proofs.ItemLaws.{FoundHead, FoundCodes, headOf, stopOf, item-found, head-found, codes-found}
 use Rattle.model.specs.Grammar as grammar
-use Rattle.model.specs.Grammar.{Bits, Is}
+use Rattle.model.specs.Grammar.{Bits, castIn, Is}
 use Rattle.model.specs.Read.{Room, mark, met, read}
-use Rattle.model.proofs.Readings.{Extent, one, all, Goes, an-item, an-element, a-blank, nothing, more, Refuses, here, inside, unmet, no-end, later, read-by}
+use Rattle.model.proofs.Readings.{Extent, one, all, Opens, wallIn, castNode, markIn, metAt, Goes, an-item, an-element, a-blank, nothing, more, Refuses, here, no-codes, no-cast, inside, unmet, no-end, later, read-by}
 use Rattle.model.proofs.Fit.{goes-fits}
 use Rattle.theorems.specs.Sound.{Extends, Found, Finds}
 
@@ -46,7 +46,7 @@ unfolding slice
 slice-bits b bit at zero = tt
 slice-bits b bit at (suc n) = (bit at, slice-bits b bit (at + 1) n)
 
-module _ (b : ℕ → ℕ) (mode : Mode) (held : ℕ → Bool) (bit : Binary b) where
+module _ (b : ℕ → ℕ) (mode : Lengths) (held : ℕ → Bool) (bit : Binary b) where
   -- the first part of P, after which Q is left; or all of P
   abbrev pub Shape : Extent → Plan → Plan → ℕ → Nodes → List ℕ → Type 0
   Shape one P Q at ns w =
@@ -54,19 +54,23 @@ module _ (b : ℕ → ℕ) (mode : Mode) (held : ℕ → Bool) (bit : Binary b) 
   Shape all P Q at ns w = Is mode held P at ns w
 
   -- a head and its length
-  pub record Headed (type t : ℕ) (h : Length) (wall at body : ℕ) : Type 0 where
-    pub found : FoundHead b mode type t h wall at body
+  pub record Headed (h : Length) (wall at body : ℕ) : Type 0 where
+    pub found : FoundHead b mode h wall at body
     pub low : body ≤ stopOf h body wall
     pub high : stopOf h body wall ≤ wall
 
-  pub headed : {type t : ℕ} (h : Length) {wall at body : ℕ} → at ≤ wall
-      → headAt mode b type wall at ≡ got (headOf h t body) → Headed type t h wall at body
-  headed {type} free {wall} {at} a e =
-      let f = head-found b bit mode type wall at .says _ e in record { found = f; low = f .within a; high = omega arith }
-  headed {type} (long n) {wall} {at} {body} a e =
-      let f = head-found b bit mode type wall at .says _ e in
+  pub headed : (h : Length) {wall at body : ℕ} → at ≤ wall → headAt mode b wall at ≡ got (headOf h body) → Headed h wall at body
+  headed free {wall} {at} a e =
+      let f = head-found b bit mode wall at .says _ e in record { found = f; low = f .within a; high = omega arith }
+  headed (long n) {wall} {at} {body} a e =
+      let f = head-found b bit mode wall at .says _ e in
       let z : body + n - body ≡ n = omega arith in
       record { found = rw z at (f .0); low = f .1; high = f .2 }
+
+  -- the codes behind it
+  pub coding : {y : Types} {wall at : ℕ} (x : Opens b mode held y wall at)
+      → FoundCodes b y (stopOf (x .h) (x .body) wall) (x .body) (x .t) (x .k) (x .past)
+  coding {y} {wall} x = codes-found b bit y (stopOf (x .h) (x .body) wall) (x .body) .says _ (x .coding)
 
   measures : (h : Length) {body q : ℕ} {w : List ℕ} (wall : ℕ) → met (coded h) q (stopOf h body wall) ≡ true
       → At b body w q → Measures h (length w)
@@ -80,33 +84,64 @@ module _ (b : ℕ → ℕ) (mode : Mode) (held : ℕ → Bool) (bit : Binary b) 
     pub stands : At b at bits q
     pub within : q ≤ wall
 
-  element-stands : {name type t : ℕ} {f : ℕ → Plan} {P : Plan} (h : Length) {wall at body q : ℕ} {ns : Nodes}
-      → Headed type t h wall at body → held t ≡ true → met (coded h) q (stopOf h body wall) ≡ true
-      → Standing all (f t) done (stopOf h body wall) body ns q
-      → Standing one (element name type f P) P wall at (node (mark name t (coded h) at body) ns none) q
+  -- an element, a Blank, by their bits
+  element-built : {name t k at body past : ℕ} {y : Types} {f : ℕ → Plan} {P : Plan} {h : Length} {s c w : List ℕ} {ns : Nodes}
+      → body ≡ at + length s → past ≡ body + length c → HeadIs mode h s → CodesAre y t k c → held t ≡ true
+      → Is mode held (f t) past ns w → Measures h (length (c ++ w))
+      → Shape one (element name y f P) P at (node (mark name t (coded h) at body) (castIn y body t k (past - body) ns) none) (s ++ (c ++ w))
   unfolding _then_
-  element-stands h {wall} {at} {body} o z e i =
-      let s = o .found .stands in
-      let y : body - at ≡ length (o .found .bits) = omega (arith, s .next) in
-      let m = measures h wall e (i .stands) in
+  element-built {at} {body} {past} {s} {c} e g o d z i m ms x j =
+      let u : past ≡ at + length (s ++ c) = omega (arith, length-append s c) in
+      let v : body - at ≡ length s = omega arith in
+      let n : past - body ≡ length c = omega arith in
+      rw (v, n, e) (grammar.an-element o d z (rw u at i) m j)
+
+  blank-built : {name t k at body n : ℕ} {y : Types} {f : ℕ → Plan} {P : Plan} {s c : List ℕ} (w : List ℕ)
+      → body ≡ at + length s → n ≡ length (c ++ w) → HeadIs mode (long n) s → CodesAre y t k c → held t ≡ false → Bits w
+      → Shape one (element name y f P) P at (leaf at (event 7 name t (body + n - at)) [] none) (s ++ (c ++ w))
+  unfolding _then_
+  blank-built {at} {body} {n} {s} {c} w e i o d z u ms x j =
+      let m : body + n - at ≡ length (s ++ (c ++ w)) = omega (arith, length-append s (c ++ w)) in
+      rw m (grammar.a-blank w (rw i at o) d z u j)
+
+  element-stands : {name : ℕ} {y : Types} {f : ℕ → Plan} {P : Plan} {wall at q : ℕ} {ns : Nodes} (x : Opens b mode held y wall at)
+      → at ≤ wall → held (x .t) ≡ true → metAt b mode held x q ≡ true
+      → Standing all (f (x .t)) done (wallIn b mode held x) (x .past) ns q
+      → Standing one (element name y f P) P wall at (node (markIn b mode held x name) (castNode b mode held x ns) none) q
+  unfolding _then_
+  element-stands {wall} {at} x a z e i =
+      let o = headed (x .h) a (x .head) in
+      let d = coding x in
+      let w = at-both (d .stands) (i .stands) in
       record {
-        bits = o .found .bits ++ i .bits;
-        is = λ ms x j. rw y (grammar.an-element (o .found .is) z (rw (s .next) at (i .is)) m j);
-        stands = at-both s (i .stands);
-        within = omega (arith, o .high);
+        bits = o .found .bits ++ (d .bits ++ i .bits);
+        is = element-built (omega (arith, o .found .stands .next)) (omega (arith, d .stands .next)) (o .found .is) (d .is) z (i .is) (measures (x .h) wall e w);
+        stands = at-both (o .found .stands) w;
+        within = omega (arith, o .high, i .within);
       }
 
-  blank-stands : {name type t : ℕ} {f : ℕ → Plan} {P : Plan} {wall at body : ℕ} (n : ℕ)
-      → Headed type t (long n) wall at body → held t ≡ false
-      → Standing one (element name type f P) P wall at (leaf at (event 7 name t (body + n - at)) [] none) (body + n)
+  blank-stands : {name : ℕ} {y : Types} {f : ℕ → Plan} {P : Plan} {wall at : ℕ} (n : ℕ) (x : Opens b mode held y wall at)
+      → at ≤ wall → x .h ≡ long n → held (x .t) ≡ false
+      → Standing one (element name y f P) P wall at (leaf at (event 7 name (x .t) (x .body + n - at)) [] none) (x .body + n)
   unfolding _then_
-  blank-stands {at} {body} n o z =
-      let s = slice-at b body n in
-      let c = at-both (o .found .stands) s in
-      let i : n ≡ length (slice b body n) = omega (arith, s .next) in
-      let m : body + n - at ≡ length (o .found .bits ++ slice b body n) = omega (arith, c .next) in
-      let w = slice-bits b bit body n in
-      record { bits = o .found .bits ++ slice b body n; is = λ ms x j. rw m (grammar.a-blank _ (rw i at (o .found .is)) z w j); stands = c; within = o .high }
+  blank-stands {wall} {at} n x a h z =
+      let o = headed (x .h) a (x .head) in
+      let d = coding x in
+      let e : stopOf (x .h) (x .body) wall ≡ x .body + n = ap (λ (h : Length). stopOf h (x .body) wall) h in
+      let most = d .within in
+      let left : ℕ = x .body + n - x .past in
+      let s = slice-at b (x .past) left in
+      let w : List ℕ = slice b (x .past) left in
+      let to : x .past + left ≡ x .body + n = omega arith in
+      let cw = at-both (d .stands) (rw to at s) in
+      let all = at-both (o .found .stands) cw in
+      let headIs = subst (λ (k : Length). HeadIs mode k (o .found .bits)) h (o .found .is) in
+      record {
+        bits = o .found .bits ++ (d .bits ++ w);
+        is = blank-built w (omega (arith, o .found .stands .next)) (omega (arith, cw .next)) headIs (d .is) z (slice-bits b bit (x .past) left);
+        stands = all;
+        within = omega (arith, o .high);
+      }
 
   both-stand : {P Q : Plan} {wall at q p : ℕ} {ns ms : Nodes} → Standing one P Q wall at ns q
       → Standing all Q done wall q ms p → Standing all P done wall at (ns then ms) p
@@ -120,32 +155,38 @@ module _ (b : ℕ → ℕ) (mode : Mode) (held : ℕ → Bool) (bit : Binary b) 
       let f = item-found b bit i wall at .says (v, ts, q) e in
       let z : q - at ≡ length (f .bits) = omega (arith, f .stands .next) in
       record { bits = f .bits; is = λ ms x j. rw z (grammar.an-item (f .is) j); stands = f .stands; within = f .within a }
-  goes-stands (an-element y g e l) a =
-      let o = headed (y .h) a (y .head) in element-stands (y .h) o (y .is) e (goes-stands g (o .low))
-  goes-stands (a-blank n e z k) a = blank-stands n (headed (long n) a e) z
+  goes-stands (an-element x z g e l) a = element-stands x a z e (goes-stands g (coding x .within))
+  goes-stands (a-blank n x e z k) a = blank-stands n x a e z
   goes-stands nothing a = record { bits = []; is = grammar.nothing; stands = at-none; within = a }
   goes-stands (more f g) a = let i = goes-stands f a in both-stand i (goes-stands g (i .within))
 
   pub refuses-within : {P : Plan} {r : Room} {π ρ : Path} {wall at n p : ℕ} → Refuses b mode held P r π wall at n p ρ
       → at ≤ wall → Extends π ρ × (at ≤ p) × (p ≤ wall)
   refuses-within {π} (here x) a = (extends-same π, omega arith, a)
-  refuses-within {π} {ρ} (inside {name} x s d) a =
+  refuses-within {π} (no-codes h e c) a =
+      let o = headed h a e in (extends-same π, omega (arith, o .found .stands .next), omega (arith, o .low, o .high))
+  refuses-within {π} (no-cast {name} x z c s) a =
       let o = headed (x .h) a (x .head) in
-      let i = refuses-within d (o .low) in
-      (extends-outer name π ρ (i .0), omega (arith, o .found .stands .next), omega (arith, o .high))
-  refuses-within {π} (unmet {name} x s g e) a =
+      (extends-outer name π _ (extends-same _), omega (arith, o .found .stands .next), omega (arith, o .low, o .high))
+  refuses-within {π} {ρ} (inside {name} x z s d) a =
       let o = headed (x .h) a (x .head) in
-      (extends-outer name π _ (extends-same _), omega (arith, o .found .stands .next), omega (arith, o .high))
-  refuses-within {π} (no-end {name} x s g e k) a =
+      let c = coding x in
+      let i = refuses-within d (c .within) in
+      (extends-outer name π ρ (i .0), omega (arith, o .found .stands .next, c .stands .next), omega (arith, o .high))
+  refuses-within {π} (unmet {name} x z s g e) a =
       let o = headed (x .h) a (x .head) in
-      let i = goes-stands g (o .low) in
-      (extends-outer name π _ (extends-same _), omega (arith, o .found .stands .next, i .stands .next), omega (arith, o .high))
+      (extends-outer name π _ (extends-same _), omega (arith, o .found .stands .next), omega (arith, o .low, o .high))
+  refuses-within {π} (no-end {name} x z s g e k) a =
+      let o = headed (x .h) a (x .head) in
+      let c = coding x in
+      let i = goes-stands g (c .within) in
+      (extends-outer name π _ (extends-same _), omega (arith, o .found .stands .next, c .stands .next, i .stands .next), omega (arith, o .high, i .within))
   refuses-within (later f d) a =
       let i = goes-stands f a in
       let j = refuses-within d (i .within) in
       (j .0, omega (arith, i .stands .next), j .2)
 
-module _ (b : ℕ → ℕ) (mode : Mode) (held : ℕ → Bool) where
+module _ (b : ℕ → ℕ) (mode : Lengths) (held : ℕ → Bool) where
   pub read-is : Binary b → (P : Plan) (r : Room) (π : Path) (wall at : ℕ) → at ≤ wall
       → Finds b (Is mode held P at) r π wall at (read b mode held P r π wall at)
   read-is bit P r π wall at a =

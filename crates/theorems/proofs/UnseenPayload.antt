@@ -1,4 +1,4 @@
--- Of the entry: two payloads of one length that differ only inside the Blanks of what is read of the one give one list.
+-- Of the entry: two payloads of one length that differ only in Blanks past their codes, of what is read of the one, give one list.
 use Prim.Native.Nat.{ℕ, zero, _+_, _*_, _<_, _≤_}
 use mathlib.Core.Path.{_≡_, sym, _∙_}
 use mathlib.Core.List.{List, [], _∷_}
@@ -11,13 +11,13 @@ use Rattle.value.specs.Simple.{AllBytes}
 use Rattle.model.specs.Model.{Nodes}
 use Rattle.model.specs.Items.{Mode}
 use Rattle.theorems.proofs.Sound.{read-found}
-use Rattle.theorems.proofs.Complete.{is-read}
 use Rattle.model.proofs.PackLaws.{byte-num, num-moved}
 use Rattle.model.specs.Whole.{accepted, roomOf, reading}
 use Rattle.model.specs.Entries.{planOf}
-use Rattle.theorems.proofs.Reader.{reading-sound, reading-complete}
-use Rattle.theorems.specs.Unseen.{InBlank}
-use Rattle.theorems.proofs.Unseen.{within-bits, blank-unseen}
+use Rattle.theorems.proofs.Reader.{reading-complete}
+use Rattle.theorems.specs.Reader.{IsReading}
+use Rattle.theorems.specs.Unseen.{Unseen}
+use Rattle.theorems.proofs.Unseen.{unseen-within, blank-unseen}
 
 -- the first byte is its bits
 first-byte : (s : List ℕ) → AllBytes s → 1 ≤ length s → getD s 0 0 ≡ num (bitAt s) 0 8
@@ -25,21 +25,20 @@ first-byte [] o h = absurd (omega arith)
 first-byte (x ∷ s) o h = sym (byte-num x s (o .0))
 
 module _ (l : List ℕ) (name type : ℕ) (s s′ : List ℕ) (words bytes : ℕ) (mode : Mode) (ns : Nodes) (used : ℕ) where
-  pub reading-unseen : AllBytes s → AllBytes s′ → length s′ ≡ length s → reading l name type s words bytes ≡ accepted mode ns used
-      → ((i : ℕ) → i < 8 * length s → (InBlank (bitAt s) mode i ns → ⊥) → bitAt s′ i ≡ bitAt s i) → reading l name type s′ words bytes ≡ accepted mode ns used
-  reading-unseen o o′ long e same =
-      let h = reading-sound l name type s words bytes mode ns used e in
+  pub reading-unseen : AllBytes s → AllBytes s′ → length s′ ≡ length s → (h : IsReading l name type s words bytes mode ns used)
+      → ((i : ℕ) → i < 8 * length s → (Unseen (h .is .found .is) i → ⊥) → bitAt s′ i ≡ bitAt s i) → reading l name type s′ words bytes ≡ accepted mode ns used
+  reading-unseen o o′ long h same =
       let i = h .is in
       let f = i .found in
-      let P = planOf l name type in
+      let P = planOf l name type (mode .casting) in
       let room = roomOf words bytes in
       let wall = f .within in
       let filled = i .mode-byte .filled in
       let few = i .mode-byte .few in
-      let out : (k : ℕ) → InBlank (bitAt s) mode k ns → (8 ≤ k) × (k < used) = λ k z. within-bits (bitAt s) mode (heldOf l) (f .is) used k (f .stands) z in
-      let r = is-read (bitAt s) mode (heldOf l) (f .is) room [] (8 * length s) used (f .stands) (f .within) (f .slots) (f .bytes) in
-      let r′ = blank-unseen (bitAt s) mode (heldOf l) (bitAt s′) (bit-lt s′) (bit-lt s) P room [] (8 * length s) 8 ns used (omega arith) r (λ k a d n. same k (omega arith) n) in
-      let g = read-found (bitAt s′) mode (heldOf l) (bit-lt s′) P room [] (8 * length s) 8 ns used (omega arith) r′ in
+      let next = f .stands .next in
+      let out : (k : ℕ) → Unseen (f .is) k → (8 ≤ k) × (k < used) = λ k z. let y = unseen-within (f .is) k z in omega arith in
+      let r′ = blank-unseen (mode .lengths) (heldOf l) (bitAt s) (bitAt s′) (bit-lt s′) P room [] (8 * length s) 8 ns used f (λ k a d n. same k (omega arith) n) in
+      let g = read-found (bitAt s′) (mode .lengths) (heldOf l) (bit-lt s′) P room [] (8 * length s) 8 ns used (omega arith) r′ in
       let byte : getD s′ 0 0 ≡ getD s 0 0 =
       first-byte s′ o′ (omega arith)
       ∙ num-moved (bitAt s′) (bitAt s) 0 0 8 (λ j k. same (0 + j) (omega arith) (λ z. let y = out (0 + j) z in omega arith))
@@ -47,7 +46,7 @@ module _ (l : List ℕ) (name type : ℕ) (s s′ : List ℕ) (words bytes : ℕ
       reading-complete l name type s′ words bytes mode ns used (record {
         enters = h .enters;
         is = record {
-          mode-byte = record { filled = omega arith; few = omega arith; byte = byte ∙ i .mode-byte .byte };
+          mode-byte = record { filled = omega arith; few = omega arith; byte = byte ∙ i .mode-byte .byte; casts = i .mode-byte .casts };
           found = record { bits = g .bits; is = g .is; stands = g .stands; within = omega arith; slots = g .slots; bytes = g .bytes };
           pads = record {
             short = let p = i .pads .short in omega arith;

@@ -1,16 +1,18 @@
 -- VALID BY THE TABLE ALONE, both ways. `Demand2.Valid` says by the grammar which lists are to be written: some bits are
--- a tree of this list. Here a list is valid exactly when table and root are right, it has whole events and at most
--- 2,048 of them, none is a Blank, and it follows the table's content models with its texts (`Content.Model`, which
--- names no bits and no code). So no plan, code or grammar is narrower than the table, and none is wider.
-use Prim.Native.Nat.{ℕ, _/_}
+-- a tree of this list. Here a list is valid exactly when table and root are right, type codes are sent only for a table
+-- with derivations, it has whole events and at most 2,048 of them, none is a Blank, and it follows the table's content
+-- models with its texts (`Content.Model`, which names no bits and no code). So no plan, code or grammar is narrower
+-- than the table, and none is wider.
+use Prim.Native.Nat.{ℕ, _-_, _/_}
 use mathlib.Core.Path.{_≡_, _∙_}
 use mathlib.Core.Logic.{_↔_}
 use mathlib.Core.List.{List, [], _∷_, map}
 use native.Mathlib.Omega.{arith}
 use lib.ListN.{length}
 use Rattle.numbers.specs.Limit.{mostOpen}
-use Rattle.table.specs.Rows.{Row, tableOf, heldOf}
-use Rattle.model.specs.Model.{Event, events}
+use Rattle.table.specs.Rows.{Table, tableOf, heldOf}
+use Rattle.table.specs.Words.{particlesIn}
+use Rattle.model.specs.Model.{Event, only, events, tableIn}
 use Rattle.model.specs.Items.{Mode}
 use Rattle.model.specs.Write.{bare, Out, write}
 use Rattle.model.specs.Plain.{NoBlank}
@@ -18,8 +20,10 @@ use Rattle.model.proofs.Plain.{list-plain}
 use Rattle.theorems.proofs.Lists.{lists-all, spells-all}
 use Rattle.theorems.proofs.WriteComplete.{is-written}
 use Rattle.theorems.specs.Follows.{NoBlanks, Follows}
-use Rattle.theorems.proofs.FollowsModel.{row-model}
-use Rattle.theorems.proofs.ModelIs.{right-bounded, model-is}
+use Rattle.theorems.proofs.FollowsModel.{row-model, one-model}
+use Rattle.theorems.proofs.Bounded.{only-fine, right-bounded}
+use Rattle.theorems.proofs.ModelIs.{model-is}
+use Rattle.theorems.proofs.Neat.{right-neat}
 use Rattle.model.specs.Whole.{modeNumber, roomed, spent, written, writing}
 use Rattle.model.specs.Entries.{planOf, listOf}
 use Rattle.model.proofs.Entries.{events-length, mode-asked, writing-entered}
@@ -34,25 +38,36 @@ none-bare [] h = tt
 none-bare (e ∷ L) h = (h .0, none-bare L (h .1))
 
 module _ (l : List ℕ) (name type : ℕ) (mode : Mode) (L X : List ℕ) where
+  -- the table as the mode has it, and the rows that the root lets be open inside it
+  abbrev T : Table
+  T = tableIn (mode .casting) (tableOf l)
+
+  abbrev depth : ℕ
+  depth = mostOpen - 1
+
   pub valid-follows : Valid l name type mode L X → Follows l name type mode L X
   valid-follows h = record {
     enters = h .enters;
+    casts = h .casts;
     shape = h .shape;
     no-blank = rw (h .list) (bare-none (events (h .tree)) (h .no-blank));
     model =
+        let rows = row-model (mode .lengths) (heldOf l) T depth in
         rw (h .list, h .text)
-        (row-model mode (heldOf l) (tableOf l) mostOpen (Row.element name type) 8 (h .tree) (h .bits) (h .is));
+        (one-model (mode .lengths) (heldOf l) T depth rows name (only type) 8 (h .tree) (h .bits) (h .is));
   }
 
   pub follows-valid : Follows l name type mode L X → Valid l name type mode L X
   follows-valid h =
       let few = h .shape .few in
       let count = events-length L 0 (length L / 4) in
-      let bounded = right-bounded l (h .enters .table-right) in
-      let s = model-is mode (heldOf l) (tableOf l) bounded (h .model) (h .enters .type-known) (omega arith) in
+      let bounded = right-bounded l (h .enters .table-right) (mode .casting) in
+      let root = only-fine (tableOf l .types) type (h .enters .type-known) in
+      let s = model-is (mode .lengths) (heldOf l) T (particlesIn l) bounded (h .model) root (omega arith) in
       let p = s .placed 8 in
       record {
         enters = h .enters;
+        casts = h .casts;
         shape = h .shape;
         tree = p .tree;
         bits = s .bits;
@@ -67,9 +82,10 @@ module _ (l : List ℕ) (name type : ℕ) (mode : Mode) (L X : List ℕ) where
   valid-model = (valid-follows, follows-valid)
 
   valid-bits : (v : Valid l name type mode L X)
-      → write mode (heldOf l) (planOf l name type) (listOf L) X ≡ Out.wrote (v .bits) [] []
+      → write (mode .lengths) (heldOf l) (planOf l name type (mode .casting)) (listOf L) X ≡ Out.wrote (v .bits) [] []
   valid-bits v =
-      let w = is-written mode (heldOf l) (v .is) (list-plain (v .tree) (v .no-blank)) [] [] in
+      let neat = right-neat (v .enters) (mode .casting) in
+      let w = is-written (mode .lengths) (heldOf l) (v .is) neat (list-plain (v .tree) (v .no-blank)) [] [] in
       rw (v .list, v .text) (rw (lists-all (v .tree), spells-all (v .tree)) at w)
 
   -- so whatever follows the models is written, as the bits that it has by the grammar, and refused for nothing but lack
@@ -78,5 +94,6 @@ module _ (l : List ℕ) (name type : ℕ) (mode : Mode) (L X : List ℕ) where
       → writing l name type (modeNumber mode) L X room ≡ roomed room mode (follows-valid h .bits)
   unfolding written spent
   follows-written room h =
-      writing-entered l name type (modeNumber mode) L X room mode (h .enters) (mode-asked mode) (h .shape)
+      let asked = mode-asked (tableOf l .derivations) mode (h .casts) in
+      writing-entered l name type (modeNumber mode) L X room mode (h .enters) asked (h .shape)
       ∙ rw (valid-bits (follows-valid h))

@@ -7,9 +7,10 @@ use mathlib.Core.Option.{Option, none, some}
 use native.Mathlib.Omega.{arith}
 use Rattle.numbers.specs.Refusal.{notHeld}
 use Rattle.numbers.specs.Kind as kinds
-use Rattle.model.specs.Model.{event, Mark, Nodes, Path, Answer, treeSlots, treeBytes, treeBits, _then_}
+use Rattle.model.specs.Model.{event, Types, codes, Mark, Nodes, Path, Answer, treeSlots, treeBytes, treeBits, _then_}
 use Rattle.model.specs.Model.Nodes.{leaf, node}
 use Rattle.model.specs.Model.Answer.{given, refused}
+use Rattle.model.specs.Grammar.{castIn}
 use Rattle.model.proofs.Trees.{slots-then, bytes-then}
 use Rattle.theorems.specs.Less.{outermost, replaced, firstBare, said}
 
@@ -74,6 +75,17 @@ walk-fits new π (leaf at e ts r) = both-fits (shown (leaf at e ts Nodes.none)) 
 walk-fits new π (node m i r) =
     both-fits (shownAs (new (m .type)) (m .coded) m π i (walk new (m .name ∷ π) i)) (walk new π r) (node m i Nodes.none) r
     (shownAs-fits (new (m .type)) (m .coded) m π i (walk new (m .name ∷ π) i) (walk-fits new (m .name ∷ π) i)) (walk-fits new π r)
+
+-- the codes' event stays, before what is inside
+pub walk-cast : (new : ℕ → Bool) (π : Path) (y : Types) (at t k n : ℕ) (ns : Nodes)
+    → walk new π (castIn y at t k n ns) ≡ both (shown (castIn y at t k n Nodes.none)) (walk new π ns)
+unfolding walk castIn both _then_
+walk-cast new π y at t k n ns = go (codes y) (walk new π ns) refl
+  where
+    go : (u : Bool) (w : Walk) → walk new π ns ≡ w → walk new π (cond u (leaf at (event kinds.cast t k n) [] ns) ns) ≡ both (shown (cond u (leaf at (event kinds.cast t k n) [] Nodes.none) Nodes.none)) w
+    go true w e = rw e
+    go false (shown ms) e = e
+    go false (lacking p ρ) e = e
 
 -- where nothing is new it leaves the tree as it is
 pub walk-none : (new : ℕ → Bool) → ((t : ℕ) → new t ≡ false) → (π : Path) (ns : Nodes) → walk new π ns ≡ shown ns

@@ -1,28 +1,34 @@
 -- WRITER COMPLETE (`is-written`): what is so by the grammar, and has no Blank, is written, as the same bits.
-use Prim.Native.Nat.{ℕ}
-use mathlib.Core.Path.{_≡_, refl, sym, ap}
-use mathlib.Core.Bool.{Bool, true}
-use mathlib.Core.List.{List, _∷_, _++_}
+use Prim.Native.Nat.{ℕ, _+_}
+use mathlib.Core.Path.{_≡_, refl, sym, ap, _∙_}
+use mathlib.Core.Bool.{Bool, true, false, cond}
+use mathlib.Core.List.{List, [], _∷_, _++_}
 use native.Mathlib.Omega.{arith}
 use lib.ListN.{length}
-use Rattle.model.specs.Model.{event, end, eventOf, Plan, Nodes, flagOf}
-use Rattle.model.specs.Items.{Mode, Length, free, long, coded, Measures, HeadIs, no-head, flag-off, flag-on, head-on}
-use Rattle.model.proofs.ItemLaws.{same-type}
-use Rattle.model.specs.Grammar.{Is, nothing, an-item, an-element, a-blank}
-use Rattle.model.specs.Write.{Bare, bare, Out, wrote, asItem, flagIn, asStart, lengthOf, headOut, elementOut, write}
+use Rattle.numbers.specs.Kind as kinds
+use Rattle.table.specs.Valid.{once}
+use Rattle.model.specs.Model.{event, end, eventOf, Types, codes, defaultType, Plan, Nodes, flagOf}
+use Rattle.model.specs.Model.Nodes.{leaf}
+use Rattle.model.specs.Items.{Lengths, Length, free, long, coded, Measures, HeadIs, no-head, flag-off, flag-on, head-on, CodesAre}
+use Rattle.model.specs.Grammar.{castIn, Is, nothing, an-item, an-element, a-blank}
+use Rattle.model.specs.Write.{Bare, bare, Out, wrote, asItem, flagIn, asStart, lengthOf, headOut, casts, elementOut, write}
+use Rattle.theorems.specs.Content.{word, castOf}
 use Rattle.theorems.specs.Lists.{lists, spells}
 use Rattle.model.proofs.ItemOut.{item-out, bare-event, word-back}
 use Rattle.model.specs.Plain.{Plain}
-use Rattle.model.proofs.OutLaws.{taken-then, coded-then, put-then, along-then, allowed-then, sealed-then}
+use Rattle.model.proofs.Sums.{codes-none}
+use Rattle.model.proofs.OutLaws.{taken-then, coded-then, put-then, along-then, allowed-then, casts-then, casts-none, sealed-then}
+use Rattle.theorems.proofs.Choices.{codes-out, cast-sent, cast-unsent, cast-lists, cast-spells}
+use Rattle.theorems.proofs.Neat.{Neat}
 
-head-out : {mode : Mode} {d t : ℕ} {h : Length} {s : List ℕ} → HeadIs mode d t h s → headOut mode h ≡ s
+head-out : {mode : Lengths} {h : Length} {s : List ℕ} → HeadIs mode h s → headOut mode h ≡ s
 unfolding headOut
 head-out no-head = refl
 head-out flag-off = refl
 head-out (flag-on h) = refl
 head-out (head-on h) = refl
 
-flag-is : {mode : Mode} {d t : ℕ} {h : Length} {s : List ℕ} → HeadIs mode d t h s → flagIn mode (flagOf (coded h)) ≡ flagOf (coded h)
+flag-is : {mode : Lengths} {h : Length} {s : List ℕ} → HeadIs mode h s → flagIn mode (flagOf (coded h)) ≡ flagOf (coded h)
 unfolding flagIn flagOf
 flag-is no-head = refl
 flag-is flag-off = omega arith
@@ -34,23 +40,50 @@ unfolding flagOf
 length-is free n m = refl
 length-is (long k) n m = ap long (sym m)
 
-module _ (mode : Mode) (held : ℕ → Bool) where
-  element-written : (name t : ℕ) (g : List Bare → List ℕ → Out) {d : ℕ} {h : Length} {s w T U : List ℕ} {N M : List Bare} → HeadIs mode d t h s → held t ≡ true → Measures h (length w)
-      → g N T ≡ wrote w (bare end ∷ M) U → elementOut mode held g name t (bare (event 1 name (flagOf (coded h)) 0) ∷ N) T ≡ wrote (s ++ w) M U
-  unfolding elementOut
-  element-written name t g {h} {w} x z m e =
-      taken-then (asStart mode name) _ _ _ (λ k. record { kind = 1; p = name; q = flag-is x k })
-      (allowed-then _ z (rw (sealed-then mode (flagOf (coded h)) e, length-is h (length w) m, head-out x)))
+-- codes that are so, with their event where there is one, are written where no type stands twice
+casts-back : {y : Types} {t k : ℕ} {c : List ℕ} → CodesAre y t k c → once (defaultType y k ∷ y .derived (defaultType y k)) ≡ true
+    → (N : List Bare) (g : ℕ → List ℕ → List Bare → Out) → casts (codes y) y (castOf y t k ++ N) g ≡ g t c N
+casts-back {y} {t} {k} {c} d o N g = go (codes y) refl
+  where
+    go : (u : Bool) → codes y ≡ u → casts (codes y) y (castOf y t k ++ N) g ≡ g t c N
+    go true z = ap (λ (L : List Bare). casts (codes y) y (L ++ N) g) (cast-sent y t k z) ∙ casts-then y (word kinds.cast t k) N g z refl (codes-out d o) refl
+    go false z =
+        let e = codes-none d z in
+        ap (λ (L : List Bare). casts (codes y) y (L ++ N) g) (cast-unsent y t k z) ∙ casts-none y N g z ∙ rw (e .0, e .1)
 
-  pub is-written : {P : Plan} {at : ℕ} {ns : Nodes} {w : List ℕ} → Is mode held P at ns w → Plain ns → (M : List Bare) (U : List ℕ)
+-- no Blank inside, whether the choice's event stands there or not
+plain-cast : (y : Types) (at t k n : ℕ) (ns : Nodes) → Plain (castIn y at t k n ns) → Plain ns
+unfolding castIn
+plain-cast y at t k n ns h = go (codes y) h
+  where
+    go : (u : Bool) → Plain (cond u (leaf at (event kinds.cast t k n) [] ns) ns) → Plain ns
+    go true h = h .1
+    go false h = h
+
+module _ (mode : Lengths) (held : ℕ → Bool) where
+  element-written : (name : ℕ) (g : ℕ → List Bare → List ℕ → Out) {y : Types} {t k : ℕ} {h : Length} {s c w T U : List ℕ} {N M : List Bare}
+      → HeadIs mode h s → CodesAre y t k c → once (defaultType y k ∷ y .derived (defaultType y k)) ≡ true → held t ≡ true → Measures h (length (c ++ w))
+      → g t N T ≡ wrote w (bare end ∷ M) U
+      → elementOut mode held g name y (bare (event kinds.start name (flagOf (coded h)) 0) ∷ (castOf y t k ++ N)) T ≡ wrote (s ++ (c ++ w)) M U
+  unfolding elementOut
+  element-written name g {h} {c} {w} {N} x d o z m e =
+      taken-then (asStart mode name) _ _ _ (λ k. record { kind = kinds.start; p = name; q = flag-is x k })
+      (casts-back d o N _
+      ∙ allowed-then _ z (rw (sealed-then mode (flagOf (coded h)) c e, length-is h (length (c ++ w)) m, head-out x)))
+
+  pub is-written : {P : Plan} {at : ℕ} {ns : Nodes} {w : List ℕ} → Is mode held P at ns w → Neat P → Plain ns → (M : List Bare) (U : List ℕ)
       → write mode held P (lists ns M) (spells ns U) ≡ wrote w M U
   unfolding write lists spells
-  is-written nothing p M U = refl
-  is-written (an-item {i} {v} {ts} {w} {r} h j) p M U =
+  is-written nothing q p M U = refl
+  is-written (an-item {i} {v} {ts} {w} {r} h j) q p M U =
       let e = word-back i v (length w) ts w h in
       let d : asItem i (bare (eventOf i v (length w))) ≡ bare (eventOf i v (length w)) = rw e (bare-event i v 0 (length w)) in
-      taken-then (asItem i) _ _ _ d (rw e (coded-then _ _ (item-out i (spells r U) h) (put-then w (is-written j (p .1) M U))))
-  is-written (an-element {name} {type} {t} {f} {h} {s} {w} {i} {r} x z g m j) p M U =
-      rw (same-type x)
-      (along-then _ (element-written name t _ x z m (is-written g (p .0) (bare end ∷ lists r M) (spells r U))) (put-then (s ++ w) (is-written j (p .1) M U)))
-  is-written (a-blank w h z u j) p M U = absurd (p .0 refl)
+      taken-then (asItem i) _ _ _ d (rw e (coded-then _ _ (item-out i (spells r U) h) (put-then w (is-written j (q v ts w h) (p .1) M U))))
+  is-written (an-element {name} {t} {k} {y} {at} {h} {s} {c} {w} {i} {r} x d z g m j) q p M U =
+      let place = at + length s in
+      let neat = q .0 t k c d in
+      let plain = plain-cast y place t k (length c) i (p .0) in
+      let inner = is-written g (neat .1) plain (bare end ∷ lists r M) (spells r U) in
+      rw (cast-lists y place t k (length c) i (bare end ∷ lists r M), cast-spells y place t k (length c) i (spells r U))
+      (along-then _ (element-written name _ x d (neat .0) z m inner) (put-then (s ++ (c ++ w)) (is-written j (q .1) (p .1) M U)))
+  is-written (a-blank w h d z u j) q p M U = absurd (p .0 refl)

@@ -1,16 +1,19 @@
--- CONTENT MODELS: what a list of events and its texts must be for a row, a type's content or its attributes, said of
--- the table alone, with no bits and no code: names, order, branches, occurrence bounds, values of their kinds
--- (`InKind`), held marks, the flags of the mode, the rows open at once. `FollowsModel.antt` proves it of every list
--- given, `ModelIs.antt` that whatever follows has bits; `ValidModel.antt` has both as one theorem.
+-- CONTENT MODELS: what a list of events and its texts must be for an element, a row, a type's content or attributes,
+-- said of the table alone, with no bits and no code: names, types chosen, order, branches, occurrence bounds, values of
+-- their kinds (`InKind`), held marks, the flags of the mode, the rows open at once. `FollowsModel.antt` proves it of
+-- every list given, `ModelIs.antt` that whatever follows has bits; `ValidModel.antt` has both as one theorem.
 use Prim.Native.Nat.{ℕ, zero, suc, _+_, _<_, _≤_}
 use mathlib.Core.Path.{_≡_}
-use mathlib.Core.Bool.{Bool, true, false}
+use mathlib.Core.Bool.{Bool, true, false, cond}
 use mathlib.Core.List.{List, [], _∷_, _++_}
+use lib.ListN.{length}
 use Rattle.numbers.specs.Kind as kinds
 use Rattle.numbers.specs.Limit.{mostTimes}
 use Rattle.table.specs.Rows.{Row, Content, Attribute, Table}
+use Rattle.table.specs.Valid.{among}
 use Rattle.value.specs.Values.{InKind}
-use Rattle.model.specs.Items.{Mode}
+use Rattle.model.specs.Model.{Types, defaultType, codes, typesOf}
+use Rattle.model.specs.Items.{Lengths}
 use Rattle.model.specs.Write.{Bare}
 
 -- an event without its fourth word, the bits
@@ -18,13 +21,25 @@ abbrev pub word : (kind p q : ℕ) → Bare
 word kind p q = record { kind = kind; p = p; q = q }
 
 -- a Start's second word: 0 in mode 0, either in mode 1, 1 in mode 2
-abbrev pub Flag : Mode → ℕ → Type 0
-Flag Mode.never q = q ≡ 0
-Flag Mode.optional q = q < 2
-Flag Mode.always q = q ≡ 1
+abbrev pub Flag : Lengths → ℕ → Type 0
+Flag Lengths.never q = q ≡ 0
+Flag Lengths.optional q = q < 2
+Flag Lengths.always q = q ≡ 1
+
+-- an element's effective type t and its substitute k (001, 7.6.5.3 and 8.4.5), which is counted from 1, or 0 for none of
+-- them: t is the default type that this gives the element, or one derived from that
+pub record Chosen (y : Types) (t k : ℕ) : Type 0 where
+  pub substitute : k ≤ length (y .substitutes)
+  pub type : among t (defaultType y k ∷ y .derived (defaultType y k)) ≡ true
+
+-- the choice's own event, exactly where there is something to choose from: substitutes, or types derived from its own
+unfoldable pub castOf : Types → ℕ → ℕ → List Bare
+castOf y t k = cond (codes y) (word kinds.cast t k ∷ []) []
 
 -- what a list is of
 pub data Part : Type 0 where
+  -- an element of a name, with what its type can be
+  one : (name : ℕ) → Types → Part
   row : Row → Part
   -- n consecutive rows from one on; one row n times
   children : (first n : ℕ) → Part
@@ -34,15 +49,20 @@ pub data Part : Type 0 where
   content : Content → Part
 
 -- how many elements and particle rows may still be opened; what the list is of; its events; its texts
-module _ (T : Table) (mode : Mode) (held : ℕ → Bool) where
+module _ (T : Table) (mode : Lengths) (held : ℕ → Bool) where
   pub data Model : ℕ → Part → List Bare → List ℕ → Type 0 where
-    -- Start, what its type asks for, End, where the type is held; else a Blank, where a length may be coded
-    element : {d name type flag : ℕ} {L : List Bare} {X : List ℕ}
-        → Flag mode flag → held type ≡ true → Model d (inside type) L X
-        → Model (suc d) (row (Row.element name type)) (word kinds.start name flag ∷ (L ++ (word kinds.end 0 0 ∷ []))) X
-    blank : {d name type : ℕ}
-        → Flag mode 1 → held type ≡ false
-        → Model (suc d) (row (Row.element name type)) (word kinds.blank name type ∷ []) []
+    -- Start, the choice, what the effective type asks for, End, where that type is held; else a Blank of it, where a
+    -- length may be coded
+    element : {d name t k flag : ℕ} {y : Types} {L : List Bare} {X : List ℕ}
+        → Flag mode flag → Chosen y t k → held t ≡ true → Model d (inside t) L X
+        → Model d (one name y) (word kinds.start name flag ∷ (castOf y t k ++ (L ++ (word kinds.end 0 0 ∷ [])))) X
+    blank : {d name t k : ℕ} {y : Types}
+        → Flag mode 1 → Chosen y t k → held t ≡ false
+        → Model d (one name y) (word kinds.blank name t ∷ []) []
+    -- an element row: its own type, the row's substitutes, the table's derived types
+    declared : {d name type r : ℕ} {L : List Bare} {X : List ℕ}
+        → Model d (one name (typesOf T type r)) L X
+        → Model (suc d) (row (Row.element name type r)) L X
     sequence : {d first count : ℕ} {L : List Bare} {X : List ℕ}
         → Model d (children first count) L X
         → Model (suc d) (row (Row.sequence first count)) L X

@@ -1,9 +1,10 @@
 -- A list that the grammar has: the word `valid` does not mention the writer.
-use Prim.Native.Nat.{ℕ, _+_, _/_}
+use Prim.Native.Nat.{ℕ, _+_, _/_, _<_}
 use mathlib.Core.Path.{_≡_}
+use mathlib.Core.Bool.{true}
 use mathlib.Core.List.{List, _∷_, map}
 use lib.ListN.{length}
-use Rattle.table.specs.Rows.{heldOf}
+use Rattle.table.specs.Rows.{tableOf, heldOf}
 use Rattle.model.specs.Model.{Nodes, events, texts}
 use Rattle.model.specs.Items.{Mode}
 use Rattle.model.specs.Grammar.{Is}
@@ -18,9 +19,11 @@ use Rattle.model.specs.Entries.{Entered, planOf, Shaped, listOf}
 pub record Valid (l : List ℕ) (name type : ℕ) (mode : Mode) (L X : List ℕ) : Type 0 where
   pub enters : Entered l name type
   pub shape : Shaped L
+  -- type codes are sent only by a table with derivations
+  pub casts : mode .casting ≡ true → 0 < tableOf l .derivations
   pub tree : Nodes
   pub bits : List ℕ
-  pub is : Is mode (heldOf l) (planOf l name type) 8 tree bits
+  pub is : Is (mode .lengths) (heldOf l) (planOf l name type (mode .casting)) 8 tree bits
   pub no-blank : NoBlank (events tree)
   pub list : listOf L ≡ map bare (events tree)
   pub text : X ≡ texts tree

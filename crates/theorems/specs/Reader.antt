@@ -1,7 +1,7 @@
 -- What it is to be the reading of a payload.
 use Prim.Native.Nat.{ℕ}
 use mathlib.Core.List.{List}
-use Rattle.table.specs.Rows.{heldOf}
+use Rattle.table.specs.Rows.{tableOf, heldOf}
 use Rattle.model.specs.Model.{Nodes}
 use Rattle.model.specs.Items.{Mode}
 use Rattle.theorems.specs.Payload.{PayloadIs}
@@ -12,4 +12,4 @@ module _ (l : List ℕ) (name type : ℕ) (s : List ℕ) (words bytes : ℕ) (mo
   -- table and root are right; the payload is the mode byte, bits that the grammar lets stand for this tree, and padding; there is room
   pub record IsReading : Type 0 where
     pub enters : Entered l name type
-    pub is : PayloadIs (heldOf l) (planOf l name type) s (roomOf words bytes) mode ns used
+    pub is : PayloadIs (heldOf l) (planOf l name type) (tableOf l .derivations) s (roomOf words bytes) mode ns used

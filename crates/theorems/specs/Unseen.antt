@@ -1,16 +1,15 @@
--- The places inside a Blank.
+-- THE BITS THAT NOBODY LOOKS INTO: of what is so by the grammar, the places in a Blank past its head and its codes.
 use Prim.Native.Nat.{ℕ, _+_, _<_, _≤_}
-use mathlib.Core.Path.{_≡_}
-use mathlib.Core.List.{List}
-use Rattle.wire.specs.Res.{got}
-use Rattle.model.specs.Model.{Event, Mark, Nodes}
-use Rattle.model.specs.Model.Nodes.{leaf, node}
-use Rattle.model.specs.Items.{Mode, Head, headAt}
+use mathlib.Core.Bool.{Bool}
+use mathlib.Core.List.{List, _++_}
+use mathlib.Core.Logic.{_⊎_}
+use lib.ListN.{length}
+use Rattle.model.specs.Model.{Plan, Nodes}
+use Rattle.model.specs.Items.{Lengths}
+use Rattle.model.specs.Grammar.{Is, nothing, an-item, an-element, a-blank}
 
--- the place i is inside a Blank of the tree: after the head that stands in b, and before the element's end
-pub data InBlank (b : ℕ → ℕ) (mode : Mode) (i : ℕ) : Nodes → Type 0 where
-  here : {at body : ℕ} {e : Event} {ts : List ℕ} {r : Nodes} → e .kind ≡ 7 → headAt mode b (e .q) (at + e .bits) at ≡ got (Head.sized (e .q) body (at + e .bits)) → body ≤ i → i < at + e .bits
-      → InBlank b mode i (leaf at e ts r)
-  past : {at : ℕ} {e : Event} {ts : List ℕ} {r : Nodes} → InBlank b mode i r → InBlank b mode i (leaf at e ts r)
-  inside : {m : Mark} {k r : Nodes} → InBlank b mode i k → InBlank b mode i (node m k r)
-  beyond : {m : Mark} {k r : Nodes} → InBlank b mode i r → InBlank b mode i (node m k r)
+unfoldable pub Unseen : {mode : Lengths} {held : ℕ → Bool} {P : Plan} {at : ℕ} {ns : Nodes} {w : List ℕ} → Is mode held P at ns w → ℕ → Type 0
+Unseen nothing i = ⊥
+Unseen (an-item h j) i = Unseen j i
+Unseen (an-element h d z g m j) i = Unseen g i ⊎ Unseen j i
+Unseen (a-blank {at} {s} {c} w h d z u j) i = ((at + length (s ++ c) ≤ i) × (i < at + length (s ++ (c ++ w)))) ⊎ Unseen j i

@@ -39,6 +39,11 @@ boundedCode (suc k) most = shifted (suc k) (choice (most - suc k + 1))
 unfoldable pub timesCode : ℕ → ℕ → Code
 timesCode least most = cond (ltb (min most mostTimes) least) nothing (cond (ltb unbounded most) nothing (cond (eqb most unbounded) (unboundedCode least) (boundedCode least most)))
 
+-- none, or one of n, counted from 1: a bit 0, or a bit 1 and the number less one in the width of n; no bits where there are none to choose from
+unfoldable pub oneOf : ℕ → Code
+oneOf zero = choice 1
+oneOf (suc n) = some (shifted 1 (choice (suc n)))
+
 -- a number, or a text
 pub data Simple : Type 0 where
   plain : Code → Simple

@@ -1,28 +1,32 @@
 -- Each way through the entry: a refusal before the walk, in it, after it; and a payload that is made.
-use Prim.Native.Nat.{ℕ, zero, suc, _+_, _-_, _*_, _/_, _<_, _≤_, min}
-use mathlib.Core.Path.{_≡_, refl, sym, ap, _∙_}
-use mathlib.Core.Bool.{Bool}
+use Prim.Native.Nat.{ℕ, _+_, _-_, _*_, _/_, _<_, _≤_}
+use mathlib.Core.Path.{_≡_, sym, ap, _∙_}
+use mathlib.Core.Bool.{false, true≢false}
 use mathlib.Core.List.{List, [], _∷_}
 use native.Mathlib.Omega.{arith}
 use mir.Val.{Fits as FitsIn}
 use mir.Syntax.{w32}
-use lib.ListN.{length, replicate, drop, length-replicate}
+use lib.ListN.{length, replicate, length-replicate}
+use Rattle.numbers.specs.Limit.{mostOpen}
 use Rattle.wire.specs.Res.{got}
 use Rattle.table.specs.Rows.{tableOf, heldOf}
-use Rattle.table.specs.Rows.Row.{element}
 use Rattle.table.proofs.Walk.{types-are}
 use Rattle.table.specs.Words.{typesIn}
-use Rattle.model.specs.Items.{Mode}
-use Rattle.model.specs.Write.{Out, wrote, write, elementOut}
+use Rattle.model.specs.Model.{tableIn}
+use Rattle.model.specs.Modes.{lengthsIs, modeIs, typesBy}
+use Rattle.model.specs.declared.Choices.{Choices}
+use Rattle.model.specs.declared.Mode.{Mode}
+use Rattle.model.specs.Write.{Bare, Out, write}
 use Rattle.model.proofs.WriteSteps as steps
 use Rattle.model.specs.Pack.{pack}
 use Rattle.model.specs.Entries.{planOf, listOf}
 use Rattle.model.proofs.Entries.{writing-entered}
-use Rattle.model.specs.Whole.{Made, made, unmade, modeByte, declines, filled, outcomeMade, payloadLeft, eventsFrom, roomed, spent, written, writing}
+use Rattle.model.specs.Whole.{made, unmade, modeByte, declines, filled, outcomeMade, payloadLeft, modeAsked, roomed, spent, written, writing}
 use Rattle.writer_parts.specs.declared.Spot.{Spot}
 use Rattle.writer_parts.specs.declared.Judgement.{Judgement}
 use Rattle.writer_parts.specs.declared.Judgement.the-variants.{Go, Refuse}
-use Rattle.writer_parts.specs.Notes.{spells, modeIs}
+use Rattle.writer_parts.specs.Notes.{spells}
+use Rattle.writer_parts.specs.Codes.{Rowed}
 use Rattle.writer_parts.specs.Walk.{eventsIn, eventsAt, textsAt, between, Ready, Walked, Walks}
 use Rattle.writer_parts.proofs.WalkLaws.{went, stopped, events-count}
 use Rattle.writer.specs.Meaning.{Right, element·, inside·}
@@ -31,14 +35,14 @@ use Rattle.writer.specs.declared.front.Fault.the-variants as fv
 use Rattle.writer.specs.declared.Answer as code
 use Rattle.writer.specs.Answers.{answerIs, says, origin, Writes}
 use Rattle.writer.proofs.Answers.{unmade-writes}
-use Rattle.writer.specs.Front.{Fine, Fronted, Whole, ends, Settled}
+use Rattle.writer.specs.Front.{Moded, Fine, Fronted, Whole, ends, Settled}
 use Rattle.writer.specs.Cleared.{Zeros}
 
 -- finish
-module _ (L X N : List ℕ) (mode : ℕ) (c : Spot) (s : List ℕ) (bits : c .bits ≡ length (between X N origin c)) (f : faultT.Fault) (h : Settled L X c (length s) f) where
+module _ (L X N : List ℕ) (number : ℕ) (mode : Mode) (c : Spot) (s : List ℕ) (bits : c .bits ≡ length (between X N origin c)) (f : faultT.Fault) (h : Settled L X c (length s) f) where
   pub finish-refused : (n p : ℕ) → f ≡ fv.At n p → Zeros s → (a : code.Answer) → answerIs a ≡ declines n p []
-      → Writes (ends L X c (length s) (modeIs mode) (between X N origin c)) mode (eventsIn L) (length X) (length s) a s
-  finish-refused n p w z a e = unmade-writes _ mode (eventsIn L) (length X) (length s) n p a s (refused-so (between X N origin c) bits) e (z .is)
+      → Writes (ends L X c (length s) (modeIs mode) (between X N origin c)) number (eventsIn L) (length X) (length s) a s
+  finish-refused n p w z a e = unmade-writes _ number (eventsIn L) (length X) (length s) n p a s (refused-so (between X N origin c) bits) e (z .is)
     where
       refused-so : (w : List ℕ) → c .bits ≡ length w → ends L X c (length s) (modeIs mode) w ≡ unmade n p
       refused-so x b = (rw w at (h .is)) x (modeIs mode) b
@@ -56,14 +60,14 @@ module _ (L X N : List ℕ) (mode : ℕ) (c : Spot) (s : List ℕ) (bits : c .bi
     pub finish-short : Ready L X N c → length (spells X N 0 (c .event)) ≤ 100000000
     finish-short r = let b : c .bits ≡ length (spells X N 0 (c .event)) = bits ∙ ap length same in let a = r .small in let i = r .inside in let d = r .few in omega arith
 
-    pub finish-done : (t : List ℕ) → t ≡ filled (length s) (modeByte (modeIs mode) ∷ pack (spells X N 0 (c .event))) → (a : code.Answer) → answerIs a ≡ says mode (c .event) (c .used) (8 + c .bits)
-        → Writes (ends L X c (length s) (modeIs mode) (between X N origin c)) mode (eventsIn L) (length X) (length s) a t
+    pub finish-done : (t : List ℕ) → t ≡ filled (length s) (modeByte (modeIs mode) ∷ pack (spells X N 0 (c .event))) → (a : code.Answer) → answerIs a ≡ says number (c .event) (c .used) (8 + c .bits)
+        → Writes (ends L X c (length s) (modeIs mode) (between X N origin c)) number (eventsIn L) (length X) (length s) a t
     unfolding outcomeMade payloadLeft
     finish-done t e a g =
         let z : ends L X c (length s) (modeIs mode) (between X N origin c) ≡ made (modeByte (modeIs mode) ∷ pack (between X N origin c)) (8 + length (between X N origin c)) = whole .gives (between X N origin c) (modeIs mode) bits in
         let o = whole .over in
         let u = whole .spent-all in
-        record { answer = rw z (g ∙ (λ j. says mode (o j) (u j) (8 + bits j))); left = rw (z, same) e }
+        record { answer = rw z (g ∙ (λ j. says number (o j) (u j) (8 + bits j))); left = rw (z, same) e }
 
 pub finish-place : (L X N : List ℕ) (c : Spot) → Ready L X N c → FitsIn w32 (c .event)
 finish-place L X N c r = let i = r .inside in let d = r .few in record { fits = omega arith }
@@ -92,52 +96,63 @@ write-fine t name ty mode L f h w = rw w at (h .is)
 pub write-room : (t : List ℕ) (name ty mode : ℕ) (L : List ℕ) → Fine t name ty mode L → 4 * eventsIn L ≤ 8192
 write-room t name ty mode L h = let s = h .shape .few in omega arith
 
+-- the root has nothing to choose from
+abbrev nothing : Choices
+nothing = record { substitutes = false; derived = false }
+
+pub root-chosen : (t : List ℕ) → Rowed t nothing 0
+root-chosen t = record { known = λ e. absurd (true≢false (sym e)) }
+
+abbrev rootOut : List ℕ → Mode → (name ty : ℕ) → List Bare → List ℕ → Out
+rootOut t mode name ty = element· t mode (mostOpen - 1) name (typesBy t nothing ty 0)
+
 -- the walk
-module _ (t : List ℕ) (name ty mode : ℕ) (L X : List ℕ) (room : ℕ) (fine : Fine t name ty mode L) where
+module _ (t : List ℕ) (name ty number : ℕ) (L X : List ℕ) (room : ℕ) (fine : Fine t name ty number L) where
   pub write-ready : (N : List ℕ) → 4 * eventsIn L ≤ length N → Ready L X N origin
   write-ready N e = let s = fine .shape in record { sized = e; few = s .few; inside = omega arith; used = omega arith; short = omega arith; small = omega arith }
-
-  pub write-right : Right t
-  write-right = record { is = fine .enters .table-right }
 
   pub write-type : ty < typesIn t
   write-type = let k = fine .enters .type-known in omega (arith, types-are t)
 
-  root : write (modeIs mode) (heldOf t) (planOf t name ty) (listOf L) X ≡ element· t mode 63 name ty (eventsAt L 0) (textsAt X 0)
-  unfolding element· inside· eventsAt textsAt
-  root =
-      let n : eventsIn L - 0 ≡ eventsIn L = omega arith in
-      rw n (steps.particle-element (modeIs mode) (heldOf t) (tableOf t) (listOf L) X 63 name ty)
+  module _ (mode : Mode) (moded : Moded t number mode) where
+    pub write-right : Right t mode
+    write-right = record { is = fine .enters .table-right; choosing = moded .choosing }
 
-  count : length (listOf L) ≡ eventsIn L
-  unfolding eventsAt
-  count = let n : eventsIn L - 0 ≡ eventsIn L = omega arith in rw n at (events-count L 0)
+    asked-is : modeAsked (tableOf t .derivations) number ≡ got (modeIs mode)
+    asked-is = let a = fine .asks in a .is ∙ ap got (sym (moded .is (a .way) (a .is)))
 
-  walked : writing t name ty mode L X room ≡ spent (eventsIn L) (element· t mode 63 name ty (eventsAt L 0) (textsAt X 0)) (roomed room (modeIs mode))
-  unfolding written
-  walked = let g = fine in writing-entered t name ty mode L X room (modeIs mode) (g .enters) (g .mode-is) (g .shape) ∙ rw (root, count)
+    root : write (lengthsIs (mode .lengths)) (heldOf t) (planOf t name ty (mode .choices .derived)) (listOf L) X ≡ rootOut t mode name ty (eventsAt L 0) (textsAt X 0)
+    unfolding element· inside· eventsAt textsAt
+    root =
+        let n : eventsIn L - 0 ≡ eventsIn L = omega arith in
+        rw n (steps.root-element (lengthsIs (mode .lengths)) (heldOf t) (tableIn (mode .choices .derived) (tableOf t)) (listOf L) X name ty)
 
-  module _ (N : List ℕ) (r : Judgement) (M : List ℕ) (g : Walks L X (element· t mode 63 name ty) origin N r M) where
-    pub write-stopped : (n p : ℕ) → r ≡ Refuse n p → (a : code.Answer) → answerIs a ≡ declines n p [] → (P : List ℕ) → P ≡ replicate room 0
-        → Writes (writing t name ty mode L X room) mode (eventsIn L) (length X) room a P
-    unfolding spent
-    write-stopped n p y a e P z =
-        let k = stopped g n p y in
-        let i = k .inside in
-        let back : eventsIn L - (eventsIn L - p) ≡ p = omega arith in
-        unmade-writes _ mode (eventsIn L) (length X) room n p a P (walked ∙ rw (k .out, back)) e z
+    count : length (listOf L) ≡ eventsIn L
+    unfolding eventsAt
+    count = let n : eventsIn L - 0 ≡ eventsIn L = omega arith in rw n at (events-count L 0)
 
-    module _ (c : Spot) (y : r ≡ Go c) where
-      pub write-done : (same : ℕ) → same ≡ room → (a : code.Answer) (P : List ℕ) → Writes (ends L X c same (modeIs mode) (between X M origin c)) mode (eventsIn L) (length X) same a P
-          → Writes (writing t name ty mode L X room) mode (eventsIn L) (length X) room a P
-      write-done same e a P v =
-          let u : Writes (ends L X c room (modeIs mode) (between X M origin c)) mode (eventsIn L) (length X) room a P = rw e at v in
-          let k = went g c y .out in
-          let z : writing t name ty mode L X room ≡ ends L X c room (modeIs mode) (between X M origin c) = walked ∙ ap (λ (o : Out). spent (eventsIn L) o (roomed room (modeIs mode))) k in
-          rw z u
+    walked : writing t name ty number L X room ≡ spent (eventsIn L) (rootOut t mode name ty (eventsAt L 0) (textsAt X 0)) (roomed room (modeIs mode))
+    unfolding written
+    walked = writing-entered t name ty number L X room (modeIs mode) (fine .enters) asked-is (fine .shape) ∙ rw (root, count)
 
-pub write-mode : (t : List ℕ) (name ty mode : ℕ) (L : List ℕ) → Fine t name ty mode L → mode ≤ 2
-write-mode t name ty mode L h = h .mode-small
+    module _ (N : List ℕ) (r : Judgement) (M : List ℕ) (g : Walks L X (rootOut t mode name ty) origin N r M) where
+      pub write-stopped : (n p : ℕ) → r ≡ Refuse n p → (a : code.Answer) → answerIs a ≡ declines n p [] → (P : List ℕ) → P ≡ replicate room 0
+          → Writes (writing t name ty number L X room) number (eventsIn L) (length X) room a P
+      unfolding spent
+      write-stopped n p y a e P z =
+          let k = stopped g n p y in
+          let i = k .inside in
+          let back : eventsIn L - (eventsIn L - p) ≡ p = omega arith in
+          unmade-writes _ number (eventsIn L) (length X) room n p a P (walked ∙ rw (k .out, back)) e z
+
+      module _ (c : Spot) (y : r ≡ Go c) where
+        pub write-done : (same : ℕ) → same ≡ room → (a : code.Answer) (P : List ℕ) → Writes (ends L X c same (modeIs mode) (between X M origin c)) number (eventsIn L) (length X) same a P
+            → Writes (writing t name ty number L X room) number (eventsIn L) (length X) room a P
+        write-done same e a P v =
+            let u : Writes (ends L X c room (modeIs mode) (between X M origin c)) number (eventsIn L) (length X) room a P = rw e at v in
+            let k = went g c y .out in
+            let z : writing t name ty number L X room ≡ ends L X c room (modeIs mode) (between X M origin c) = walked ∙ ap (λ (o : Out). spent (eventsIn L) o (roomed room (modeIs mode))) k in
+            rw z u
 
 module _ (L X : List ℕ) (o : Out) (N : List ℕ) (r : Judgement) (M : List ℕ) (g : Walked L X o origin N r M) (c : Spot) (y : r ≡ Go c) where
   pub write-bits : c .bits ≡ length (between X M origin c)
@@ -156,4 +171,4 @@ zeros-are s n e = record { is = e ∙ ap (λ (k : ℕ). replicate k 0) (sym (ap 
 
 pub ruleset front-ways = (write-refused, write-fine, write-room, zeros-are)
 
-pub ruleset write-ways = (write-ready, write-right, write-type, write-mode, write-stopped, write-bits, write-on, write-done, zeros-are)
+pub ruleset write-ways = (write-ready, write-right, write-type, root-chosen, write-stopped, write-bits, write-on, write-done, zeros-are)

@@ -1,11 +1,11 @@
 -- What is judged before the walk and after it, and each way through it.
 use Prim.Native.Nat.{ℕ, zero, suc, _+_, _-_, _*_, _/_, _%_, _<_, _≤_, min}
 use mathlib.Core.Path.{_≡_, refl, sym, _∙_}
-use mathlib.Core.Bool.{cond}
-use mathlib.Core.List.{List, []}
+use mathlib.Core.Bool.{Bool, true, false, not, cond, true≢false}
+use mathlib.Core.List.{List}
 use native.Mathlib.Omega.{arith}
-use borrow.Author.Tests.{le-leb, lt-leb, eq-eqb, ne-eqb}
-use lib.Dec.{eqb}
+use borrow.Author.Tests.{le-leb, lt-leb, eq-eqb, ne-eqb, ltb-true, ltb-false}
+use lib.Dec.{eqb, ltb, leb}
 use lib.ListN.{length, getD}
 use lib.Seq.{drop-length, drop-cons}
 use Rattle.numbers.specs.Refusal as refusal
@@ -17,18 +17,21 @@ use Rattle.table.specs.First.{Verdict}
 use Rattle.table.specs.First.Verdict.{right, wrong}
 use Rattle.table.specs.Valid.{verdict}
 use Rattle.table.specs.Views.{verdictIs}
+use Rattle.table.specs.Words.{substitutesIn}
 use Rattle.table.specs.Rows.{tableOf}
 use Rattle.table.specs.declared.answers.Verdict as verdictT
 use Rattle.table.specs.declared.answers.Verdict.the-variants as vv
-use Rattle.model.specs.Items.{Mode}
-use Rattle.model.proofs.Entries.{asked-then}
-use Rattle.model.specs.Whole.{unmade, asked, modeAsked, roomed, spent, shaped, orUnmade, verdictMade, writing}
+use Rattle.model.specs.Items.{Lengths, Mode}
+use Rattle.model.specs.Modes.{lengthsIs}
+use Rattle.model.specs.declared.Lengths as lengthsT
+use Rattle.model.specs.declared.Lengths.the-variants as lv
+use Rattle.model.proofs.Entries.{asked-then, mode-asked, asked-mode}
+use Rattle.model.specs.Whole.{mode, lengthsNumber, modeNumber, modesFor, modeBy, unmade, asked, modeAsked, roomed, spent, shaped, orUnmade, verdictMade, writing}
 use Rattle.writer_parts.specs.declared.Spot.{Spot}
-use Rattle.writer_parts.specs.Notes.{modeIs}
 use Rattle.writer_parts.specs.Walk.{eventsIn, eventsAt, textsAt}
 use Rattle.writer_parts.proofs.WalkLaws.{events-next, events-none, events-count}
 use Rattle.writer.specs.declared.front.Fault.the-variants as fv
-use Rattle.writer.specs.Front.{Fronted, ends, Settled}
+use Rattle.writer.specs.Front.{Asked, Judged, Numbered, Moded, Fronted, ends, Settled}
 
 -- the root: first the type, then the name
 asked-type : (types name type : ℕ) → types ≤ type → asked types name type ≡ fault refusal.root
@@ -39,19 +42,113 @@ asked-name : (types name type : ℕ) → type < types → mostName < name → as
 unfolding asked atMost guard
 asked-name types name type h k = under-then refusal.root h (rw (lt-leb name mostName k))
 
-mode-known : (m : ℕ) → m ≤ 2 → modeAsked m ≡ got (modeIs m)
-unfolding modeAsked modeIs
-mode-known zero h = refl
-mode-known (suc zero) h = refl
-mode-known (suc (suc zero)) h = refl
-mode-known (suc (suc (suc k))) h = absurd (omega arith)
+-- known_mode
+module _ (D : ℕ) where
+  pub known-plain : (n : ℕ) → n ≤ 2 → Judged D n true
+  unfolding modeNumber lengthsNumber
+  known-plain zero h = record { is = record { way = mode Lengths.never false; is = mode-asked D (mode Lengths.never false) (λ e. absurd (true≢false (sym e))) } }
+  known-plain (suc zero) h = record { is = record { way = mode Lengths.optional false; is = mode-asked D (mode Lengths.optional false) (λ e. absurd (true≢false (sym e))) } }
+  known-plain (suc (suc zero)) h = record { is = record { way = mode Lengths.always false; is = mode-asked D (mode Lengths.always false) (λ e. absurd (true≢false (sym e))) } }
+  known-plain (suc (suc (suc n))) h = absurd (omega arith)
 
-mode-unknown : (m : ℕ) → 2 < m → modeAsked m ≡ fault writeMode
-unfolding modeAsked
-mode-unknown zero h = absurd (omega arith)
-mode-unknown (suc zero) h = absurd (omega arith)
-mode-unknown (suc (suc zero)) h = absurd (omega arith)
-mode-unknown (suc (suc (suc k))) h = refl
+  cast-known : (n : ℕ) → 4 ≤ n → n ≤ 6 → 0 < D → Asked D n
+  unfolding modeNumber lengthsNumber
+  cast-known (suc (suc (suc (suc zero)))) h k d = record { way = mode Lengths.never true; is = mode-asked D (mode Lengths.never true) (λ e. d) }
+  cast-known (suc (suc (suc (suc (suc zero))))) h k d = record { way = mode Lengths.optional true; is = mode-asked D (mode Lengths.optional true) (λ e. d) }
+  cast-known (suc (suc (suc (suc (suc (suc zero)))))) h k d = record { way = mode Lengths.always true; is = mode-asked D (mode Lengths.always true) (λ e. d) }
+  cast-known (suc (suc (suc (suc (suc (suc (suc n))))))) h k d = absurd (omega arith)
+  cast-known (suc (suc (suc zero))) h k d = absurd (omega arith)
+  cast-known (suc (suc zero)) h k d = absurd (omega arith)
+  cast-known (suc zero) h k d = absurd (omega arith)
+  cast-known zero h k d = absurd (omega arith)
+
+-- a number that is none of theirs; the last three are none where there are no derivations
+mode-other : (D n : ℕ) → 2 < n → (0 < D → (n ≡ 4 → ⊥) × (n ≡ 5 → ⊥) × (n ≡ 6 → ⊥)) → modeAsked D n ≡ fault writeMode
+unfolding modeAsked modeBy modesFor modeNumber lengthsNumber
+mode-other D n a = go D
+  where
+    go : (D : ℕ) → (0 < D → (n ≡ 4 → ⊥) × (n ≡ 5 → ⊥) × (n ≡ 6 → ⊥)) → modeBy modeNumber (modesFor D) n writeMode ≡ fault writeMode
+    go zero h = rw (ne-eqb n 0 (λ e. omega arith), ne-eqb n 1 (λ e. omega arith), ne-eqb n 2 (λ e. omega arith))
+    go (suc D) h =
+        let k = h (omega arith) in
+        rw (ne-eqb n 0 (λ e. omega arith), ne-eqb n 1 (λ e. omega arith), ne-eqb n 2 (λ e. omega arith), ne-eqb n 4 (k .0), ne-eqb n 5 (k .1), ne-eqb n 6 (k .2))
+
+module _ (D n : ℕ) where
+  pub known-three : 2 < n → n < 4 → Judged D n false
+  known-three h k = record { is = mode-other D n h (λ d. (λ e. omega arith, λ e. omega arith, λ e. omega arith)) }
+
+  pub known-over : 6 < n → Judged D n false
+  known-over h = record { is = mode-other D n (omega arith) (λ d. (λ e. omega arith, λ e. omega arith, λ e. omega arith)) }
+
+  pub known-cast : 4 ≤ n → n ≤ 6 → (d : ℕ) → d ≡ D → Judged D n (ltb 0 d)
+  known-cast h k d e = go (ltb 0 d) refl
+    where
+      go : (u : Bool) → ltb 0 d ≡ u → Judged D n u
+      go true f = record { is = cast-known D n h k (omega (arith, ltb-true 0 d f)) }
+      go false f = record { is = mode-other D n (omega arith) (λ p. absurd (omega (arith, ltb-false 0 d f))) }
+
+pub ruleset known-ways = (known-plain, known-three, known-over, known-cast)
+
+-- lengths_of
+module _ (n : ℕ) where
+  pub lengths-never : n ≡ 0 → Numbered n lv.Never
+  unfolding lengthsNumber lengthsIs
+  lengths-never e = record { is = go }
+    where
+      go : (k : Lengths) → n ≡ lengthsNumber k → lengthsIs lv.Never ≡ k
+      go Lengths.never f = refl
+      go Lengths.optional f = absurd (omega arith)
+      go Lengths.always f = absurd (omega arith)
+
+  pub lengths-optional : n ≡ 1 → Numbered n lv.Optional
+  unfolding lengthsNumber lengthsIs
+  lengths-optional e = record { is = go }
+    where
+      go : (k : Lengths) → n ≡ lengthsNumber k → lengthsIs lv.Optional ≡ k
+      go Lengths.never f = absurd (omega arith)
+      go Lengths.optional f = refl
+      go Lengths.always f = absurd (omega arith)
+
+  pub lengths-always : (n ≡ 0 → ⊥) → (n ≡ 1 → ⊥) → Numbered n lv.Always
+  unfolding lengthsNumber lengthsIs
+  lengths-always e g = record { is = go }
+    where
+      go : (k : Lengths) → n ≡ lengthsNumber k → lengthsIs lv.Always ≡ k
+      go Lengths.never f = absurd (omega arith)
+      go Lengths.optional f = absurd (omega arith)
+      go Lengths.always f = refl
+
+pub ruleset lengths-ways = (lengths-never, lengths-optional, lengths-always)
+
+-- mode_of
+pub moded : (t : List ℕ) (n : ℕ) (k : lengthsT.Lengths) → Numbered (n % 4) k → (s : ℕ) → s ≡ substitutesIn t
+    → Moded t n (record { lengths = k; choices = record { substitutes = ltb 0 s; derived = leb 4 n } })
+unfolding modeNumber lengthsNumber
+moded t n k h s e = record { is = λ way f. go (way .lengths) (way .casting) (asked-mode (tableOf t .derivations) n .says way f .is); choosing = record { none = λ f. let z = ltb-false 0 s f in omega arith } }
+  where
+    go : (l : Lengths) (c : Bool) → n ≡ modeNumber (mode l c) → _≡_ {A = Mode} (mode (lengthsIs k) (leb 4 n)) (mode l c)
+    go l false f = λ i. mode (h .is l (small l f) i) (lt-leb 4 n (below l f) i)
+      where
+        below : (l : Lengths) → n ≡ modeNumber (mode l false) → n < 4
+        below Lengths.never f = omega arith
+        below Lengths.optional f = omega arith
+        below Lengths.always f = omega arith
+
+        small : (l : Lengths) → n ≡ modeNumber (mode l false) → n % 4 ≡ lengthsNumber l
+        small Lengths.never f = omega arith
+        small Lengths.optional f = omega arith
+        small Lengths.always f = omega arith
+    go l true f = λ i. mode (h .is l (small l f) i) (le-leb 4 n (above l f) i)
+      where
+        above : (l : Lengths) → n ≡ modeNumber (mode l true) → 4 ≤ n
+        above Lengths.never f = omega arith
+        above Lengths.optional f = omega arith
+        above Lengths.always f = omega arith
+
+        small : (l : Lengths) → n ≡ modeNumber (mode l true) → n % 4 ≡ lengthsNumber l
+        small Lengths.never f = omega arith
+        small Lengths.optional f = omega arith
+        small Lengths.always f = omega arith
 
 module _ (t : List ℕ) (name ty mode : ℕ) (L : List ℕ) where
   pub front-wrong : (v : verdictT.Verdict) → verdictIs v ≡ verdict t → (i : ℕ) → v ≡ vv.Wrong i → Fronted t name ty mode L (fv.At refusal.table i)
@@ -75,22 +172,30 @@ module _ (t : List ℕ) (name ty mode : ℕ) (L : List ℕ) where
         ok : asked (tableOf t .types) name ty ≡ got tt
         ok = asked-then (tableOf t .types) name ty (rw e at h) g
 
-        pub front-mode : 2 < mode → Fronted t name ty mode L (fv.At writeMode 0)
+        pub front-mode : (u : Bool) → Judged (tableOf t .derivations) mode u → not u ≡ true → Fronted t name ty mode L (fv.At writeMode 0)
         unfolding writing verdictMade orUnmade
-        front-mode m = record { is = λ X room. rw (v, ok, mode-unknown mode m) }
+        front-mode false m z = record { is = λ X room. rw (v, ok, m .is) }
+        front-mode true m z = absurd (true≢false (sym z))
 
-        module _ (m : mode ≤ 2) where
+        module _ (u : Bool) (m : Judged (tableOf t .derivations) mode u) (y : not u ≡ false) where
+          asks : Asked (tableOf t .derivations) mode
+          asks = go u m y
+            where
+              go : (u : Bool) → Judged (tableOf t .derivations) mode u → not u ≡ false → Asked (tableOf t .derivations) mode
+              go true m y = m .is
+              go false m y = absurd (true≢false y)
+
           pub front-parts : (n : ℕ) → n ≡ length L / 4 → 0 < length L % 4 → Fronted t name ty mode L (fv.At noReading n)
           unfolding writing verdictMade orUnmade shaped
-          front-parts n z p = record { is = λ X room. rw (v, ok, mode-known mode m, ne-eqb (length L % 4) 0 (λ q. omega arith), z) }
+          front-parts n z p = record { is = λ X room. rw (v, ok, asks .is, ne-eqb (length L % 4) 0 (λ q. omega arith), z) }
 
           module _ (p : length L % 4 ≤ 0) where
             pub front-many : (n : ℕ) → n ≡ length L / 4 → mostEvents < n → Fronted t name ty mode L (fv.At noReading n)
             unfolding writing verdictMade orUnmade shaped
-            front-many n z q = record { is = λ X room. rw (v, ok, mode-known mode m, eq-eqb (length L % 4) 0 (omega arith), lt-leb (length L / 4) mostEvents (omega arith), z) }
+            front-many n z q = record { is = λ X room. rw (v, ok, asks .is, eq-eqb (length L % 4) 0 (omega arith), lt-leb (length L / 4) mostEvents (omega arith), z) }
 
             pub front-fine : (n : ℕ) → n ≡ length L / 4 → n ≤ mostEvents → Fronted t name ty mode L fv.No
-            front-fine n z q = record { is = record { enters = record { table-right = v; type-known = rw e at h; name-small = g }; mode-is = mode-known mode m; mode-small = m; shape = record { whole = omega arith; few = omega arith } } }
+            front-fine n z q = record { is = record { enters = record { table-right = v; type-known = rw e at h; name-small = g }; asks = asks; shape = record { whole = omega arith; few = omega arith } } }
 
 pub ruleset checked-ways = (front-type, front-name, front-mode, front-parts, front-many, front-fine)
 

@@ -2,6 +2,9 @@
 use Prim.Native.Nat.{ℕ, zero, suc, _+_, _-_, _*_, _/_, _%_, _^_, _<_, _≤_}
 use mathlib.Core.Path.{_≡_, refl, sym, ap, subst, _∙_}
 use mathlib.Core.List.{List, [], _∷_, _++_}
+use mathlib.Core.Bool.{Bool, true, false}
+use mir.Val.{Fits as FitsIn}
+use mir.Syntax.{w8}
 use native.Mathlib.Nat.{zero-div}
 use native.Mathlib.Omega.{arith}
 use native.Mathlib.Decide.{decLt}
@@ -15,11 +18,15 @@ use Rattle.value.specs.Simple.{bytes, AllBytes}
 use Rattle.value.proofs.SimpleLaws.{bytes-octets}
 use Rattle.model.specs.Grammar.{Bits}
 use Rattle.model.proofs.Sums.{bits-append}
-use Rattle.model.specs.Items.{Mode}
+use Rattle.model.specs.Items.{Lengths}
+use Rattle.model.specs.Modes.{lengthsIs, modeIs}
+use Rattle.model.specs.declared.Lengths as lengthsT
+use Rattle.model.specs.declared.Lengths.the-variants as lv
+use Rattle.model.specs.declared.Mode as modeT
 use Rattle.model.specs.Pack.{pack}
 use Rattle.model.proofs.PackLaws.{bit-next, bytes-bit, source-bit, source-past, each-has, pack-length}
-use Rattle.model.specs.Whole.{modeByte, filled}
-use Rattle.writer_parts.specs.Notes.{piece, noteAt, spells, modeIs}
+use Rattle.model.specs.Whole.{mode, lengthsNumber, modeByte, filled}
+use Rattle.writer_parts.specs.Notes.{piece, noteAt, spells}
 use Rattle.writer_parts.proofs.NoteLaws.{piece-fixed, piece-five, piece-bytes}
 use Rattle.writer.specs.Cleared.{Zeros}
 
@@ -86,20 +93,39 @@ octets-both [] b h k = k
 octets-both (x ∷ a) b h k = (h .0, octets-both a b (h .1) k)
 
 -- the mode byte
-module _ (mode : ℕ) where
-  pub byte-never : mode ≡ 0 → 0x0F ≡ modeByte (modeIs mode)
-  unfolding modeByte modeIs
+module _ (k : lengthsT.Lengths) where
+  pub byte-never : k ≡ lv.Never → 0x0F ≡ modeByte (mode (lengthsIs k) false)
+  unfolding modeByte lengthsNumber lengthsIs
   byte-never e = rw e
 
-  pub byte-optional : mode ≡ 1 → 0x4F ≡ modeByte (modeIs mode)
-  unfolding modeByte modeIs
+  pub byte-optional : k ≡ lv.Optional → 0x4F ≡ modeByte (mode (lengthsIs k) false)
+  unfolding modeByte lengthsNumber lengthsIs
   byte-optional e = rw e
 
-  pub byte-always : (mode ≡ 0 → ⊥) → (mode ≡ 1 → ⊥) → 0x8F ≡ modeByte (modeIs mode)
-  unfolding modeByte modeIs
-  byte-always e f = let m : mode ≡ suc (suc (mode - 2)) = omega arith in rw m
+  pub byte-always : k ≡ lv.Always → 0x8F ≡ modeByte (mode (lengthsIs k) false)
+  unfolding modeByte lengthsNumber lengthsIs
+  byte-always e = rw e
 
-pub ruleset first-ways = (byte-never, byte-optional, byte-always)
+pub ruleset lengths-byte-ways = (byte-never, byte-optional, byte-always)
+
+byte-low : (k : Lengths) → modeByte (mode k false) ≤ 0x8F
+unfolding modeByte lengthsNumber
+byte-low Lengths.never = omega arith
+byte-low Lengths.optional = omega arith
+byte-low Lengths.always = omega arith
+
+module _ (m : modeT.Mode) (x : ℕ) (e : x ≡ modeByte (mode (lengthsIs (m .lengths)) false)) where
+  pub first-plain : m .choices .derived ≡ false → x ≡ modeByte (modeIs m)
+  first-plain f = rw f e
+
+  pub first-cast : m .choices .derived ≡ true → x + 0x10 ≡ modeByte (modeIs m)
+  unfolding modeByte
+  first-cast f = rw f (omega arith)
+
+  pub first-fits : FitsIn w8 (x + 0x10)
+  first-fits = let h = byte-low (lengthsIs (m .lengths)) in record { fits = omega arith }
+
+pub ruleset first-ways = (first-plain, first-cast, first-fits)
 
 -- the packed bytes and zeros after them, bit by bit
 module _ (k x : ℕ) (w : List ℕ) (h : Bits w) (fits : 1 + (length w + 7) / 8 ≤ k) (small : x < 256) where
@@ -172,20 +198,22 @@ module _ (k x : ℕ) (w : List ℕ) (h : Bits w) (fits : 1 + (length w + 7) / 8 
       (put-one (bitAt start) (bitAt t) (bitAt whole) 8 w (g .bits) whole-put)
 
 -- draw
-module _ (X N : List ℕ) (mode n x : ℕ) (s : List ℕ) (z : Zeros s) (e : x ≡ modeByte (modeIs mode)) (fits : 1 + (length (spells X N 0 n) + 7) / 8 ≤ length s) where
-  byte-small : (m : Mode) → modeByte m < 256
+module _ (X N : List ℕ) (m : modeT.Mode) (n x : ℕ) (s : List ℕ) (z : Zeros s) (e : x ≡ modeByte (modeIs m)) (fits : 1 + (length (spells X N 0 n) + 7) / 8 ≤ length s) where
+  byte-small : modeByte (modeIs m) < 256
   unfolding modeByte
-  byte-small Mode.never = omega arith
-  byte-small Mode.optional = omega arith
-  byte-small Mode.always = omega arith
+  byte-small = go (m .choices .derived) (byte-low (lengthsIs (m .lengths)))
+    where
+      go : (c : Bool) → modeByte (mode (lengthsIs (m .lengths)) false) ≤ 0x8F → modeByte (mode (lengthsIs (m .lengths)) c) < 256
+      go true h = omega arith
+      go false h = omega arith
 
   pub draw-room : length (spells X N 0 n) ≤ 100000000 → Room (set s 0 x) 8 (length (spells X N 0 n))
   draw-room h = let l = length-set s 0 x in omega arith
 
-  pub draw-done : (t : List ℕ) (p : ℕ) → Wrote (set s 0 x) t 8 (spells X N 0 n) p → length t ≡ length (set s 0 x) → ((i : ℕ) → getD t i 0 < 256) → t ≡ filled (length s) (modeByte (modeIs mode) ∷ pack (spells X N 0 n))
+  pub draw-done : (t : List ℕ) (p : ℕ) → Wrote (set s 0 x) t 8 (spells X N 0 n) p → length t ≡ length (set s 0 x) → ((i : ℕ) → getD t i 0 < 256) → t ≡ filled (length s) (modeByte (modeIs m) ∷ pack (spells X N 0 n))
   draw-done t p g len bytes =
       let k = length s in
       let g′ : Wrote (set (replicate k 0) 0 x) t 8 (spells X N 0 n) p = subst (λ (l : List ℕ). Wrote (set l 0 x) t 8 (spells X N 0 n) p) (z .is) g in
-      drawn k x (spells X N 0 n) (spells-bits X N 0 n) fits (rw e (byte-small (modeIs mode))) t p g′ (len ∙ length-set s 0 x) bytes ∙ rw e
+      drawn k x (spells X N 0 n) (spells-bits X N 0 n) fits (rw e byte-small) t p g′ (len ∙ length-set s 0 x) bytes ∙ rw e
 
 pub ruleset draw-ways = (draw-room, draw-done)

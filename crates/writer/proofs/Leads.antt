@@ -1,6 +1,6 @@
 -- A loop of the walk: what is walked from here on, whatever it comes to, is what was to be walked from the start.
 use Prim.Native.Nat.{ℕ}
-use mathlib.Core.Path.{_≡_, refl}
+use mathlib.Core.Path.{_≡_}
 use mathlib.Core.List.{List, []}
 use Rattle.model.specs.Write.{Bare, Out, wrote, along}
 use Rattle.writer_parts.specs.declared.Spot.{Spot}

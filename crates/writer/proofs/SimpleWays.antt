@@ -1,10 +1,10 @@
 -- Each way through values and attributes.
-use Prim.Native.Nat.{ℕ, zero, suc, _+_, _-_, _*_, _/_, _^_, _<_, _≤_, min}
+use Prim.Native.Nat.{ℕ, suc, _+_, _-_, _*_, _<_, _≤_, min}
 use mathlib.Core.Path.{_≡_, refl, sym, ap, _∙_}
-use mathlib.Core.Bool.{Bool, true, false}
-use mathlib.Core.List.{List, [], _∷_}
+use mathlib.Core.Bool.{true, false}
+use mathlib.Core.List.{List, []}
 use native.Mathlib.Omega.{arith}
-use lib.ListN.{length, getD}
+use lib.ListN.{getD}
 use Rattle.wire.specs.Res.{Res, got}
 use Rattle.table.specs.Rows.{Attribute, attributeOf, attributesFrom}
 use Rattle.table.specs.Views.{attributeIs}
@@ -27,7 +27,7 @@ use Rattle.model.specs.Whole.{eventAt}
 use Rattle.writer_parts.specs.declared.Spot.{Spot}
 use Rattle.writer_parts.specs.declared.Judgement.{Judgement}
 use Rattle.writer_parts.specs.declared.Judgement.the-variants.{Go, Refuse}
-use Rattle.writer_parts.specs.Walk.{eventsIn, eventsAt, textsAt, Ready, Walked, Walks, wanted, noted, alone}
+use Rattle.writer_parts.specs.Walk.{eventsAt, textsAt, Ready, Walked, Walks, wanted, noted, alone}
 use Rattle.writer_parts.proofs.WalkLaws.{went, walked-as, stays, along-stop, along-go, alone-noted, item-rest}
 use Rattle.writer.specs.Meaning.{present, required·, optional·, attribute·, attributes·}
 use Rattle.writer.proofs.Leads.{Leads, leads-start, leads-end, leads-stop, leads-go}

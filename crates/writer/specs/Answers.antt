@@ -2,7 +2,7 @@
 use Prim.Native.Nat.{ℕ}
 use mathlib.Core.Path.{_≡_}
 use mathlib.Core.List.{List, []}
-use Rattle.model.specs.Whole.{Made, made, Outcome, outcomeMade, payloadLeft}
+use Rattle.model.specs.Whole.{Made, Outcome, outcomeMade, payloadLeft}
 use Rattle.writer_parts.specs.declared.Spot.{Spot}
 use Rattle.writer.specs.declared.Answer as code
 

@@ -1,7 +1,7 @@
 -- A lent payload that holds zeros only.
 use Prim.Native.Nat.{ℕ}
 use mathlib.Core.Path.{_≡_}
-use mathlib.Core.List.{List, []}
+use mathlib.Core.List.{List}
 use lib.ListN.{length, replicate}
 
 pub record Zeros (s : List ℕ) : Type 0 where

@@ -2,79 +2,98 @@
 // opened; it falls at each row, so the cycle ends.
 use crate::attributes;
 use crate::values;
+use model::Choices;
+use model::Lengths;
+use model::Mode;
 use numbers::kind;
 use numbers::refusal;
 use table::Content;
 use table::Particle;
 use table::rows;
+use writer_parts::Cast;
 use writer_parts::Judgement;
 use writer_parts::Spot;
+use writer_parts::codes::note_codes;
 use writer_parts::leaves::close;
 use writer_parts::leaves::unlike;
 ghost use mathlib.Core.Path.{_≡_};
 ghost use Prim.Native.Nat.{_+_, _-_, _*_, _<_, _≤_};
 ghost use Rattle.numbers.specs.Limit.{mostOpen};
 ghost use Rattle.table.specs.Words.{typesIn, particlesIn};
+ghost use Rattle.model.specs.Modes.{lengthsIs, typesBy};
+ghost use Rattle.model.specs.Write.{flagIn};
 ghost use Rattle.writer_parts.specs.Walk.{Ready, Walks};
-ghost use Rattle.writer.specs.Meaning.{Right, Within, flagFor, deepAt, element·, inside·, content·, particle·, choose·, occur·, rounds·};
+ghost use Rattle.writer_parts.specs.Codes.{Rowed};
+ghost use Rattle.writer.specs.Meaning.{Right, Within, deepAt, element·, inside·, content·, particle·, choose·, occur·, rounds·};
 
 // The second word of a Start that is wanted where the event has q.
-fn flag_in(mode: u32, q: u32) -> u32
-    ensures { λ r. ⌜ r ≡ flagFor mode q ⌝ }
+fn flag_in(lengths: Lengths, q: u32) -> u32
+    ensures { λ r. ⌜ r ≡ flagIn (lengthsIs lengths) q ⌝ }
 {
-    if mode == numbers::mode::NEVER {
-        return 0;
-    }
-    if mode == numbers::mode::OPTIONAL {
-        if q < 1 {
-            return 0;
+    match lengths {
+        Lengths::Never => 0,
+        Lengths::Optional => {
+            if q < 1 {
+                return 0;
+            }
+            1
         }
-        return 1;
+        Lengths::Always => 1,
     }
-    1
 }
 
-// An element of a name and a type: its Start, what is inside it, its End.
+// An element of a name, a row and a type, which has some choices: its Start, its codes, what is inside it by its effective type, its End.
 pub fn element(
     table: &[u32],
     events: &[u32],
     texts: &[u8],
     notes: &mut [u32],
-    mode: u32,
+    mode: Mode,
     depth: u32,
     c: Spot,
+    choices: Choices,
     name: u32,
     t: u32,
+    row: u32,
 ) -> Judgement
     requires { ⌜
         (Ready (now events) (now texts) (now notes) c)
-        × (Right (now table))
+        × (Right (now table) mode)
+        × (Rowed (now table) choices row)
         × (t < typesIn (now table))
         × (depth ≤ mostOpen) ⌝ }
     ensures { λ r. ⌜
-        Walks (now (events .entry)) (now (texts .entry)) (element· (now (table .entry)) mode depth name t) c
+        Walks (now (events .entry)) (now (texts .entry))
+        (element· (now (table .entry)) mode depth name (typesBy (now (table .entry)) choices t row)) c
         (now (notes .entry)) r (now (notes .exit)) ⌝ }
 {
     let at = c.event;
-    let q = flag_in(mode, rows::word(events, 4 * at + 2));
+    let lengths = mode.lengths;
+    let q = flag_in(lengths, rows::word(events, 4 * at + 2));
     let bad = unlike(events, at, kind::START, name, q);
     if 0 < bad {
         return Judgement::Refuse(bad, at);
     }
-    let held = rows::held(table, t);
-    if !held {
-        return Judgement::Refuse(refusal::NOT_HELD, at);
-    }
+    let past = at + 1;
     let o = Spot {
-        event: at + 1,
+        event: past,
         used: c.used,
         bits: c.bits,
     };
-    let r = inside(table, events, texts, notes, mode, depth, o, t);
-    let Judgement::Go(e) = r else {
-        return r;
-    };
-    close(events, texts, notes, mode, q, c, e)
+    match note_codes(table, events, texts, notes, choices, o, t, row) {
+        Cast::Refuse(e, i) => Judgement::Refuse(e, i),
+        Cast::To(ty, f) => {
+            let held = rows::held(table, ty);
+            if !held {
+                return Judgement::Refuse(refusal::NOT_HELD, at);
+            }
+            let r = inside(table, events, texts, notes, mode, depth, f, ty);
+            let Judgement::Go(e) = r else {
+                return r;
+            };
+            close(events, texts, notes, lengths, q, c, e)
+        }
+    }
 }
 
 // What is inside an element of a type: attributes, then content.
@@ -83,14 +102,14 @@ pub fn inside(
     events: &[u32],
     texts: &[u8],
     notes: &mut [u32],
-    mode: u32,
+    mode: Mode,
     depth: u32,
     c: Spot,
     t: u32,
 ) -> Judgement
     requires { ⌜
         (Ready (now events) (now texts) (now notes) c)
-        × (Right (now table))
+        × (Right (now table) mode)
         × (t < typesIn (now table))
         × (depth ≤ mostOpen) ⌝ }
     ensures { λ r. ⌜
@@ -113,14 +132,14 @@ pub fn content(
     events: &[u32],
     texts: &[u8],
     notes: &mut [u32],
-    mode: u32,
+    mode: Mode,
     depth: u32,
     c: Spot,
     t: u32,
 ) -> Judgement
     requires { ⌜
         (Ready (now events) (now texts) (now notes) c)
-        × (Right (now table))
+        × (Right (now table) mode)
         × (t < typesIn (now table))
         × (depth ≤ mostOpen) ⌝ }
     ensures { λ r. ⌜
@@ -150,14 +169,14 @@ pub fn particle(
     events: &[u32],
     texts: &[u8],
     notes: &mut [u32],
-    mode: u32,
+    mode: Mode,
     depth: u32,
     c: Spot,
     i: u32,
 ) -> Judgement
     requires { ⌜
         (Ready (now events) (now texts) (now notes) c)
-        × (Right (now table))
+        × (Right (now table) mode)
         × (i < particlesIn (now table))
         × (depth ≤ mostOpen) ⌝ }
     ensures { λ r. ⌜
@@ -169,7 +188,22 @@ pub fn particle(
     }
     let d = depth - 1;
     match rows::particle(table, i) {
-        Particle::Element(name, t) => { element(table, events, texts, notes, mode, d, c, name, t) }
+        Particle::Element(name, t, row) => {
+            let choices = mode.choices;
+            element(
+                table,
+                events,
+                texts,
+                notes,
+                mode,
+                d,
+                c,
+                choices,
+                name,
+                t,
+                row,
+            )
+        }
         Particle::Sequence(first, n) => {
             rounds(table, events, texts, notes, mode, d, c, first, 1, n)
         }
@@ -195,7 +229,7 @@ pub fn choose(
     events: &[u32],
     texts: &[u8],
     notes: &mut [u32],
-    mode: u32,
+    mode: Mode,
     depth: u32,
     c: Spot,
     first: u32,
@@ -203,7 +237,7 @@ pub fn choose(
 ) -> Judgement
     requires { ⌜
         (Ready (now events) (now texts) (now notes) c)
-        × (Right (now table))
+        × (Right (now table) mode)
         × (first + n ≤ particlesIn (now table))
         × (depth ≤ mostOpen) ⌝ }
     ensures { λ r. ⌜
@@ -225,7 +259,7 @@ pub fn occur(
     events: &[u32],
     texts: &[u8],
     notes: &mut [u32],
-    mode: u32,
+    mode: Mode,
     depth: u32,
     c: Spot,
     child: u32,
@@ -234,7 +268,7 @@ pub fn occur(
 ) -> Judgement
     requires { ⌜
         (Ready (now events) (now texts) (now notes) c)
-        × (Right (now table))
+        × (Right (now table) mode)
         × (child < particlesIn (now table))
         × (depth ≤ mostOpen) ⌝ }
     ensures { λ r. ⌜
@@ -256,7 +290,7 @@ pub fn rounds(
     events: &[u32],
     texts: &[u8],
     notes: &mut [u32],
-    mode: u32,
+    mode: Mode,
     depth: u32,
     c: Spot,
     first: u32,
@@ -265,7 +299,7 @@ pub fn rounds(
 ) -> Judgement
     requires { ⌜
         (Ready (now events) (now texts) (now notes) c)
-        × (Right (now table))
+        × (Right (now table) mode)
         × (Within (now table) first step n)
         × (depth ≤ mostOpen) ⌝ }
     ensures { λ r. ⌜

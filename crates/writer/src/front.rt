@@ -1,9 +1,14 @@
 // What is judged before the walk: table, root, mode, the list's shape; and after it: what is left over, the room.
+use model::Choices;
+use model::Lengths;
+use model::Mode;
 use numbers::kind;
 use numbers::limit;
 use numbers::refusal;
 use table::Verdict;
 use table::check;
+use table::rows::derivations;
+use table::rows::swaps;
 use table::rows::types;
 use table::rows::word;
 use writer_parts::Spot;
@@ -13,13 +18,55 @@ ghost use lib.ListN.{length};
 ghost use Rattle.numbers.specs.Limit.{mostEvents};
 ghost use Rattle.table.specs.First.Verdict.{right};
 ghost use Rattle.table.specs.Valid.{verdict};
+ghost use Rattle.table.specs.Rows.{tableOf};
 ghost use Rattle.writer_parts.specs.Walk.{eventsIn};
-ghost use Rattle.writer.specs.Front.{Fronted, Settled};
+ghost use Rattle.writer.specs.Front.{Judged, Numbered, Moded, Fronted, Settled};
 
 // Nothing, or number and place of a refusal.
 pub enum Fault {
     No,
     At(u32, usize),
+}
+
+// Whether a number is a mode's: type codes are sent only where the table has derivations.
+fn known_mode(table: &[u32], number: u32) -> bool
+    ensures { λ r. ⌜ Judged (tableOf (now (table .entry)) .derivations) number r ⌝ }
+{
+    if number <= numbers::mode::ALWAYS {
+        return true;
+    }
+    if number < numbers::mode::CASTING {
+        return false;
+    }
+    if numbers::mode::CASTING + numbers::mode::ALWAYS < number {
+        return false;
+    }
+    0 < derivations(table)
+}
+
+// Length coding by its number.
+fn lengths_of(number: u32) -> Lengths
+    ensures { λ r. ⌜ Numbered number r ⌝ }
+{
+    if number == numbers::mode::NEVER {
+        return Lengths::Never;
+    }
+    if number == numbers::mode::OPTIONAL {
+        return Lengths::Optional;
+    }
+    Lengths::Always
+}
+
+// The mode of a number, as a walk over a table goes by it.
+pub fn mode_of(table: &[u32], number: u32) -> Mode
+    ensures { λ r. ⌜ Moded (now (table .entry)) number r ⌝ }
+{
+    let lengths = lengths_of(number % numbers::mode::CASTING);
+    let choices = Choices {
+        substitutes: 0 < swaps(table),
+        derived: numbers::mode::CASTING <= number,
+    };
+    Mode { lengths, choices }
 }
 
 // By a table that is right: root, mode, the list's shape.
@@ -34,7 +81,7 @@ fn judge_checked(table: &[u32], name: u32, t: u32, mode: u32, events: &[u32]) ->
     if limit::MOST_NAME < name {
         return Fault::At(refusal::ROOT, 0);
     }
-    if numbers::mode::ALWAYS < mode {
+    if !known_mode(table, mode) {
         return Fault::At(refusal::WRITE_MODE, 0);
     }
     let n = events.len() / 4;

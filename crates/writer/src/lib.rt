@@ -10,7 +10,10 @@ use cycle::element;
 use front::Fault;
 use front::judge_after;
 use front::judge_before;
+use front::mode_of;
 use ink::draw;
+use model::Choices;
+use model::Mode;
 use numbers::limit;
 use numbers::refusal;
 use wire::Bits;
@@ -22,8 +25,8 @@ ghost use mathlib.Core.List.{[]};
 ghost use Prim.Native.Nat.{_*_, _≤_};
 ghost use lib.ListN.{length};
 ghost use Rattle.model.specs.Write.{wrote};
+ghost use Rattle.model.specs.Modes.{modeIs};
 ghost use Rattle.model.specs.Whole.{declines, roomed, spent, writing};
-ghost use Rattle.writer_parts.specs.Notes.{modeIs};
 ghost use Rattle.writer_parts.specs.Walk.{eventsIn, eventsAt, textsAt, between, Ready};
 ghost use Rattle.writer.specs.Answers.{answerIs, says, Writes, origin};
 ghost use Rattle.writer.specs.Front.{Fine};
@@ -65,26 +68,26 @@ fn accepted(mode: u32, events: u32, text: u32, bits: u32) -> Answer
     }
 }
 
-// After the walk, which came to c: what is left over, the room, and then the bits into a payload that is zero.
+// After the walk in the mode of a number, which came to c: what is left over, the room, and then the bits into a payload that is zero.
 fn finish(
     events: &[u32],
     texts: &[u8],
     notes: &[u32],
-    mode: u32,
+    number: u32,
+    mode: Mode,
     c: Spot,
     payload: &mut [u8],
 ) -> Answer
     requires { ⌜
         (Ready (now events) (now texts) (now notes) c)
         × (c .bits ≡ length (between (now texts) (now notes) origin c))
-        × (Zeros (now payload))
-        × (mode ≤ 2) ⌝ }
+        × (Zeros (now payload)) ⌝ }
     ensures { λ r. ⌜
         Writes
         (spent (eventsIn (now (events .entry)))
         (wrote (between (now (texts .entry)) (now (notes .entry)) origin c) (eventsAt (now (events .entry)) (c .event)) (textsAt (now (texts .entry)) (c .used)))
         (roomed (length (now (payload .entry))) (modeIs mode)))
-        mode (eventsIn (now (events .entry))) (length (now (texts .entry))) (length (now (payload .entry))) r
+        number (eventsIn (now (events .entry))) (length (now (texts .entry))) (length (now (payload .entry))) r
         (now (payload .exit)) ⌝ }
 {
     let f = judge_after(events, texts, c, payload.len());
@@ -93,7 +96,7 @@ fn finish(
     }
     let n = c.event;
     draw(payload, mode, texts, notes, n);
-    accepted(mode, n as u32, c.used as u32, 8 + c.bits)
+    accepted(number, n as u32, c.used as u32, 8 + c.bits)
 }
 
 // Rows that may still be opened below the root.
@@ -102,7 +105,7 @@ const BELOW_ROOT: u32 = limit::MOST_OPEN - 1;
 // Words of a list that is short: its notes are lent less room, as room is zeroed whole before it is used.
 const FEW_WORDS: usize = 512;
 
-// The walk, with room for every event's note, then what it came to, into a payload that is zero.
+// The walk from the root, which has no choice, with room for every event's note, then what it came to, into a payload that is zero.
 fn write_with_notes(
     table: &[u32],
     root_name: u32,
@@ -129,20 +132,27 @@ fn write_with_notes(
         used: 0,
         bits: 0,
     };
+    let nothing = Choices {
+        substitutes: false,
+        derived: false,
+    };
+    let way = mode_of(table, mode);
     let r = element(
         table,
         events,
         texts,
         notes,
-        mode,
+        way,
         BELOW_ROOT,
         start,
+        nothing,
         root_name,
         root_type,
+        0,
     );
     match r {
         Judgement::Refuse(n, p) => refused(n, p),
-        Judgement::Go(c) => finish(events, texts, notes, mode, c, payload),
+        Judgement::Go(c) => finish(events, texts, notes, mode, way, c, payload),
     }
 }
 

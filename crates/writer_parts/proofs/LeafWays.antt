@@ -1,7 +1,7 @@
 -- Each way through the leaves of the walk.
-use Prim.Native.Nat.{ℕ, zero, suc, _+_, _-_, _*_, _/_, _^_, _<_, _≤_, min}
+use Prim.Native.Nat.{ℕ, zero, suc, _+_, _-_, _*_, _^_, _<_, _≤_, min}
 use mathlib.Core.Path.{_≡_, refl, sym, ap, ap₂, _∙_}
-use mathlib.Core.Logic.{_⊎_, inl, inr}
+use mathlib.Core.Logic.{inl, inr}
 use mathlib.Core.Bool.{Bool, true, false, cond}
 use mathlib.Core.List.{List, [], _∷_, _++_, append-nil}
 use native.Mathlib.Omega.{arith}
@@ -9,7 +9,7 @@ use native.Mathlib.Decide.{decLe}
 use borrow.Author.Tests.{lt-ltb, le-ltb, le-leb, lt-leb, eq-eqb, ne-eqb}
 use mir.Val.{Fits as FitsIn}
 use mir.Syntax.{w32, w64}
-use lib.Dec.{ltb, leb, eqb}
+use lib.Dec.{leb}
 use lib.ListN.{length, getD, take, drop, length-append, length-drop, length-take}
 use lib.Seq.{drop-nil}
 use Rattle.numbers.specs.Refusal as refusal
@@ -17,31 +17,29 @@ use Rattle.numbers.specs.Refusal.{noReading, outsideRow, textBytes}
 use Rattle.numbers.specs.Kind as kinds
 use Rattle.numbers.specs.Limit.{mostEvents, mostText}
 use Rattle.wire.specs.declared.Bits.{Bits}
-use Rattle.wire.specs.Res.{Res, got, fault, _>>=_, _>>_, guard}
+use Rattle.wire.specs.Res.{Res, got, fault, _>>_, guard}
 use Rattle.wire.proofs.Res.{tested-then, tested-fault, then, then-fault, under-then, under-fault}
 use Rattle.wire.specs.Number.{code5}
 use Rattle.utf8.specs.Text.{textFault}
-use Rattle.value.specs.Code.{Code, five, bitsOf, fits, codeOut, sizeOut}
-use Rattle.value.specs.Simple.{plain, text, count, bytes, unless}
+use Rattle.value.specs.Code.{Code, bitsOf, fits, codeOut, sizeOut}
+use Rattle.value.specs.Simple.{plain, text, bytes}
 use Rattle.value.proofs.SimpleLaws.{length-bytes, passes-then, passes-fault}
 use Rattle.value.specs.Answer.{codeIs, sizeIs, Under}
 use Rattle.value.proofs.WriteWays.{size-small, code5-short}
 use Rattle.value.specs.declared.Code as codeT
 use Rattle.value.specs.declared.Size as sizeT
 use Rattle.value.specs.declared.Size.the-variants as sv
-use Rattle.model.specs.Write.{Bare, bare, Out, wrote, refused, unlike, taken, coded, simpleOut, asEnd, headOut, lengthOf, sealed}
+use Rattle.model.specs.Write.{Bare, wrote, unlike, coded, simpleOut, asEnd, headOut, lengthOf, sealed}
 use Rattle.model.specs.Model.{end}
-use Rattle.model.specs.Items.{Mode}
-use Rattle.model.specs.Whole.{eventAt}
-use Rattle.writer_parts.specs.declared.Piece.{Piece}
+use Rattle.model.specs.Modes.{lengthsIs}
+use Rattle.model.specs.declared.Lengths as lengthsT
 use Rattle.writer_parts.specs.declared.Note.{Note}
 use Rattle.writer_parts.specs.declared.SizedNote.{SizedNote}
 use Rattle.writer_parts.specs.declared.Spot.{Spot}
-use Rattle.writer_parts.specs.declared.Judgement.{Judgement}
 use Rattle.writer_parts.specs.declared.Judgement.the-variants.{Go, Refuse}
-use Rattle.writer_parts.specs.Notes.{piece, noteBits, noteAt, spells, keeps, fixedPiece, only, textNote, Noted, HeadNote, modeIs}
-use Rattle.writer_parts.proofs.NoteLaws.{piece-five, piece-bytes, piece-none, spells-none, spells-one, spells-by, spells-same, kept-other, kept-note, kept-length}
-use Rattle.writer_parts.specs.Walk.{eventsIn, eventsAt, textsAt, Ready, between, past, Sealing, Went, Stopped, Walked, wanted, judged, noted, textWrong}
+use Rattle.writer_parts.specs.Notes.{noteBits, noteAt, spells, keeps, fixedPiece, only, textNote, Noted, HeadNote}
+use Rattle.writer_parts.proofs.NoteLaws.{piece-five, piece-bytes, piece-none, spells-one, spells-by, spells-same, kept-other, kept-note, kept-length}
+use Rattle.writer_parts.specs.Walk.{eventsIn, eventsAt, textsAt, Ready, between, past, Sealing, Walked, wanted, judged, noted, textWrong}
 use Rattle.writer_parts.proofs.WalkLaws.{events-count, judged-in, taken-like, taken-unlike}
 
 -- unlike
@@ -111,6 +109,13 @@ module _ (L X : List ℕ) (c : Spot) (N : List ℕ) (f : Bare) (m : Res (List �
         let k : suc (length (eventsAt L (c .event + 1))) ≡ eventsIn L - c .event = omega (arith, events-count L (c .event + 1)) in
         record { is = record { out = rw (noted-like, e, k); inside = r .inside } }
 
+    pub noted-spelt : (w : List ℕ) (n : Note) (M : List ℕ) (e : Spot) → noteBits X n ≡ w → M ≡ keeps N (c .event) n → e .event ≡ c .event + 1 → between X M c e ≡ w
+    noted-spelt w n M e is k next =
+        let i = within in
+        let len = r .sized in
+        let one : e .event - c .event ≡ 1 = omega arith in
+        rw (one, k) (spells-one X (keeps N (c .event) n) (c .event) ∙ kept-note N (c .event) n X (omega arith) ∙ is)
+
     pub noted-got : (w : List ℕ) (n : Note) (M : List ℕ) (e : Spot) → m ≡ got (w, textsAt X (e .used)) → noteBits X n ≡ w → M ≡ keeps N (c .event) n
         → e .event ≡ c .event + 1 → e .bits ≡ c .bits + length w → length w ≤ 40000 → e .used ≤ length X → e .used ≤ c .used + mostText → Walked L X (noted f m (eventsAt L (c .event))) c N (Go e) M
     unfolding coded
@@ -118,8 +123,7 @@ module _ (L X : List ℕ) (c : Spot) (N : List ℕ) (f : Bare) (m : Res (List �
         let i = within in
         let few = r .few in
         let len = r .sized in
-        let one : e .event - c .event ≡ 1 = omega arith in
-        let spelt : between X M c e ≡ w = rw (one, k) (spells-one X (keeps N (c .event) n) (c .event) ∙ kept-note N (c .event) n X (omega arith) ∙ is) in
+        let spelt : between X M c e ≡ w = noted-spelt w n M e is k next in
         record {
           is = record {
             out = noted-like ∙ rw (g, spelt, next);
@@ -291,11 +295,11 @@ module _ (L X : List ℕ) (c : Spot) (N : List ℕ) (v : ℕ) (r : Ready L X N c
 pub ruleset text-ways = (noted-unlike, judged-few, judged-room, text-refused, text-small, text-place, text-end, text-eight, text-part, text-bits, text-go)
 
 -- close
-module _ (L X : List ℕ) (c e : Spot) (N : List ℕ) (mode q : ℕ) (r : Ready L X N c) (s : Sealing L X N c e) (b : ℕ) (j : b ≡ judged L (e .event) (wanted kinds.end 0 0)) where
+module _ (L X : List ℕ) (c e : Spot) (N : List ℕ) (lengths : lengthsT.Lengths) (q : ℕ) (r : Ready L X N c) (s : Sealing L X N c e) (b : ℕ) (j : b ≡ judged L (e .event) (wanted kinds.end 0 0)) where
   abbrev inner : List ℕ
   inner = between X N (past c) e
 
-  pub close-unlike : 0 < b → Walked L X (sealed (modeIs mode) q (wrote inner (eventsAt L (e .event)) (textsAt X (e .used)))) c N (Refuse b (e .event)) N
+  pub close-unlike : 0 < b → Walked L X (sealed (lengthsIs lengths) q [] (wrote inner (eventsAt L (e .event)) (textsAt X (e .used)))) c N (Refuse b (e .event)) N
   unfolding sealed
   close-unlike p = record { is = record { out = taken-unlike L (e .event) (wanted kinds.end 0 0) asEnd _ refl b j p (s .ready .inside); inside = s .ready .inside } }
 
@@ -318,8 +322,8 @@ module _ (L X : List ℕ) (c e : Spot) (N : List ℕ) (mode q : ℕ) (r : Ready 
     pub close-fits : (h : SizedNote) (w : List ℕ) → HeadNote h w → FitsIn w32 (e .bits + h .bits)
     close-fits h w g = let a = s .ready .small in let d = s .ready .few in let i = s .ready .inside in let k = g .short in record { fits = omega arith }
 
-    pub close-go : (n : Note) (M : List ℕ) → n ≡ only (fixedPiece 0 0) → M ≡ keeps N (e .event) n → (h : SizedNote) → HeadNote h (headOut (modeIs mode) (lengthOf q (e .bits - c .bits))) → (K : List ℕ) → K ≡ keeps M (c .event) (h .note)
-        → Walked L X (sealed (modeIs mode) q (wrote inner (eventsAt L (e .event)) (textsAt X (e .used)))) c N (Go (record { event = e .event + 1; used = e .used; bits = e .bits + h .bits })) K
+    pub close-go : (n : Note) (M : List ℕ) → n ≡ only (fixedPiece 0 0) → M ≡ keeps N (e .event) n → (h : SizedNote) → HeadNote h (headOut (lengthsIs lengths) (lengthOf q (e .bits - c .bits))) → (K : List ℕ) → K ≡ keeps M (c .event) (h .note)
+        → Walked L X (sealed (lengthsIs lengths) q [] (wrote inner (eventsAt L (e .event)) (textsAt X (e .used)))) c N (Go (record { event = e .event + 1; used = e .used; bits = e .bits + h .bits })) K
     unfolding sealed
     close-go n M nothing k h g K y =
         let i = judged-in L (e .event) (wanted kinds.end 0 0) (sym j ∙ none z) in
@@ -330,7 +334,7 @@ module _ (L X : List ℕ) (c e : Spot) (N : List ℕ) (mode q : ℕ) (r : Ready 
         let bound : e .bits - c .bits ≡ length inner = omega arith in
         let lenM : length M ≡ length N = ap length k ∙ kept-length N (e .event) n in
         let f : Spot = record { event = e .event + 1; used = e .used; bits = e .bits + h .bits } in
-        let head : noteAt X K (c .event) ≡ headOut (modeIs mode) (lengthOf q (e .bits - c .bits)) =
+        let head : noteAt X K (c .event) ≡ headOut (lengthsIs lengths) (lengthOf q (e .bits - c .bits)) =
         ap (λ (l : List ℕ). noteAt X l (c .event)) y ∙ kept-note M (c .event) (h .note) X (omega arith) ∙ g .note .is X in
         let mid : spells X K (c .event + 1) (e .event - (c .event + 1)) ≡ inner =
         spells-same X N K (c .event + 1) (e .event - (c .event + 1)) (λ x u v. ap (λ (l : List ℕ). getD l x 0) y ∙ kept-other M (c .event) (h .note) x (inr (omega arith)) ∙ ap (λ (l : List ℕ). getD l x 0) k ∙ kept-other N (e .event) n x (inl (omega arith))) in
@@ -339,12 +343,12 @@ module _ (L X : List ℕ) (c e : Spot) (N : List ℕ) (mode q : ℕ) (r : Ready 
         ∙ spells-one X M (e .event) ∙ ap (λ (l : List ℕ). noteAt X l (e .event)) k ∙ kept-note N (e .event) n X (omega arith) ∙ rw (nothing, piece-none X) in
         let one : c .event + 1 - c .event ≡ 1 = omega arith in
         let end1 : e .event + 1 - e .event ≡ 1 = omega arith in
-        let first : spells X K (c .event) (c .event + 1 - c .event) ≡ headOut (modeIs mode) (lengthOf q (e .bits - c .bits)) = rw one (spells-one X K (c .event) ∙ head) in
+        let first : spells X K (c .event) (c .event + 1 - c .event) ≡ headOut (lengthsIs lengths) (lengthOf q (e .bits - c .bits)) = rw one (spells-one X K (c .event) ∙ head) in
         let tail : spells X K (c .event + 1) (e .event + 1 - (c .event + 1)) ≡ inner =
         spells-by X K (c .event + 1) (e .event) (e .event + 1) (omega arith) (omega arith) ∙ rw (mid, end1, last) (append-nil inner) in
-        let whole : between X K c f ≡ headOut (modeIs mode) (lengthOf q (e .bits - c .bits)) ++ inner =
+        let whole : between X K c f ≡ headOut (lengthsIs lengths) (lengthOf q (e .bits - c .bits)) ++ inner =
         spells-by X K (c .event) (c .event + 1) (e .event + 1) (omega arith) (omega arith) ∙ ap₂ _++_ first tail in
-        let long = length-append (headOut (modeIs mode) (lengthOf q (e .bits - c .bits))) inner in
+        let long = length-append (headOut (lengthsIs lengths) (lengthOf q (e .bits - c .bits))) inner in
         let hl = g .long in
         let hs = g .short in
         record {

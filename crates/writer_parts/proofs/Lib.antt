@@ -1,5 +1,6 @@
 mod CodeWays
 mod LeafWays
 pub mod NoteLaws
-mod PenWays
+mod NoteWays
 pub mod WalkLaws
+mod PenWays

@@ -1,13 +1,11 @@
 -- The laws of a walk: one part after another, an event taken or refused, an item by itself and then the rest.
-use Prim.Native.Nat.{ℕ, zero, suc, _+_, _-_, _*_, _/_, _<_, _≤_}
+use Prim.Native.Nat.{ℕ, zero, suc, _+_, _-_, _<_, _≤_}
 use mathlib.Core.Path.{_≡_, refl, sym, ap, _∙_}
-use mathlib.Core.Bool.{cond}
 use mathlib.Core.List.{List, [], _∷_, _++_, append-nil}
 use native.Mathlib.Omega.{arith}
 use native.Mathlib.Decide.{decLt}
 use borrow.Author.Tests.{lt-ltb, le-ltb}
-use lib.Dec.{ltb}
-use lib.ListN.{length, getD, drop, length-append}
+use lib.ListN.{length, length-append}
 use Rattle.wire.specs.Res.{Res, got, fault}
 use Rattle.model.specs.Model.{Item}
 use Rattle.model.specs.Write.{Bare, Out, wrote, refused, put, along, unlike, matched, taken, coded, wordOf, asItem, itemOut}
@@ -19,7 +17,7 @@ use Rattle.writer_parts.specs.declared.Judgement.{Judgement}
 use Rattle.writer_parts.specs.declared.Judgement.the-variants.{Go, Refuse}
 use Rattle.writer_parts.specs.Notes.{spells}
 use Rattle.writer_parts.proofs.NoteLaws.{spells-none, spells-by, spells-same}
-use Rattle.writer_parts.specs.Walk.{eventsIn, eventsAt, textsAt, Ready, between, Went, Stopped, Walked, Walks, judged, noted, alone}
+use Rattle.writer_parts.specs.Walk.{eventsIn, eventsAt, textsAt, Ready, between, Went, Stopped, Walked, judged, noted, alone}
 
 -- an answer that goes on, or stops
 module _ {L X : List ℕ} {o : Out} {c : Spot} {N : List ℕ} {r : Judgement} {M : List ℕ} (h : Walked L X o c N r M) where

@@ -2,15 +2,16 @@
 use Prim.Native.Nat.{ℕ, zero, suc, _+_, _-_, _*_, _≤_}
 use mathlib.Core.Path.{_≡_}
 use mathlib.Core.Bool.{cond}
-use mathlib.Core.List.{List, [], _∷_, _++_}
+use mathlib.Core.List.{List, [], _++_}
 use lib.Dec.{ltb, eqb}
 use lib.ListN.{length, getD, set, take, drop}
 use Rattle.wire.specs.Bits.{digits}
 use Rattle.wire.specs.Number.{code5}
 use Rattle.value.specs.Simple.{bytes}
-use Rattle.model.specs.Items.{Mode}
+use Rattle.numbers.specs.Limit.{mostDerivations}
 use Rattle.writer_parts.specs.declared.Piece.{Piece}
 use Rattle.writer_parts.specs.declared.Note.{Note}
+use Rattle.writer_parts.specs.declared.SizedPiece.{SizedPiece}
 use Rattle.writer_parts.specs.declared.SizedNote.{SizedNote}
 
 -- up to 32 bits of x; 33: the vluimsbf5 of x; 34 + n: n bytes of the texts from byte x on
@@ -65,14 +66,18 @@ pub record Spelt (p : Piece) (w : List ℕ) : Type 0 where
 pub record Noted (n : Note) (w : List ℕ) : Type 0 where
   pub is : (X : List ℕ) → noteBits X n ≡ w
 
+-- the most that there is to choose from
+abbrev pub mostChoices : ℕ
+mostChoices = mostDerivations
+
+-- a code of a choice that is these bits, few of them
+pub record PieceNote (p : SizedPiece) (w : List ℕ) : Type 0 where
+  pub piece : Spelt (p .piece) w
+  pub long : p .bits ≡ length w
+  pub short : p .bits ≤ 11
+
 -- a head that is these bits, few of them
 pub record HeadNote (h : SizedNote) (w : List ℕ) : Type 0 where
   pub note : Noted (h .note) w
   pub long : h .bits ≡ length w
   pub short : h .bits ≤ 41
-
--- the mode as the code has it
-unfoldable pub modeIs : ℕ → Mode
-modeIs zero = Mode.never
-modeIs (suc zero) = Mode.optional
-modeIs (suc (suc k)) = Mode.always

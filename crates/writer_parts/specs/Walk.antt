@@ -1,9 +1,9 @@
 -- What a function of the walk promises: where it goes on, the writing gave bits which the notes now spell, with the events and texts from there
 -- on left over; where it stops, the writing was refused so.
-use Prim.Native.Nat.{ℕ, zero, suc, _+_, _-_, _*_, _/_, _<_, _≤_}
+use Prim.Native.Nat.{ℕ, suc, _+_, _-_, _*_, _/_, _<_, _≤_}
 use mathlib.Core.Path.{_≡_}
 use mathlib.Core.Bool.{cond}
-use mathlib.Core.List.{List, [], _∷_, _++_}
+use mathlib.Core.List.{List, []}
 use lib.Dec.{ltb, leb}
 use lib.ListN.{length, getD, take, drop}
 use Rattle.numbers.specs.Refusal.{noReading, outsideRow, textBytes}

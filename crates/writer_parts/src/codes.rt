@@ -1,117 +1,210 @@
-// The note of a code's value, and of an element's head.
-use crate::Note;
-use crate::Piece;
+// An element's codes: which substitute it is and which derived type it has. Their event stands behind Start, where there is something to choose from.
+use crate::Cast;
 use crate::SizedNote;
-use signed::lowered;
-use signed::magnitude;
-use value::Code;
-use value::Inner;
-use wire::choices::width;
-use wire::writing::size5;
+use crate::Spelling;
+use crate::Spot;
+use crate::leaves::keep;
+use crate::leaves::unlike;
+use crate::notes::one_of;
+use crate::notes::pair;
+use model::Choices;
+use numbers::kind;
+use numbers::refusal;
+use table::TypeList;
+use table::rows;
 ghost use mathlib.Core.Path.{_≡_};
-ghost use Rattle.value.specs.Code.{bitsOf, signed, some};
-ghost use Rattle.value.specs.Answer.{innerIs, codeIs};
-ghost use Rattle.model.specs.Write.{headOut, lengthOf};
-ghost use Rattle.writer_parts.specs.Notes.{Spelt, Noted, HeadNote, only, both, fixedPiece, fivePiece, modeIs};
+ghost use mathlib.Core.Bool.{true, cond};
+ghost use mathlib.Core.List.{[]};
+ghost use Prim.Native.Nat.{_≤_, _<_};
+ghost use Rattle.table.specs.First.Verdict.{right};
+ghost use Rattle.table.specs.Valid.{verdict};
+ghost use Rattle.table.specs.Words.{typesIn};
+ghost use Rattle.table.specs.Rows.{tableOf};
+ghost use Rattle.model.specs.Model.{codes};
+ghost use Rattle.model.specs.Modes.{typesBy};
+ghost use Rattle.writer_parts.specs.Notes.{mostChoices};
+ghost use Rattle.writer_parts.specs.Walk.{Ready};
+ghost use Rattle.writer_parts.specs.Codes.{Rowed, Lists, Chosen, Placed, Stands, Spells, Casts};
 
-// So many bits of x.
-fn fixed(width: u32, x: u32) -> Piece
-    ensures { λ r. ⌜ r ≡ fixedPiece width x ⌝ }
+// No types.
+fn nothing() -> TypeList
+    ensures { λ r. ⌜ (r .count ≡ 0) × (r .first ≡ 0) ⌝ }
 {
-    Piece { width, x }
-}
-
-// The vluimsbf5 of x.
-fn five(x: u32) -> Piece
-    ensures { λ r. ⌜ r ≡ fivePiece x ⌝ }
-{
-    Piece { width: 33, x }
-}
-
-// One piece and nothing more; two pieces.
-pub fn just(one: Piece) -> Note
-    ensures { λ r. ⌜ r ≡ only one ⌝ }
-{
-    let two = fixed(0, 0);
-    Note { one, two }
-}
-
-fn pair(one: Piece, two: Piece) -> Note
-    ensures { λ r. ⌜ r ≡ both one two ⌝ }
-{
-    Note { one, two }
-}
-
-// A code that another holds.
-fn inner(i: Inner, v: u32) -> Piece
-    ensures { λ r. ⌜ Spelt r (bitsOf (innerIs i) v) ⌝ }
-{
-    match i {
-        Inner::Choice(n) => fixed(width(n), v),
-        Inner::Five(_) => five(v),
+    TypeList {
+        first: 0,
+        paired: false,
+        count: 0,
     }
 }
 
-// A sign bit and a magnitude.
-fn signed_number(v: u32) -> Note
-    ensures { λ r. ⌜ Noted r (bitsOf signed v) ⌝ }
+// The types of a row's substitutes, where the table has any.
+fn substitutes(table: &[u32], choices: Choices, row: u32) -> TypeList
+    ensures { λ r. ⌜
+        Lists (now (table .entry)) (cond (choices .substitutes) (tableOf (now (table .entry)) .substitutes row) []) r ⌝ }
 {
-    let m = magnitude(v);
-    let far = m.magnitude;
-    if m.negative {
-        return pair(fixed(1, 1), five(far));
+    if choices.substitutes {
+        return rows::substitutes(table, row);
     }
-    pair(fixed(1, 0), five(far))
+    nothing()
 }
 
-// None, or some and how many.
-fn some_number(i: Inner, v: u32) -> Note
-    ensures { λ r. ⌜ Noted r (bitsOf (some (innerIs i)) v) ⌝ }
+// The derived types of type t, where type codes are sent.
+fn derived(table: &[u32], choices: Choices, t: u32) -> TypeList
+    ensures { λ r. ⌜
+        Lists (now (table .entry)) (cond (choices .derived) (tableOf (now (table .entry)) .derived t) []) r ⌝ }
 {
-    if v == 0 {
-        return just(fixed(1, 0));
+    if choices.derived {
+        return rows::derived(table, t);
     }
-    pair(fixed(1, 1), inner(i, v))
+    nothing()
 }
 
-// A value by its code.
-pub fn number(c: Code, v: u32) -> Note
-    ensures { λ r. ⌜ Noted r (bitsOf (codeIs c) v) ⌝ }
+// Whether an element of a row and a type has codes.
+fn due(table: &[u32], choices: Choices, t: u32, row: u32) -> bool
+    ensures { λ r. ⌜ r ≡ codes (typesBy (now (table .entry)) choices t row) ⌝ }
 {
-    match c {
-        Code::Plain(i) => just(inner(i, v)),
-        Code::Word => just(fixed(32, v)),
-        Code::Signed => signed_number(v),
-        Code::Some(i) => some_number(i, v),
-        Code::Shifted(lo, i) => just(inner(i, lowered(lo, v))),
+    let swaps = substitutes(table, choices, row);
+    if 0 < swaps.count {
+        return true;
     }
+    let types = derived(table, choices, t);
+    0 < types.count
 }
 
-// An element's flag and TheLength, over n bits inside it; q is its Start's second word.
-pub fn head(mode: u32, q: u32, n: u32) -> SizedNote
-    ensures { λ r. ⌜ HeadNote r (headOut (modeIs mode) (lengthOf q n)) ⌝ }
+// The type of substitute q, counted from 1; t where there is none.
+fn default_type(table: &[u32], swaps: TypeList, t: u32, q: u32) -> u32
+    requires { ⌜ (swaps .first < 4398046511104) × (q ≤ swaps .count) ⌝ }
+    ensures { λ r. ⌜ Chosen (now (table .entry)) swaps t q r ⌝ }
 {
-    if mode == numbers::mode::NEVER {
-        let note = just(fixed(0, 0));
-        return SizedNote { note, bits: 0 };
-    }
     if q == 0 {
-        if mode == numbers::mode::OPTIONAL {
-            let note = just(fixed(1, 0));
-            return SizedNote { note, bits: 1 };
+        return t;
+    }
+    rows::listed(table, swaps, q - 1)
+}
+
+// Where type p stands in a list, counted from 1; past the list where it is nowhere.
+fn place_in(table: &[u32], types: TypeList, p: u32) -> u32
+    requires { ⌜ (types .first < 4398046511104) × (types .count ≤ mostChoices) ⌝ }
+    ensures { λ r. ⌜ Placed (now (table .entry)) types p r ⌝ }
+{
+    let n = types.count;
+    let mut i: u32 = 0;
+    while i < n {
+        let one = rows::listed(table, types, i);
+        if p == one {
+            return i + 1;
         }
-        let note = just(fixed(0, 0));
-        return SizedNote { note, bits: 0 };
+        i += 1;
     }
-    let length = size5(n);
-    let long = length.0;
-    if mode == numbers::mode::OPTIONAL {
-        let note = pair(fixed(1, 1), five(n));
-        return SizedNote {
-            note,
-            bits: 1 + long,
-        };
+    n + 1
+}
+
+// The same where a type t comes before the list, as 0.
+fn standing(table: &[u32], types: TypeList, t: u32, p: u32) -> u32
+    requires { ⌜ (types .first < 4398046511104) × (types .count ≤ mostChoices) ⌝ }
+    ensures { λ r. ⌜ Stands (now (table .entry)) types t p r ⌝ }
+{
+    if p == t {
+        return 0;
     }
-    let note = just(five(n));
-    SizedNote { note, bits: long }
+    place_in(table, types, p)
+}
+
+// The codes of substitute q and effective type p; OUTSIDE_ROW where there is no such substitute, or p is neither its type nor derived from that.
+fn spell(table: &[u32], choices: Choices, t: u32, row: u32, p: u32, q: u32) -> Spelling
+    requires { ⌜
+        (verdict (now table) ≡ right) × (t < typesIn (now table)) × (Rowed (now table) choices row) ⌝ }
+    ensures { λ r. ⌜ Spells (now (table .entry)) (typesBy (now (table .entry)) choices t row) p q r ⌝ }
+{
+    let swaps = substitutes(table, choices, row);
+    let n = swaps.count;
+    if n < q {
+        return Spelling::Refuse(refusal::OUTSIDE_ROW);
+    }
+    let own = default_type(table, swaps, t, q);
+    let types = derived(table, choices, own);
+    let m = types.count;
+    let k = standing(table, types, own, p);
+    if m < k {
+        return Spelling::Refuse(refusal::OUTSIDE_ROW);
+    }
+    let one = one_of(n, q);
+    let two = one_of(m, k);
+    let first = one.piece;
+    let second = two.piece;
+    let note = pair(first, second);
+    let bits = one.bits + two.bits;
+    let both = SizedNote { note, bits };
+    Spelling::Note(both)
+}
+
+// The codes' event, where it is due: judged and noted.
+fn note_due(
+    table: &[u32],
+    events: &[u32],
+    texts: &[u8],
+    notes: &mut [u32],
+    choices: Choices,
+    c: Spot,
+    t: u32,
+    row: u32,
+) -> Cast
+    requires { ⌜
+        (Ready (now events) (now texts) (now notes) c)
+        × (verdict (now table) ≡ right)
+        × (t < typesIn (now table))
+        × (Rowed (now table) choices row)
+        × (codes (typesBy (now table) choices t row) ≡ true) ⌝ }
+    ensures { λ r. ⌜
+        Casts (now (table .entry)) (now (events .entry)) (now (texts .entry))
+        (typesBy (now (table .entry)) choices t row) c (now (notes .entry)) r (now (notes .exit)) ⌝ }
+{
+    let at = c.event;
+    let p = rows::word(events, 4 * at + 1);
+    let q = rows::word(events, 4 * at + 2);
+    let bad = unlike(events, at, kind::CAST, p, q);
+    if 0 < bad {
+        return Cast::Refuse(bad, at);
+    }
+    match spell(table, choices, t, row, p, q) {
+        Spelling::Refuse(e) => Cast::Refuse(e, at),
+        Spelling::Note(both) => {
+            let note = both.note;
+            keep(notes, at, note);
+            let past = at + 1;
+            let bits = c.bits + both.bits;
+            let next = Spot {
+                event: past,
+                used: c.used,
+                bits,
+            };
+            Cast::To(p, next)
+        }
+    }
+}
+
+// The codes of an element of a row and a type whose Start was taken.
+pub fn note_codes(
+    table: &[u32],
+    events: &[u32],
+    texts: &[u8],
+    notes: &mut [u32],
+    choices: Choices,
+    c: Spot,
+    t: u32,
+    row: u32,
+) -> Cast
+    requires { ⌜
+        (Ready (now events) (now texts) (now notes) c)
+        × (verdict (now table) ≡ right)
+        × (t < typesIn (now table))
+        × (Rowed (now table) choices row) ⌝ }
+    ensures { λ r. ⌜
+        Casts (now (table .entry)) (now (events .entry)) (now (texts .entry))
+        (typesBy (now (table .entry)) choices t row) c (now (notes .entry)) r (now (notes .exit)) ⌝ }
+{
+    if due(table, choices, t, row) {
+        return note_due(table, events, texts, notes, choices, c, t, row);
+    }
+    Cast::To(t, c)
 }

@@ -3,9 +3,10 @@ use crate::Judgement;
 use crate::Note;
 use crate::Piece;
 use crate::Spot;
-use crate::codes::head;
-use crate::codes::just;
-use crate::codes::number;
+use crate::notes::head;
+use crate::notes::just;
+use crate::notes::number;
+use model::Lengths;
 use numbers::kind;
 use numbers::limit;
 use numbers::refusal;
@@ -24,8 +25,9 @@ ghost use Rattle.numbers.specs.Limit.{mostText};
 ghost use Rattle.wire.specs.Res.{got};
 ghost use Rattle.value.specs.Simple.{plain, text};
 ghost use Rattle.value.specs.Answer.{codeIs};
+ghost use Rattle.model.specs.Modes.{lengthsIs};
 ghost use Rattle.model.specs.Write.{wrote, simpleOut, sealed};
-ghost use Rattle.writer_parts.specs.Notes.{keeps, fixedPiece, only, textNote, modeIs};
+ghost use Rattle.writer_parts.specs.Notes.{keeps, fixedPiece, only, textNote};
 ghost use Rattle.writer_parts.specs.Walk.{eventsAt, textsAt, between, Ready, Walked, Sealing, wanted, judged, noted, textWrong};
 
 // What is wrong with event at where one of these words is wanted; NO_READING where there is none.
@@ -210,7 +212,7 @@ pub fn close(
     events: &[u32],
     texts: &[u8],
     notes: &mut [u32],
-    mode: u32,
+    lengths: Lengths,
     q: u32,
     c: Spot,
     e: Spot,
@@ -218,7 +220,7 @@ pub fn close(
     requires { ⌜ (Ready (now events) (now texts) (now notes) c) × Sealing (now events) (now texts) (now notes) c e ⌝ }
     ensures { λ r. ⌜
         Walked (now (events .entry)) (now (texts .entry))
-        (sealed (modeIs mode) q
+        (sealed (lengthsIs lengths) q []
         (wrote (between (now (texts .entry)) (now (notes .entry)) (record { event = c .event + 1; used = c .used; bits = c .bits }) e) (eventsAt (now (events .entry)) (e .event)) (textsAt (now (texts .entry)) (e .used))))
         c (now (notes .entry)) r (now (notes .exit)) ⌝ }
 {
@@ -231,7 +233,7 @@ pub fn close(
     let nothing = Piece { width: 0, x: 0 };
     let none = just(nothing);
     keep(notes, to, none);
-    let h = head(mode, q, e.bits - c.bits);
+    let h = head(lengths, q, e.bits - c.bits);
     let note = h.note;
     keep(notes, at, note);
     let bits = e.bits + h.bits;

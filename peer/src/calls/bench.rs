@@ -3,7 +3,8 @@
 use super::case::{Case, Left};
 use super::tally::Tally;
 use super::{Calls, Judge};
-use crate::demands::Pair;
+use crate::bim;
+use crate::demands::{Pair, CASTS};
 use crate::rng::Rng;
 use std::hint::black_box;
 
@@ -24,6 +25,8 @@ pub struct Bench<'a> {
     calls_made: u64,
     /// Whether the cases are too few to meet every number.
     sample: bool,
+    /// Whether every fourth refusal is looked at for substitution and casting.
+    casts: bool,
     /// The parts before this one, and their cases.
     done: Vec<(&'static str, u64)>,
     /// The seed of the round at hand.
@@ -41,6 +44,7 @@ impl<'a> Bench<'a> {
             cases: 0,
             calls_made: 0,
             sample: false,
+            casts: false,
             done: vec![],
             round: 0,
         }
@@ -49,6 +53,19 @@ impl<'a> Bench<'a> {
     /// The cases are too few to meet every number.
     pub fn is_sample(&mut self) {
         self.sample = true;
+    }
+
+    /// Refusals of substitution and casting are counted from here on.
+    pub fn count_casts(&mut self) {
+        self.casts = true;
+    }
+
+    /// Whether every refusal that substitution and casting have of their own was met; tells all of them.
+    pub fn casts_are_whole(&self) -> bool {
+        for (item, _, numbers) in self.tally.casts.rows() {
+            println!("refused, {item}: {numbers}");
+        }
+        self.tally.casts.has_met(&CASTS)
     }
 
     /// The cases from here on belong to `part`.
@@ -98,6 +115,9 @@ impl<'a> Bench<'a> {
         self.cases += 1;
         self.calls_made += 1;
         self.tally.count(self.part, kind, case.call, expected.number);
+        if self.casts && expected.number > bim::ACCEPTED && self.calls_made.is_multiple_of(4) {
+            self.tally.count_cast(case, expected.number);
+        }
         if got != expected || touched.is_some() {
             let place = format!("{}, {kind}, round {}: {}", self.part, self.round, case.call.name());
             self.tally.differ(case, || format!("{place}: {}", difference(case, &got, &expected, touched)));

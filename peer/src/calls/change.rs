@@ -12,7 +12,7 @@ use crate::words::{big_endian, words_of};
 /// Changes the case.
 pub fn change(rng: &mut Rng, case: &mut Case) {
     match rng.below(12) {
-        0 => case.mode = rng.below(4) as u32,
+        0 => case.mode = rng.below(8) as u32,
         1 => case.root = root(rng, case.root, case.inputs[0].get(7).map_or(1, |&types| u32::from(types).max(1))),
         2 => other_room(rng, case),
         3 => change_table(rng, case),
@@ -70,7 +70,8 @@ fn turn(rng: &mut Rng, case: &mut Case) {
         Call::Read => match (left.events(), left.texts()) {
             (Some(events), Some(texts)) if left.is_accepted() => {
                 let room = case.inputs[1].len() + rng.below(60);
-                Case::write(&[], case.root, rng.below(3) as u32, events.to_vec(), texts.to_vec(), room)
+                let mode = if rng.one_in(2) { left.word(1) as u32 } else { rng.below(7) as u32 };
+                Case::write(&[], case.root, mode, events.to_vec(), texts.to_vec(), room)
             }
             _ => return change_content(rng, case),
         },
@@ -89,7 +90,7 @@ fn turn(rng: &mut Rng, case: &mut Case) {
 fn other_flags(rng: &mut Rng, case: &mut Case) {
     if case.call == Call::Write {
         let (mode, among) = rng.pick(&[(0, 1), (1, 2), (1, 2), (2, 2)]);
-        case.mode = mode;
+        case.mode = mode + (case.mode & bim::CASTING);
         for event in
             case.inputs[1].chunks_exact_mut(bim::EVENT).filter(|event| event[..4] == bim::KIND_START.to_be_bytes())
         {

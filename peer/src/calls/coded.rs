@@ -15,7 +15,7 @@ const FOUR_BYTES: u8 = 251;
 /// In the byte before a table: it is one of the named cases'.
 const NAMED: u8 = 0x80;
 /// The most words of a table or list, and the most room: somewhat more than a call can use.
-const MOST_GIVEN: usize = 9_000;
+const MOST_GIVEN: usize = 15_000;
 const MOST_ROOM: usize = 33_000;
 /// Words from here on give the area other rooms than the right one, all below this.
 const ODD_AREA: usize = 240;

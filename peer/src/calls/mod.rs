@@ -104,6 +104,7 @@ pub fn run(calls: &dyn Calls, cases: u64, seed: u64) -> Bench<'_> {
     bench.begin_part("named");
     reading::named(&mut bench);
     writing::named(&mut bench);
+    bench.count_casts();
     all_seeded(&mut bench, cases, seed);
     bench
 }

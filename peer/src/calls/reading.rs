@@ -267,7 +267,8 @@ fn noise(bench: &mut Bench<'_>, rng: &mut Rng) {
     ask(bench, "noise as payload", &case);
     case.inputs[0] = (0..rng.below(200)).map(|_| rng.pick(&[0, 0, 0, 1, 2, 3, 255])).collect();
     if rng.one_in(2) && case.inputs[0].len() >= 16 {
-        case.inputs[0][..16].copy_from_slice(&big_endian(&[1, 1, rng.below(4) as u32, rng.below(9) as u32]));
+        let form = rng.pick(&[bim::FORM_PLAIN, bim::FORM_CASTS]);
+        case.inputs[0][..16].copy_from_slice(&big_endian(&[form, 1, rng.below(4) as u32, rng.below(9) as u32]));
     }
     check(bench, "noise as table", &case.inputs[0]);
     ask(bench, "noise as table", &case);
@@ -297,7 +298,7 @@ fn large(bench: &mut Bench<'_>, rng: &mut Rng) {
     ask(bench, "large payloads", &case);
     case.inputs[1].iter_mut().skip(1).for_each(|byte| *byte = (rng.word() & rng.word() & rng.word()) as u8);
     ask(bench, "large payloads", &case);
-    let mut table = cases::largest_table().to_vec();
+    let mut table = rng.pick(&cases::largest_tables()).to_vec();
     if rng.one_in(2) {
         damage_table(rng, &mut table);
     }

@@ -1,8 +1,11 @@
 //! What was compared: cases by part and kind, pairs of tables, and the smallest case that differs.
 
 use super::case::{Call, Case};
+use crate::bim;
 use crate::demands::Pairs;
+use crate::model;
 use crate::tally;
+use crate::words::words_of;
 use std::collections::BTreeMap;
 
 /// All that a run met.
@@ -14,6 +17,8 @@ pub struct Tally {
     pub pairs: Pairs,
     /// Answers and differences.
     pub met: tally::Tally,
+    /// What was refused of substitution and casting, by the model's words for it.
+    pub casts: tally::Tally,
     /// The smallest case that differs.
     pub smallest: Option<Case>,
 }
@@ -23,6 +28,25 @@ impl Tally {
     pub fn count(&mut self, part: &'static str, kind: &'static str, call: Call, number: u32) {
         *self.kinds.entry((part, kind)).or_default() += 1;
         self.met.count(call.name(), number);
+    }
+
+    /// Counts what is refused, as far as substitution and casting have to do with it.
+    pub fn count_cast(&mut self, case: &Case, number: u32) {
+        if number == bim::AREA_SIZE || !case.inputs[0].len().is_multiple_of(4) {
+            return;
+        }
+        let words = |index: usize| words_of(&case.inputs[index]);
+        let (table, (name, of_type)) = (words(0), case.root);
+        let item = match case.call {
+            Call::Check => model::check_table(&table).and_then(|word| model::part(&table, word)).unwrap_or(""),
+            Call::Read => {
+                model::read(&table, name, of_type, &case.inputs[1], case.rooms[0] / bim::EVENT, case.rooms[1]).item
+            }
+            Call::Write => model::write(&table, name, of_type, case.mode, &words(1), &case.inputs[2], case.rooms[0]).1,
+        };
+        if !item.is_empty() {
+            self.casts.count(item, number);
+        }
     }
 
     /// Keeps a difference.

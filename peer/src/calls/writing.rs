@@ -202,13 +202,13 @@ fn texts(bench: &mut Bench<'_>, rng: &mut Rng) {
 
 fn modes(bench: &mut Bench<'_>, rng: &mut Rng) {
     let (table, mut sample) = table_and_sample(rng, 0);
-    for mode in [0, 1, 2, 3, 4, edge_word(rng)] {
+    for mode in [0, 1, 2, 3, 4, 5, 6, 7, edge_word(rng)] {
         let mut case = Case::write_sample(&table, &sample);
         case.mode = mode;
         case.rooms[0] += 200;
         ask(bench, "every mode", &case);
         // The same list as this mode has it.
-        let flag = if rng.one_in(3) { rng.below(2) as u32 } else { mode.min(2) / 2 };
+        let flag = if rng.one_in(3) { rng.below(2) as u32 } else { (mode % bim::CASTING).min(2) / 2 };
         sample.events.iter_mut().filter(|event| event[0] == bim::KIND_START).for_each(|event| event[2] = flag);
         put_list(&mut case, &sample.events);
         ask(bench, "every mode", &case);
@@ -282,7 +282,7 @@ fn noise(bench: &mut Bench<'_>, rng: &mut Rng) {
             list = (0..rng.below(100)).map(|_| rng.word() as u8).collect();
         }
         let texts = (0..rng.below(9)).map(|_| rng.word() as u8).collect();
-        ask(bench, "noise", &Case::write(&table, root, rng.below(4) as u32, list, texts, rng.below(60)));
+        ask(bench, "noise", &Case::write(&table, root, rng.below(8) as u32, list, texts, rng.below(60)));
     }
 }
 
@@ -319,7 +319,7 @@ pub fn named(bench: &mut Bench<'_>) {
     for base in super::named().into_iter().filter(|case| case.call == Call::Write) {
         let room = base.rooms[0];
         ask(bench, "named lists", &base);
-        for mode in 0..4 {
+        for mode in 0..8 {
             ask(bench, "named lists, other modes", &Case { mode, ..base.clone() });
         }
         for rooms in [

@@ -1,6 +1,6 @@
 //! The calls to be timed: a table, a root, and a list with its payload; or a payload and a list that are refused at their end.
 
-use super::guide::guide;
+use super::guide::{cast_guide, guide};
 use crate::bim;
 use crate::call::Write;
 use crate::calls::Case;
@@ -91,6 +91,7 @@ fn many_of(kind: [u32; 7]) -> Rows {
         types: vec![complex(0, 1, 0), kind, simple(bim::UNSIGNED, 0, 0)],
         attributes: vec![[30, 1, 2]],
         particles: vec![occurs(1, 0, bim::UNBOUNDED), element(31, 1)],
+        casts: None,
     }
 }
 
@@ -174,6 +175,7 @@ pub fn standard() -> Vec<Input> {
         chain("64 rows open", 64),
         numbers("2,048 events", 681),
         guide(50).refused(),
+        cast_guide(50),
     ]
 }
 

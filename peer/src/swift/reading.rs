@@ -1,7 +1,7 @@
 //! The reader, for speed.
 
 use super::bits::{copy_text, five, front, width, window};
-use super::table::{word, Table};
+use super::table::{word, Casts, Table};
 use super::{fill_area, refuse, whole_area};
 use crate::bim;
 use crate::reader::mode_of;
@@ -36,7 +36,9 @@ pub fn read(
     let mut reader = Reader {
         table,
         payload,
-        mode,
+        lengths: mode % bim::CASTING,
+        casting: mode >= bim::CASTING,
+        codes: table.codes(mode >= bim::CASTING),
         at: 8,
         events: &mut slots[..room],
         stored: 0,
@@ -48,7 +50,7 @@ pub fn read(
         open: 0,
     };
     let end = 8 * payload.len();
-    let read = reader.element(root_name, root_type, end, bim::MOST_OPEN).and_then(|()| reader.padding(end));
+    let read = reader.element::<false>(0, root_name, root_type, end, bim::MOST_OPEN).and_then(|()| reader.padding(end));
     let Reader { at, stored, used, number, place, names, open, .. } = reader;
     if read.is_none() {
         events.fill(0);
@@ -75,14 +77,18 @@ fn begin<'a>(
     if payload.is_empty() || payload.len() > bim::MOST_PAYLOAD {
         return Err((bim::PAYLOAD_SIZE, 0));
     }
-    let mode = mode_of(payload[0]).ok_or((bim::MODE_BYTE, 0))?;
+    let mode = mode_of(payload[0], table.derivations()).ok_or((bim::MODE_BYTE, 0))?;
     Ok((table, mode))
 }
 
 struct Reader<'a> {
     table: Table<'a>,
     payload: &'a [u8],
-    mode: u32,
+    /// Of the mode, length coding.
+    lengths: u32,
+    casting: bool,
+    /// Where any element can have codes.
+    codes: Option<Casts<'a>>,
     /// The next bit.
     at: usize,
     /// As many as there is room for.
@@ -96,6 +102,14 @@ struct Reader<'a> {
     /// Of the open elements, as many as `open` says.
     names: [u16; bim::MOST_NAMES],
     open: usize,
+}
+
+/// What an element's codes say, and the first bit behind them.
+#[derive(Clone, Copy)]
+struct Cast {
+    of_type: u32,
+    substitute: u32,
+    next: usize,
 }
 
 /// An answer of nothing is a refusal, which then stands in the reader.
@@ -130,19 +144,19 @@ impl Reader<'_> {
         Some(())
     }
 
-    /// An element and all in it, below the wall `end`; `left` rows may still be opened.
+    /// An element and all in it, below the wall `end`; `left` rows may still be opened. With `CODES` it may have those of its particle row.
     #[inline(always)]
-    fn element(&mut self, name: u32, of_type: u32, end: usize, left: usize) -> Step {
+    fn element<const CODES: bool>(&mut self, particle: u32, name: u32, of_type: u32, end: usize, left: usize) -> Step {
         let first = self.at;
         if left == 0 {
             return self.refuse(bim::DEPTH, first);
         }
-        let mut coded = self.mode == bim::MODE_ALWAYS;
+        let mut coded = self.lengths == bim::MODE_ALWAYS;
         let mut body = first;
         let mut wall = end;
-        if self.mode > bim::MODE_NEVER {
+        if self.lengths > bim::MODE_NEVER {
             let mut bits = window(self.payload, first);
-            if self.mode == bim::MODE_OPTIONAL {
+            if self.lengths == bim::MODE_OPTIONAL {
                 if first == end {
                     return self.refuse(bim::PAST_END, first);
                 }
@@ -159,6 +173,11 @@ impl Reader<'_> {
                 wall = body + length as usize;
             }
         }
+        let mut cast = Cast { of_type, substitute: 0, next: body };
+        if CODES {
+            cast = self.cast(particle, cast, wall)?;
+        }
+        let of_type = cast.of_type;
         let row = &self.table.types[of_type as usize];
         if word(row, 0) == 0 {
             if !coded {
@@ -169,6 +188,9 @@ impl Reader<'_> {
         self.store(bim::KIND_START, name, u32::from(coded), body)?;
         self.names[self.open] = name as u16;
         self.open += 1;
+        if CODES && cast.next > body {
+            self.store(bim::KIND_CAST, of_type, cast.substitute, cast.next)?;
+        }
         let attributes = word(row, 3);
         if attributes > 0 {
             self.attributes(word(row, 2), attributes, wall)?;
@@ -184,6 +206,44 @@ impl Reader<'_> {
         self.store(bim::KIND_END, 0, 0, self.at)?;
         self.open -= 1;
         Some(())
+    }
+
+    /// An element that may have codes: apart, so that without any it costs one test.
+    #[inline(never)]
+    fn with_codes(&mut self, particle: u32, name: u32, of_type: u32, end: usize, left: usize) -> Step {
+        self.element::<true>(particle, name, of_type, end, left)
+    }
+
+    /// The codes of an element behind its head, as far as its row has any.
+    #[inline(always)]
+    fn cast(&mut self, particle: u32, own: Cast, wall: usize) -> Step<Cast> {
+        let Some(casts) = self.codes else {
+            return Some(own);
+        };
+        let Cast { mut of_type, mut substitute, next: body } = own;
+        let mut next = body;
+        let substitutes = casts.substitutes(particle);
+        if !substitutes.is_empty() {
+            let read = one_of(substitutes.len() as u32, window(self.payload, next), wall - next);
+            let (number, size) = self.or_refuse(read, body)?;
+            if number > 0 {
+                of_type = word(&substitutes[number as usize - 1], 1);
+            }
+            substitute = number;
+            next += size;
+        }
+        if self.casting {
+            let derived = casts.derived(of_type);
+            if !derived.is_empty() {
+                let read = one_of(derived.len() as u32, window(self.payload, next), wall - next);
+                let (number, size) = self.or_refuse(read, body)?;
+                if number > 0 {
+                    of_type = u32::from_be_bytes(derived[number as usize - 1]);
+                }
+                next += size;
+            }
+        }
+        Some(Cast { of_type, substitute, next })
     }
 
     fn attributes(&mut self, first: u32, count: u32, end: usize) -> Step {
@@ -255,11 +315,14 @@ impl Reader<'_> {
         self.store(bim::KIND_VALUE, count, 0, next)
     }
 
-    fn particle(&mut self, row: u32, end: usize, left: usize) -> Step {
-        let row = &self.table.particles[row as usize];
+    fn particle(&mut self, index: u32, end: usize, left: usize) -> Step {
+        let row = &self.table.particles[index as usize];
         let [of_kind, p, q, r] = [0, 1, 2, 3].map(|index| word(row, index));
         if of_kind == bim::ELEMENT {
-            return self.element(p, q, end, left);
+            if self.codes.is_some() {
+                return self.with_codes(index, p, q, end, left);
+            }
+            return self.element::<false>(index, p, q, end, left);
         }
         let at = self.at;
         if left == 0 {
@@ -332,6 +395,18 @@ fn choice(most: u32, bits: u64, room: usize) -> Result<(u32, usize), u32> {
         return Err(bim::NO_SUCH_CODE);
     }
     Ok((value, size as usize))
+}
+
+/// None, or one of `choices` from 1 on.
+#[inline(always)]
+fn one_of(choices: u32, bits: u64, room: usize) -> Result<(u32, usize), u32> {
+    if room == 0 {
+        return Err(bim::PAST_END);
+    }
+    if bits >> 63 == 0 {
+        return Ok((0, 1));
+    }
+    choice(choices - 1, bits << 1, room - 1).map(|(number, size)| (number + 1, size + 1))
 }
 
 /// A vluimsbf5 up to `most`.

@@ -5,6 +5,8 @@ use crate::bim;
 type TypeRow = [u8; 4 * bim::TYPE_ROW];
 type AttributeRow = [u8; 4 * bim::ATTRIBUTE_ROW];
 type ParticleRow = [u8; 4 * bim::PARTICLE_ROW];
+type Word = [u8; 4];
+type Pair = [u8; 8];
 
 /// A word of a row.
 #[inline(always)]
@@ -18,6 +20,19 @@ pub struct Table<'a> {
     pub types: &'a [TypeRow],
     pub attributes: &'a [AttributeRow],
     pub particles: &'a [ParticleRow],
+    /// What stands behind the rows: nothing in form 1.
+    casts: &'a [u8],
+}
+
+/// Derived types and substitutes.
+#[derive(Clone, Copy)]
+pub struct Casts<'a> {
+    /// Derived entries, and of each type the first and how many.
+    entries: &'a [Word],
+    of_types: &'a [Pair],
+    /// Substitutes, and of each particle row the first and how many.
+    substitutes: &'a [Pair],
+    of_rows: &'a [Pair],
 }
 
 impl<'a> Table<'a> {
@@ -34,29 +49,91 @@ impl<'a> Table<'a> {
     fn split(bytes: &'a [u8]) -> Option<Self> {
         let (header, rows) = bytes.split_first_chunk::<{ 4 * bim::HEADER }>()?;
         let [types, attributes, particles] = [1, 2, 3].map(|index| word(header, index) as usize);
-        let header_right = word(header, 0) == bim::TABLE_MARK
-            && (1..=bim::MOST_TYPES).contains(&types)
+        let header_right = (1..=bim::MOST_TYPES).contains(&types)
             && attributes <= bim::MOST_ATTRIBUTES
             && particles <= bim::MOST_PARTICLES;
-        if !header_right
-            || rows.len()
-                != 4 * (bim::TYPE_ROW * types + bim::ATTRIBUTE_ROW * attributes + bim::PARTICLE_ROW * particles)
-        {
+        let size = 4 * (bim::TYPE_ROW * types + bim::ATTRIBUTE_ROW * attributes + bim::PARTICLE_ROW * particles);
+        if !header_right {
             return None;
         }
+        let (rows, casts) = rows.split_at_checked(size)?;
         let (types, rows) = rows.split_at(4 * bim::TYPE_ROW * types);
         let (attributes, particles) = rows.split_at(4 * bim::ATTRIBUTE_ROW * attributes);
-        Some(Table {
+        let form = word(header, 0);
+        let form_right = if casts.is_empty() { form == bim::FORM_PLAIN } else { form == bim::FORM_CASTS };
+        form_right.then_some(Table {
             types: types.as_chunks().0,
             attributes: attributes.as_chunks().0,
             particles: particles.as_chunks().0,
+            casts,
         })
+    }
+
+    /// What stands behind the rows, where it has its length.
+    #[inline(always)]
+    fn casts(&self) -> Option<Casts<'a>> {
+        let (counts, rest) = self.casts.split_first_chunk::<8>()?;
+        let [entries, substitutes] = [0, 1].map(|index| word(counts, index) as usize);
+        if entries > bim::MOST_DERIVATIONS || substitutes > bim::MOST_SUBSTITUTES {
+            return None;
+        }
+        let (entries, rest) = rest.split_at_checked(4 * entries)?;
+        let (substitutes, rest) = rest.split_at_checked(8 * substitutes)?;
+        let (of_types, of_rows) = rest.split_at_checked(8 * self.types.len())?;
+        (of_rows.len() == 8 * self.particles.len()).then_some(Casts {
+            entries: entries.as_chunks().0,
+            of_types: of_types.as_chunks().0,
+            substitutes: substitutes.as_chunks().0,
+            of_rows: of_rows.as_chunks().0,
+        })
+    }
+
+    /// D.
+    #[inline(always)]
+    pub fn derivations(&self) -> usize {
+        self.casts.first_chunk::<4>().map_or(0, |count| word(count, 0) as usize)
+    }
+
+    /// What codes are read and written by, where any element can have one.
+    #[inline(always)]
+    pub fn codes(&self, casting: bool) -> Option<Casts<'a>> {
+        if self.casts.is_empty() {
+            return None;
+        }
+        self.casts().filter(|casts| casting || !casts.substitutes.is_empty())
     }
 
     fn is_right(&self) -> bool {
         self.types.iter().all(|row| self.type_right(row))
             && self.attributes.iter().all(|row| self.attribute_right(row))
             && self.particles.iter().enumerate().all(|(index, row)| self.particle_right(index as u32, row))
+            && (self.casts.is_empty() || self.casts_right())
+    }
+
+    #[inline(never)]
+    fn casts_right(&self) -> bool {
+        let Some(casts) = self.casts() else {
+            return false;
+        };
+        let types = self.types.len() as u32;
+        // Which type last had this one among its entries, or was it: counted from 1.
+        let mut stamps = [0; bim::MOST_TYPES];
+        let mut each_once = |stamp: u32, entries: &[Word]| {
+            stamps[stamp as usize - 1] = stamp;
+            entries
+                .iter()
+                .all(|entry| std::mem::replace(&mut stamps[u32::from_be_bytes(*entry) as usize], stamp) != stamp)
+        };
+        casts.entries.iter().all(|entry| u32::from_be_bytes(*entry) < types)
+            && casts.substitutes.iter().all(|pair| (word(pair, 0) <= bim::MOST_NAME) & (word(pair, 1) < types))
+            && (1..).zip(casts.of_types).all(|(stamp, pair)| match span(pair, casts.entries) {
+                Some(entries) => each_once(stamp, entries),
+                None => false,
+            })
+            && casts.of_rows.iter().zip(self.particles).all(|(pair, row)| match word(row, 0) {
+                bim::ELEMENT => span(pair, casts.substitutes).is_some(),
+                _ => *pair == [0; 8],
+            })
     }
 
     #[inline(always)]
@@ -104,6 +181,27 @@ impl<'a> Table<'a> {
             _ => false,
         }
     }
+}
+
+impl<'a> Casts<'a> {
+    /// The types derived from a type.
+    #[inline(always)]
+    pub fn derived(&self, of_type: u32) -> &'a [Word] {
+        span(&self.of_types[of_type as usize], self.entries).unwrap_or(&[])
+    }
+
+    /// The substitutes of a particle row.
+    #[inline(always)]
+    pub fn substitutes(&self, row: u32) -> &'a [Pair] {
+        span(&self.of_rows[row as usize], self.substitutes).unwrap_or(&[])
+    }
+}
+
+/// Of these, as many as a pair says, where they are there.
+#[inline(always)]
+fn span<'a, T>(pair: &Pair, all: &'a [T]) -> Option<&'a [T]> {
+    let (first, count) = (word(pair, 0) as usize, word(pair, 1) as usize);
+    all.get(first..)?.get(..count)
 }
 
 /// Where a table that is not right is wrong, as the judge finds it.

@@ -1,7 +1,7 @@
 //! The writer, for speed: a walk judges every event and packs its code into a word; then the words are put out.
 
 use super::bits::{code5, width, Pen};
-use super::table::{word, Table};
+use super::table::{word, Casts, Table};
 use super::{fill_area, refuse, whole_area};
 use crate::bim;
 
@@ -53,7 +53,8 @@ fn begin(table: &[u8], root_name: u32, root_type: u32, mode: u32) -> Result<Tabl
     if root_type as usize >= table.types.len() || root_name > bim::MOST_NAME {
         return Err((bim::ROOT, 0));
     }
-    if mode > bim::MODE_ALWAYS {
+    let casting = mode >= bim::CASTING;
+    if mode & 3 > bim::MODE_ALWAYS || casting && (mode >= 2 * bim::CASTING || table.derivations() == 0) {
         return Err((bim::WRITE_MODE, 0));
     }
     Ok(table)
@@ -95,8 +96,22 @@ impl Call<'_> {
         let mut pieces = [Piece(0); MOST];
         let &Call { table, mode, list, texts, root_name, root_type } = self;
         let pieces = &mut pieces[..list.len()];
-        let mut walk = Walk { table, mode, list, texts, used: 0, next: 0, bits: 8, number: 0, pieces, filled: 0 };
-        if walk.element(root_name, root_type, bim::MOST_OPEN).is_none() {
+        let casting = mode >= bim::CASTING;
+        let mut walk = Walk {
+            table,
+            lengths: mode % bim::CASTING,
+            casting,
+            codes: table.codes(casting),
+            list,
+            texts,
+            used: 0,
+            next: 0,
+            bits: 8,
+            number: 0,
+            pieces,
+            filled: 0,
+        };
+        if walk.element::<false>(0, root_name, root_type, bim::MOST_OPEN).is_none() {
             return Err((walk.number, walk.next));
         }
         let Walk { used, next, bits, pieces, filled, .. } = walk;
@@ -111,12 +126,9 @@ impl Call<'_> {
         if bytes > bim::MOST_PAYLOAD || bytes > payload.len() {
             return Err((bim::PAYLOAD_ROOM, 0));
         }
-        put_out(
-            &pieces[..filled],
-            texts,
-            [bim::MODE_NEVER_BYTE, bim::MODE_OPTIONAL_BYTE, bim::MODE_ALWAYS_BYTE][mode as usize],
-            &mut payload[..bytes],
-        );
+        let mode_byte = [bim::MODE_NEVER_BYTE, bim::MODE_OPTIONAL_BYTE, bim::MODE_ALWAYS_BYTE][mode as usize & 3];
+        let casting_bit = if casting { bim::CASTING_BYTE } else { 0 };
+        put_out(&pieces[..filled], texts, mode_byte | casting_bit, &mut payload[..bytes]);
         Ok(bits)
     }
 }
@@ -138,7 +150,11 @@ fn put_out(pieces: &[Piece], mut texts: &[u8], mode_byte: u8, payload: &mut [u8]
 
 struct Walk<'a> {
     table: Table<'a>,
-    mode: u32,
+    /// Of the mode, length coding.
+    lengths: u32,
+    casting: bool,
+    /// Where any element can have codes.
+    codes: Option<Casts<'a>>,
     list: &'a [[u8; bim::EVENT]],
     texts: &'a [u8],
     /// Text bytes used.
@@ -212,11 +228,12 @@ impl Walk<'_> {
         Some(left - 1)
     }
 
+    /// An element and all in it. With `CODES` it may have those of its particle row.
     #[inline(always)]
-    fn element(&mut self, name: u32, of_type: u32, left: usize) -> Step {
+    fn element<const CODES: bool>(&mut self, particle: u32, name: u32, of_type: u32, left: usize) -> Step {
         let left = self.enter(left)?;
         let (p, sized) = self.take(bim::KIND_START)?;
-        let flag_right = match self.mode {
+        let flag_right = match self.lengths {
             bim::MODE_NEVER => sized == 0,
             bim::MODE_OPTIONAL => sized <= 1,
             _ => sized == 1,
@@ -224,15 +241,21 @@ impl Walk<'_> {
         if p != name || !flag_right {
             return self.refuse(bim::NO_READING);
         }
-        let row = &self.table.types[of_type as usize];
-        if word(row, 0) == 0 {
-            return self.refuse(bim::NOT_HELD);
-        }
+        let start = self.next;
         self.next += 1;
         // A head's place; its code is known at the end.
         let head = self.filled;
-        self.filled += usize::from(self.mode > bim::MODE_NEVER);
+        self.filled += usize::from(self.lengths > bim::MODE_NEVER);
         let before = self.bits;
+        let mut of_type = of_type;
+        if CODES {
+            of_type = self.cast(particle, of_type)?;
+        }
+        let row = &self.table.types[of_type as usize];
+        if word(row, 0) == 0 {
+            self.next = start;
+            return self.refuse(bim::NOT_HELD);
+        }
         let attributes = word(row, 3);
         if attributes > 0 {
             self.attributes(word(row, 2), attributes)?;
@@ -243,12 +266,12 @@ impl Walk<'_> {
             _ => self.particle(word(row, 4), left)?,
         }
         self.plain(bim::KIND_END, (0, 0))?;
-        if self.mode > bim::MODE_NEVER {
+        if self.lengths > bim::MODE_NEVER {
             let (mut bits, mut size) = (0, 0);
             if sized == 1 {
                 (bits, size) = code5((self.bits - before) as u32);
             }
-            if self.mode == bim::MODE_OPTIONAL {
+            if self.lengths == bim::MODE_OPTIONAL {
                 bits |= u64::from(sized) << size;
                 size += 1;
             }
@@ -256,6 +279,45 @@ impl Walk<'_> {
             self.bits += size as usize;
         }
         Some(())
+    }
+
+    /// An element that may have codes: apart, so that without any it costs one test.
+    #[inline(never)]
+    fn with_codes(&mut self, particle: u32, name: u32, of_type: u32, left: usize) -> Step {
+        self.element::<true>(particle, name, of_type, left)
+    }
+
+    /// The effective type of an element, by the event of its codes where its row has any.
+    #[inline(always)]
+    fn cast(&mut self, particle: u32, own: u32) -> Step<u32> {
+        let Some(casts) = self.codes else {
+            return Some(own);
+        };
+        let substitutes = casts.substitutes(particle);
+        let mut derived: &[_] = if self.casting { casts.derived(own) } else { &[] };
+        if substitutes.is_empty() && derived.is_empty() {
+            return Some(own);
+        }
+        let (p, substitute) = self.take(bim::KIND_CAST)?;
+        if substitute as usize > substitutes.len() {
+            return self.refuse(bim::OUTSIDE_ROW);
+        }
+        let mut default = own;
+        if substitute > 0 {
+            default = word(&substitutes[substitute as usize - 1], 1);
+            derived = if self.casting { casts.derived(default) } else { &[] };
+        }
+        let mut number = 0;
+        if p != default {
+            let Some(index) = derived.iter().position(|entry| *entry == p.to_be_bytes()) else {
+                return self.refuse(bim::OUTSIDE_ROW);
+            };
+            number = index as u32 + 1;
+        }
+        let (first, size) = one_of(substitutes.len() as u32, substitute);
+        let (second, more) = one_of(derived.len() as u32, number);
+        self.put((first << more | second, size + more), 0);
+        Some(p)
     }
 
     fn attributes(&mut self, first: u32, count: u32) -> Step {
@@ -337,11 +399,14 @@ impl Walk<'_> {
         Some(())
     }
 
-    fn particle(&mut self, row: u32, left: usize) -> Step {
-        let row = &self.table.particles[row as usize];
+    fn particle(&mut self, index: u32, left: usize) -> Step {
+        let row = &self.table.particles[index as usize];
         let [of_kind, p, q, r] = [0, 1, 2, 3].map(|index| word(row, index));
         if of_kind == bim::ELEMENT {
-            return self.element(p, q, left);
+            if self.codes.is_some() {
+                return self.with_codes(index, p, q, left);
+            }
+            return self.element::<false>(index, p, q, left);
         }
         let left = self.enter(left)?;
         match of_kind {
@@ -378,6 +443,16 @@ impl Walk<'_> {
 #[inline(always)]
 fn choice(most: u32, value: u32) -> Option<Code> {
     (value <= most).then(|| (u64::from(value), width(most)))
+}
+
+/// None, or one of `choices` from 1 on; nothing where there is none to choose from.
+#[inline(always)]
+fn one_of(choices: u32, number: u32) -> Code {
+    match (choices, number) {
+        (0, _) => (0, 0),
+        (_, 0) => (0, 1),
+        _ => (1 << width(choices - 1) | u64::from(number - 1), 1 + width(choices - 1)),
+    }
 }
 
 /// The count of an occurs row.

@@ -46,7 +46,7 @@ pub const WORKED_EVENTS: [[u32; 4]; 14] = [
 
 /// A table of these rows.
 pub fn table_of(types: &[[u32; 7]], attributes: &[[u32; 3]], particles: &[[u32; 4]]) -> Vec<u32> {
-    Rows { types: types.to_vec(), attributes: attributes.to_vec(), particles: particles.to_vec() }.words()
+    Rows { types: types.to_vec(), attributes: attributes.to_vec(), particles: particles.to_vec(), casts: None }.words()
 }
 
 /// The bits of a text of 0s and 1s, padded with zeros to whole bytes.

@@ -1,17 +1,14 @@
--- `number_of` is the mode's number, case by case.
-use borrow.Author.Needs.{needs}
+-- By whether type codes are sent.
 use Rattle.reader.proofs.Answers.{number-ways}
+use borrow.Author.Needs.{needs}
 use Rattle.reader.proofs.number_of.Statement.{statement}
 use Rattle.reader.proofs.number_of.Tie as tie
 
-enum-told : tie.Need-enum-told
-enum-told c = search needs
+lengths-number-requires : tie.Need-lengths-number-requires
+lengths-number-requires c κs = search needs
 
-enum-told-2 : tie.Need-enum-told-2
-enum-told-2 c = search needs
-
-enum-told-3 : tie.Need-enum-told-3
-enum-told-3 c = search needs
+add-result : tie.Need-add-result
+add-result c = search (needs, number-ways)
 
 returns : tie.Need-returns
 returns c = search (needs, number-ways)
@@ -19,8 +16,5 @@ returns c = search (needs, number-ways)
 returns-2 : tie.Need-returns-2
 returns-2 c = search (needs, number-ways)
 
-returns-3 : tie.Need-returns-3
-returns-3 c = search (needs, number-ways)
-
 pub number-of-spec : {M : Type 1} → statement M
-number-of-spec = tie.close (tie.spec enum-told enum-told-2 enum-told-3 returns returns-2 returns-3)
+number-of-spec = tie.close (tie.spec lengths-number-requires add-result returns returns-2)

@@ -1,11 +1,11 @@
--- `check`: the order of the check, and one answer by hand, since `search` loses its way in so many facts.
-use Rattle.table.proofs.Order.{check-ways, length-wrong}
+-- `check`: the order of the check, most of it by hand, since `search` loses its way in so many facts.
+use Rattle.table.proofs.Order.{check-ways, length-wrong, length-over, length-right, types-few}
 use borrow.Author.Needs.{needs}
 use Rattle.table.proofs.check.Statement.{statement}
 use Rattle.table.proofs.check.Tie as tie
 
 given-requires : tie.Need-given-requires
-given-requires c κs = tt
+given-requires c κs = search needs
 
 enum-told : tie.Need-enum-told
 enum-told c = search needs
@@ -17,27 +17,48 @@ returns : tie.Need-returns
 returns c = search check-ways
 
 word-requires : tie.Need-word-requires
-word-requires c κs = tt
+word-requires c κs = search needs
 
 word-requires-2 : tie.Need-word-requires-2
-word-requires-2 c κs = tt
+word-requires-2 c κs = search needs
 
 word-requires-3 : tie.Need-word-requires-3
-word-requires-3 c κs = tt
+word-requires-3 c κs = search needs
 
-particle-at-requires : tie.Need-particle-at-requires
-particle-at-requires c κs = tt
+size-requires : tie.Need-size-requires
+size-requires c κs = search needs
 
 returns-2 : tie.Need-returns-2
 returns-2 c =
-    length-wrong _ _ (c .before .before .before .before .before .before .before .given .ensures) (c .before .before .before .before .before .enum-told .given .1) _ _ _
-    (c .before .before .before .before .word .ensures) (c .before .before .before .word2 .ensures) (c .before .before .word3 .ensures) _ (c .before .particle-at .ensures) (c .if1 .taken)
-
-every-row-requires : tie.Need-every-row-requires
-every-row-requires c κs = tt
+    let sized = c .before in
+    let counted = sized .before in
+    let told = counted .before .before .before in
+    length-wrong _ _ (told .before .before .given .ensures) (told .enum-told .given .1) _ (counted .before .before .word .ensures)
+    _ _ (counted .before .word2 .ensures) (counted .word3 .ensures) _ (sized .size .ensures) (c .if1 .taken)
 
 returns-3 : tie.Need-returns-3
-returns-3 c = search check-ways
+returns-3 c =
+    let sized = c .before .before in
+    let counted = sized .before in
+    let told = counted .before .before .before in
+    length-over _ _ (told .before .before .given .ensures) (told .enum-told .given .1) _ (counted .before .before .word .ensures)
+    _ _ (counted .before .word2 .ensures) (counted .word3 .ensures) _ (sized .size .ensures) (c .before .if1 .left) (c .if2 .taken)
+
+every-word-requires : tie.Need-every-word-requires
+every-word-requires c κs =
+    let sized = c .before .before in
+    let counted = sized .before in
+    let told = counted .before .before .before in
+    types-few _ _ (told .before .before .given .ensures) (told .enum-told .given .1) _ (counted .before .before .word .ensures)
+
+returns-4 : tie.Need-returns-4
+returns-4 c =
+    let sized = c .before .before .before in
+    let counted = sized .before in
+    let told = counted .before .before .before in
+    length-right _ _ (told .before .before .given .ensures) (told .enum-told .given .1) _ (counted .before .before .word .ensures)
+    _ _ (counted .before .word2 .ensures) (counted .word3 .ensures) _ (sized .size .ensures)
+    (c .before .before .if1 .left) (c .before .if2 .left) _ (c .every-word .ensures)
 
 pub check-spec : {M : Type 1} → statement M
 check-spec =
@@ -50,7 +71,8 @@ check-spec =
     word-requires
     word-requires-2
     word-requires-3
-    particle-at-requires
+    size-requires
     returns-2
-    every-row-requires
-    returns-3)
+    returns-3
+    every-word-requires
+    returns-4)

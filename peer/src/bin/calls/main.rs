@@ -1,5 +1,6 @@
 //! The proved library's C calls against the peer: `calls [--sample] [cases] [seed]`. Exit status 1 on a difference, or where
-//! a number that a call can answer was never met. A sample has no named cases, and may miss numbers.
+//! a number that a call can answer was never met, or a refusal of substitution and casting among the seeded cases. A sample has no
+//! named cases, and may miss numbers.
 
 mod proved;
 
@@ -16,7 +17,8 @@ fn main() -> ExitCode {
     let begun = Instant::now();
     let library = proved::Library::default();
     let run = if sample { peer::calls::sample } else { peer::calls::run };
-    let good = run(&library, cases, seed).report();
+    let mut bench = run(&library, cases, seed);
+    let good = bench.report() && (sample || bench.casts_are_whole());
     // Codes are small: a sample takes more of them, so that every number is met.
     let codes = if sample { 20 * cases } else { cases };
     let good = peer::calls::run_bits(&library, codes, seed).report() && good;

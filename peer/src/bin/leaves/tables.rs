@@ -16,21 +16,22 @@ pub fn named(tally: &mut Tally) {
             ask(tally, table);
         }
     }
-    let largest = cases::largest_table();
-    assert_eq!(largest.len(), bim::MOST_TABLE_WORDS);
-    ask(tally, largest);
-    ask(tally, &largest[..bim::MOST_TABLE_WORDS - 1]);
-    ask(tally, &[largest, &[0]].concat());
-    ask(tally, &[largest, &[7; 1000]].concat());
-    let worked = &cases::worked().table;
-    for words in 0..worked.len() {
-        ask(tally, &worked[..words]);
+    for largest in cases::largest_tables() {
+        ask(tally, largest);
+        ask(tally, &largest[..largest.len() - 1]);
+        ask(tally, &[largest, &[0]].concat());
+        ask(tally, &[largest, &[7; 1000]].concat());
     }
-    for at in 0..worked.len() {
-        for word in (0..8).chain([64, 65, 256, 257, 1024, 1025, 65_535, 65_536, 65_537, 1 << 31, u32::MAX]) {
-            let mut changed = worked.clone();
-            changed[at] = word;
-            ask(tally, &changed);
+    for table in [&cases::worked().table, &cases::cast().table] {
+        for words in 0..table.len() {
+            ask(tally, &table[..words]);
+        }
+        for at in 0..table.len() {
+            for word in (0..8).chain([64, 65, 256, 257, 1024, 1025, 65_535, 65_536, 65_537, 1 << 31, u32::MAX]) {
+                let mut changed = table.clone();
+                changed[at] = word;
+                ask(tally, &changed);
+            }
         }
     }
 }
@@ -49,7 +50,8 @@ pub fn round(rng: &mut Rng, tally: &mut Tally) {
     if rng.one_in(4) {
         let mut words: Vec<_> = (0..rng.below(60)).map(|_| edge_word(rng)).collect();
         let header = words.len().min(rng.below(bim::HEADER + 1));
-        words[..header].copy_from_slice(&[1, 1, 1, 1][..header]);
+        let form = rng.pick(&[bim::FORM_PLAIN, bim::FORM_CASTS]);
+        words[..header].copy_from_slice(&[form, 1, 1, 1][..header]);
         ask(tally, &words);
     }
 }

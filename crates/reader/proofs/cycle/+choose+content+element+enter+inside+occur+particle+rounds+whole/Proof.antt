@@ -1,7 +1,7 @@
 -- The cycle of the reader, whole: each function walks as its meaning says. Depth falls at each row; within a row the calls go element, enter,
 -- whole, inside, content, particle, and choose, occur, rounds, particle. Each answer is a way of specs/Ways, each thing asked a law of specs/Asked.
 use Prim.Native.Nat.{ℕ, _<_, _≤_, _+_, _-_, _*_}
-use mathlib.Core.Path.{_≡_, refl, sym, _∙_}
+use mathlib.Core.Path.{_≡_, refl, _∙_}
 use native.Mathlib.Omega.{arith}
 use native.Mathlib.Nat.{sub-zero}
 use lib.ListN.{length}
@@ -10,9 +10,9 @@ use denote.Enum.Declared
 use Rattle.table.specs.Words.{particlesIn}
 use Rattle.reader_parts.specs.Paths.{namesOf}
 use Rattle.reader.specs.Meaning.{Reaches}
-use Rattle.reader.proofs.Asked.{asked-ways, branch-row, occurs-rows, path-open, round-fits, round-row, row-fits}
+use Rattle.reader.proofs.Asked.{asked-ways, branch-row, element-effective, element-name, element-row, element-type, occurs-rows, path-open, ready-element, ready-end, round-fits, round-row, row-fits, rowed}
 use Rattle.reader.proofs.RefusalPathLaws.{stopped}
-use Rattle.reader.proofs.Ways.{Left, rounds-again, rounds-stop, whole-stop, choose-ways, content-ways, element-ways, enter-ways, inside-ways, occur-ways, particle-ways, rounds-ways, whole-ways}
+use Rattle.reader.proofs.Ways.{Left, element-held, particle-element, rounds-again, rounds-stop, whole-stop, choose-ways, content-ways, element-ways, enter-ways, inside-ways, occur-ways, particle-ways, rounds-ways, whole-ways}
 use Rattle.reader.specs.declared.refusal_path.Walk as walk
 use Rattle.reader.proofs.refusal_path.Walk as code
 use borrow.Fn.Kinds.{In}
@@ -46,6 +46,8 @@ use Rattle.reader.proofs.cycle.whole.Kinds as whole-kinds
 use Rattle.reader.proofs.cycle.+choose+content+element+enter+inside+occur+particle+rounds+whole.Lts-whole as whole-lts
 use Rattle.reader_parts.proofs.Path.push.Reads as push-reads
 use Rattle.reader_parts.proofs.attributes.all.Reads as all-reads
+use Rattle.reader_parts.proofs.codes.codes.Reads as codes-reads
+use Rattle.reader_parts.proofs.codes.tell.Reads as tell-reads
 use Rattle.reader_parts.proofs.ends.close.Reads as close-reads
 use Rattle.reader_parts.proofs.heads.head.Reads as head-reads
 use Rattle.reader_parts.proofs.storing.store.Reads as store-reads
@@ -150,7 +152,7 @@ abbrev whole-below : ℕ → In 5 whole-kinds.ps
 whole-below t = and 5 whole-kinds.ps (falls 5 whole-kinds.ps _<_ μ-whole t) whole.Pre
 
 abbrev whole-env : ℕ → whole-lts.Claims
-whole-env t = (inside-below t, inside.Post, close-reads.Asked, close-reads.Learnt, from-step-reads.Asked, from-step-reads.Learnt)
+whole-env t = (tell-reads.Asked, tell-reads.Learnt, from-step-reads.Asked, from-step-reads.Learnt, inside-below t, inside.Post, close-reads.Asked, close-reads.Learnt)
 
 abbrev rounds-env : ℕ → rounds-lts.Claims
 rounds-env t = (particle-reads.Asked, particle-reads.Learnt, particle-below t, particle.Post)
@@ -168,7 +170,7 @@ abbrev enter-env : ℕ → enter-lts.Claims
 enter-env t = (flag-reads.Asked, flag-reads.Learnt, store-reads.Asked, store-reads.Learnt, from-step-reads.Asked, from-step-reads.Learnt, whole-below t, whole.Post, name-refusal-reads.Asked, name-refusal-reads.Learnt)
 
 abbrev element-env : ℕ → element-lts.Claims
-element-env t = (held-reads.Asked, held-reads.Learnt, head-reads.Asked, head-reads.Learnt, extent-of-reads.Asked, extent-of-reads.Learnt, enter-below t, enter.Post, store-reads.Asked, store-reads.Learnt, from-step-reads.Asked, from-step-reads.Learnt)
+element-env t = (head-reads.Asked, head-reads.Learnt, extent-of-reads.Asked, extent-of-reads.Learnt, codes-reads.Asked, codes-reads.Learnt, held-reads.Asked, held-reads.Learnt, enter-below t, enter.Post, store-reads.Asked, store-reads.Learnt, from-step-reads.Asked, from-step-reads.Learnt)
 
 abbrev content-env : ℕ → content-lts.Claims
 content-env t = (content-reads.Asked, content-reads.Learnt, value-reads.Asked, value-reads.Learnt, from-step-reads.Asked, from-step-reads.Learnt, push-reads.Asked, push-reads.Learnt, particle-reads.Asked, particle-reads.Learnt, particle-below t, particle.Post)
@@ -286,9 +288,6 @@ content-same-length-5 t c = search needs
 content-returns-3 : (t : ℕ) → content-lts.Need-returns-3 (content-env t) (content-at t) content.Post
 content-returns-3 t c = search (needs, content-ways)
 
-element-held-requires : (t : ℕ) → element-lts.Need-held-requires (element-env t) (element-at t) element.Post
-element-held-requires t c κs = search needs
-
 element-head-requires : (t : ℕ) → element-lts.Need-head-requires (element-env t) (element-at t) element.Post
 element-head-requires t c κs = search (needs, asked-ways)
 
@@ -301,8 +300,32 @@ element-enum-known-r t c = search needs
 element-enum-known-r-2 : (t : ℕ) → element-lts.Need-enum-known-r-2 (element-env t) (element-at t) element.Post
 element-enum-known-r-2 t c = search needs
 
+element-codes-requires : (t : ℕ) → element-lts.Need-codes-requires (element-env t) (element-at t) element.Post
+element-codes-requires t c κs =
+    let at-r2 = c .before .before .before in
+    let at-extent = at-r2 .before .before in
+    let at-head = at-extent .before in
+    let entry = at-head .before .before .before .before .before .before .before in
+    ready-end _ _ _ _ _ _ (entry .pre .1 .0) _ _ _ _ _ _ (at-head .head .ensures) refl (at-extent .extent-of .ensures) (at-r2 .r2 .given .1) .walls
+
+element-enum-known-k : (t : ℕ) → element-lts.Need-enum-known-k (element-env t) (element-at t) element.Post
+element-enum-known-k t c = search needs
+
+element-enum-known-k-2 : (t : ℕ) → element-lts.Need-enum-known-k-2 (element-env t) (element-at t) element.Post
+element-enum-known-k-2 t c = search needs
+
+element-held-requires : (t : ℕ) → element-lts.Need-held-requires (element-env t) (element-at t) element.Post
+element-held-requires t c κs = search needs
+
 element-enter-requires : (t : ℕ) → element-lts.Need-enter-requires (element-env t) (element-at t) element.Post
-element-enter-requires t c κs = search (needs, asked-ways)
+element-enter-requires t c κs =
+    let at-k2 = c .before .before .before .before .before .before in
+    let at-codes = at-k2 .before .before in
+    let at-r2 = at-codes .before .before .before .before in
+    let at-extent = at-r2 .before .before in
+    let at-head = at-extent .before in
+    let entry = at-head .before .before .before .before .before .before .before in
+    (omega (arith, entry .pre .0), (ready-end _ _ _ _ _ _ (entry .pre .1 .0) _ _ _ _ _ _ (at-head .head .ensures) refl (at-extent .extent-of .ensures) (at-r2 .r2 .given .1), entry .pre .1 .1, entry .pre .1 .2, element-effective _ _ _ _ _ _ (entry .pre .1 .0) _ _ _ _ _ _ _ _ (entry .pre .1 .3) (entry .pre .1 .4) (at-codes .codes .ensures) (at-k2 .k2 .given .1)))
 
 element-same-length : (t : ℕ) → element-lts.Need-same-length (element-env t) (element-at t) element.Post
 element-same-length t c = search needs
@@ -314,10 +337,19 @@ element-same-length-3 : (t : ℕ) → element-lts.Need-same-length-3 (element-en
 element-same-length-3 t c = search needs
 
 element-returns : (t : ℕ) → element-lts.Need-returns (element-env t) (element-at t) element.Post
-element-returns t c = search (needs, element-ways)
+element-returns t c =
+    let at-enter = c .before .before .before .before .before .before in
+    let at-if1 = at-enter .before .before .before .before in
+    let at-held = at-if1 .before in
+    let at-k2 = at-held .before .before in
+    let at-codes = at-k2 .before .before in
+    let at-r2 = at-codes .before .before .before .before in
+    let at-extent = at-r2 .before .before in
+    let at-head = at-extent .before in
+    search (element-held, at-head .head .ensures, at-extent .extent-of .ensures, at-r2 .r2 .given .1, at-codes .codes .ensures, at-k2 .k2 .given .1, at-held .held .ensures, at-if1 .if1 .taken, at-enter .enter .ensures)
 
 element-store-requires : (t : ℕ) → element-lts.Need-store-requires (element-env t) (element-at t) element.Post
-element-store-requires t c κs = search needs
+element-store-requires t c κs = search (needs, asked-ways)
 
 element-from-step-requires : (t : ℕ) → element-lts.Need-from-step-requires (element-env t) (element-at t) element.Post
 element-from-step-requires t c κs = search needs
@@ -333,6 +365,9 @@ element-returns-3 t c = search (needs, element-ways)
 
 element-returns-4 : (t : ℕ) → element-lts.Need-returns-4 (element-env t) (element-at t) element.Post
 element-returns-4 t c = search (needs, element-ways)
+
+element-returns-5 : (t : ℕ) → element-lts.Need-returns-5 (element-env t) (element-at t) element.Post
+element-returns-5 t c = search (needs, element-ways)
 
 enter-flag-requires : (t : ℕ) → enter-lts.Need-flag-requires (enter-env t) (enter-at t) enter.Post
 enter-flag-requires t c κs = search needs
@@ -362,7 +397,7 @@ enter-name-refusal-requires : (t : ℕ) → enter-lts.Need-name-refusal-requires
 enter-name-refusal-requires t c κs =
     let at-whole = c .before .before .before .before .before .before .before in
     let entry = at-whole .before .before .before .before .before .before .before .before .before .before .before .before .before .before .before .before .before in
-    (at-whole .whole .kept .1 .1 .1 .1 .0 ∙ entry .pre .1 .1, path-open _ _ _ _ _ (entry .pre .1 .0), entry .pre .1 .2)
+    (at-whole .whole .kept .1 .1 .1 .1 .0 ∙ entry .pre .1 .1, path-open _ _ _ _ _ _ (entry .pre .1 .0), entry .pre .1 .2)
 
 enter-same-length-2 : (t : ℕ) → enter-lts.Need-same-length-2 (enter-env t) (enter-at t) enter.Post
 enter-same-length-2 t c = search needs
@@ -472,7 +507,11 @@ particle-enum-known-row : (t : ℕ) → particle-lts.Need-enum-known-row (partic
 particle-enum-known-row t c = search needs
 
 particle-element-requires : (t : ℕ) → particle-lts.Need-element-requires (particle-env t) (particle-at t) particle.Post
-particle-element-requires t c κs = search (needs, asked-ways)
+particle-element-requires t c κs =
+    let at-row = c .before .before .before .before in
+    let at-if1 = at-row .before .before .before in
+    let entry = at-if1 .before .before .before .before .before .before .before in
+    (omega (arith, entry .pre .0, at-if1 .if1 .left), (ready-element _ _ _ _ _ _ (entry .pre .1 .0) (at-if1 .if1 .left), entry .pre .1 .1, element-name _ _ _ (entry .pre .1 .2) _ _ _ (at-row .row .given .1), element-type _ _ _ (entry .pre .1 .2) _ _ _ (at-row .row .given .1), rowed _ _ _ (element-row _ _ _ (entry .pre .1 .2) _ _ _ (at-row .row .given .1))))
 
 particle-enum-known-row-2 : (t : ℕ) → particle-lts.Need-enum-known-row-2 (particle-env t) (particle-at t) particle.Post
 particle-enum-known-row-2 t c = search needs
@@ -502,7 +541,12 @@ particle-same-length-3 : (t : ℕ) → particle-lts.Need-same-length-3 (particle
 particle-same-length-3 t c = search needs
 
 particle-returns-2 : (t : ℕ) → particle-lts.Need-returns-2 (particle-env t) (particle-at t) particle.Post
-particle-returns-2 t c = search (needs, particle-ways)
+particle-returns-2 t c =
+    let at-element = c .before .before .before .before .before .before in
+    let at-row = at-element .before .before .before .before .before in
+    let at-if1 = at-row .before .before .before in
+    let entry = at-if1 .before .before .before .before .before .before .before in
+    search (particle-element, entry .pre .1 .0, at-row .row .given .1, at-if1 .if1 .left, at-element .element .ensures, element-row _ _ _ (entry .pre .1 .2) _ _ _ (at-row .row .given .1))
 
 particle-same-length-4 : (t : ℕ) → particle-lts.Need-same-length-4 (particle-env t) (particle-at t) particle.Post
 particle-same-length-4 t c = search needs
@@ -588,7 +632,7 @@ rounds-add-i t c =
     let at-loop-test = c .before .before .before .before .before .before .before .before .before .before .before .before .before .before in
     let at-loop = at-loop-test .before in
     let entry = at-loop .before .before .before .before .before .before in
-    record { fits = round-fits _ _ _ _ _ (entry .pre .1 .0) _ _ _ _ (at-loop .loop .inv .4) (at-loop-test .loop-test .taken) }
+    record { fits = round-fits _ _ _ _ _ _ (entry .pre .1 .0) _ _ _ _ (at-loop .loop .inv .4) (at-loop-test .loop-test .taken) }
 
 rounds-add-j : (t : ℕ) → rounds-lts.Need-add-j (rounds-env t) (rounds-at t) rounds.Post rounds-Inv-loop rounds-μ-loop
 rounds-add-j t c = search (needs, asked-ways)
@@ -625,14 +669,29 @@ rounds-same-length-6 t c = search needs
 rounds-returns-2 : (t : ℕ) → rounds-lts.Need-returns-2 (rounds-env t) (rounds-at t) rounds.Post rounds-Inv-loop rounds-μ-loop
 rounds-returns-2 t c = search (needs, rounds-ways)
 
+whole-tell-requires : (t : ℕ) → whole-lts.Need-tell-requires (whole-env t) (whole-at t) whole.Post
+whole-tell-requires t c κs = search needs
+
+whole-enum-known-s : (t : ℕ) → whole-lts.Need-enum-known-s (whole-env t) (whole-at t) whole.Post
+whole-enum-known-s t c = search needs
+
+whole-enum-told : (t : ℕ) → whole-lts.Need-enum-told (whole-env t) (whole-at t) whole.Post
+whole-enum-told t c = search needs
+
+whole-from-step-requires : (t : ℕ) → whole-lts.Need-from-step-requires (whole-env t) (whole-at t) whole.Post
+whole-from-step-requires t c κs = search needs
+
+whole-same-length : (t : ℕ) → whole-lts.Need-same-length (whole-env t) (whole-at t) whole.Post
+whole-same-length t c = search needs
+
+whole-returns : (t : ℕ) → whole-lts.Need-returns (whole-env t) (whole-at t) whole.Post
+whole-returns t c = search (needs, whole-ways)
+
 whole-inside-requires : (t : ℕ) → whole-lts.Need-inside-requires (whole-env t) (whole-at t) whole.Post
 whole-inside-requires t c κs = search (needs, asked-ways)
 
 whole-enum-known-v : (t : ℕ) → whole-lts.Need-enum-known-v (whole-env t) (whole-at t) whole.Post
 whole-enum-known-v t c = search needs
-
-whole-same-length : (t : ℕ) → whole-lts.Need-same-length (whole-env t) (whole-at t) whole.Post
-whole-same-length t c = search needs
 
 whole-same-length-2 : (t : ℕ) → whole-lts.Need-same-length-2 (whole-env t) (whole-at t) whole.Post
 whole-same-length-2 t c = search needs
@@ -640,19 +699,21 @@ whole-same-length-2 t c = search needs
 whole-same-length-3 : (t : ℕ) → whole-lts.Need-same-length-3 (whole-env t) (whole-at t) whole.Post
 whole-same-length-3 t c = search needs
 
-whole-returns : (t : ℕ) → whole-lts.Need-returns (whole-env t) (whole-at t) whole.Post
-whole-returns t c =
+whole-same-length-4 : (t : ℕ) → whole-lts.Need-same-length-4 (whole-env t) (whole-at t) whole.Post
+whole-same-length-4 t c = search needs
+
+whole-returns-2 : (t : ℕ) → whole-lts.Need-returns-2 (whole-env t) (whole-at t) whole.Post
+whole-returns-2 t c =
     let at-inside = c .before .before .before .before .before .before .before in
-    search (whole-stop, at-inside .inside .ensures, stopped (λ (x : walk.Walk). Declared.tagOf code.the-type x) (λ x. refl) (at-inside .inside .result) (c .match .keys2))
+    let at-s = at-inside .before .before .before .before .before in
+    let at-tell = at-s .before .before .before .before in
+    search (whole-stop, at-tell .tell .ensures, at-s .s .given .1, at-inside .inside .ensures, stopped (λ (x : walk.Walk). Declared.tagOf code.the-type x) (λ x. refl) (at-inside .inside .result) (c .match2 .keys2))
 
 whole-close-requires : (t : ℕ) → whole-lts.Need-close-requires (whole-env t) (whole-at t) whole.Post
 whole-close-requires t c κs = search needs
 
-whole-from-step-requires : (t : ℕ) → whole-lts.Need-from-step-requires (whole-env t) (whole-at t) whole.Post
-whole-from-step-requires t c κs = search needs
-
-whole-same-length-4 : (t : ℕ) → whole-lts.Need-same-length-4 (whole-env t) (whole-at t) whole.Post
-whole-same-length-4 t c = search needs
+whole-from-step-requires-2 : (t : ℕ) → whole-lts.Need-from-step-requires-2 (whole-env t) (whole-at t) whole.Post
+whole-from-step-requires-2 t c κs = search needs
 
 whole-same-length-5 : (t : ℕ) → whole-lts.Need-same-length-5 (whole-env t) (whole-at t) whole.Post
 whole-same-length-5 t c = search needs
@@ -660,8 +721,11 @@ whole-same-length-5 t c = search needs
 whole-same-length-6 : (t : ℕ) → whole-lts.Need-same-length-6 (whole-env t) (whole-at t) whole.Post
 whole-same-length-6 t c = search needs
 
-whole-returns-2 : (t : ℕ) → whole-lts.Need-returns-2 (whole-env t) (whole-at t) whole.Post
-whole-returns-2 t c = search (needs, whole-ways)
+whole-same-length-7 : (t : ℕ) → whole-lts.Need-same-length-7 (whole-env t) (whole-at t) whole.Post
+whole-same-length-7 t c = search needs
+
+whole-returns-3 : (t : ℕ) → whole-lts.Need-returns-3 (whole-env t) (whole-at t) whole.Post
+whole-returns-3 t c = search (needs, whole-ways)
 
 pub +choose+content+element+enter+inside+occur+particle+rounds+whole-spec :
     {M : Type 1} → statement M
@@ -742,12 +806,14 @@ pub +choose+content+element+enter+inside+occur+particle+rounds+whole-spec :
     (content-same-length-5 t)
     (content-returns-3 t))
     (λ t. element-lts.spec (
-      held-reads.Asked,
-      held-reads.Learnt,
       head-reads.Asked,
       head-reads.Learnt,
       extent-of-reads.Asked,
       extent-of-reads.Learnt,
+      codes-reads.Asked,
+      codes-reads.Learnt,
+      held-reads.Asked,
+      held-reads.Learnt,
       enter-below t,
       enter.Post,
       store-reads.Asked,
@@ -757,11 +823,14 @@ pub +choose+content+element+enter+inside+occur+particle+rounds+whole-spec :
     )
     (element-at t)
     element.Post
-    (element-held-requires t)
     (element-head-requires t)
     (element-extent-of-requires t)
     (element-enum-known-r t)
     (element-enum-known-r-2 t)
+    (element-codes-requires t)
+    (element-enum-known-k t)
+    (element-enum-known-k-2 t)
+    (element-held-requires t)
     (element-enter-requires t)
     (element-same-length t)
     (element-same-length-2 t)
@@ -772,7 +841,8 @@ pub +choose+content+element+enter+inside+occur+particle+rounds+whole-spec :
     (element-same-length-4 t)
     (element-returns-2 t)
     (element-returns-3 t)
-    (element-returns-4 t))
+    (element-returns-4 t)
+    (element-returns-5 t))
     (λ t. enter-lts.spec (
       flag-reads.Asked,
       flag-reads.Learnt,
@@ -917,24 +987,32 @@ pub +choose+content+element+enter+inside+occur+particle+rounds+whole-spec :
     (rounds-same-length-6 t)
     (rounds-returns-2 t))
     λ t. whole-lts.spec (
+      tell-reads.Asked,
+      tell-reads.Learnt,
+      from-step-reads.Asked,
+      from-step-reads.Learnt,
       inside-below t,
       inside.Post,
       close-reads.Asked,
       close-reads.Learnt,
-      from-step-reads.Asked,
-      from-step-reads.Learnt,
     )
     (whole-at t)
     whole.Post
+    (whole-tell-requires t)
+    (whole-enum-known-s t)
+    (whole-enum-told t)
+    (whole-from-step-requires t)
+    (whole-same-length t)
+    (whole-returns t)
     (whole-inside-requires t)
     (whole-enum-known-v t)
-    (whole-same-length t)
     (whole-same-length-2 t)
     (whole-same-length-3 t)
-    (whole-returns t)
-    (whole-close-requires t)
-    (whole-from-step-requires t)
     (whole-same-length-4 t)
+    (whole-returns-2 t)
+    (whole-close-requires t)
+    (whole-from-step-requires-2 t)
     (whole-same-length-5 t)
     (whole-same-length-6 t)
-    (whole-returns-2 t)
+    (whole-same-length-7 t)
+    (whole-returns-3 t)

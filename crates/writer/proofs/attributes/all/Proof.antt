@@ -1,7 +1,6 @@
 -- The loop: what is walked from here on is what was to be walked from the first row on.
 use Prim.Native.Nat.{_≤_, _-_}
-use mathlib.Core.Path.{_≡_, refl, _∙_}
-use native.Mathlib.Omega.{arith}
+use mathlib.Core.Path.{_≡_}
 use lib.ListN.{length}
 use Rattle.table.specs.Rows.{attributesFrom}
 use Rattle.writer_parts.specs.Walk.{eventsAt, textsAt, Ready}

@@ -1,13 +1,13 @@
 -- The cycle: each need by the ways of its function; the measure is the rows still allowed open.
 use Prim.Native.Nat.{ℕ, _<_, _≤_, _+_, _-_, _*_}
-use mathlib.Core.Path.{_≡_, refl}
+use mathlib.Core.Path.{_≡_}
 use native.Mathlib.Omega.{arith}
 use lib.ListN.{length}
 use borrow.Author.Needs.{needs}
 use Rattle.writer_parts.specs.Walk.{eventsAt, textsAt, Ready}
 use Rattle.writer.specs.Meaning.{rounds·}
 use Rattle.writer.proofs.Leads.{Leads}
-use Rattle.writer.proofs.CycleWays.{choose-ways, content-ways, element-ways, inside-ways, occur-ways, particle-ways, rounds-ways, leftR, row-type, row-sequence, row-choice, row-child, element-unheld, element-stop, element-sealing, element-kept, element-go}
+use Rattle.writer.proofs.CycleWays.{choose-ways, content-ways, element-ways, inside-ways, occur-ways, particle-ways, rounds-ways, leftR, row-type, row-known, row-chosen, row-sequence, row-choice, row-child, element-ready, element-uncast, cast-known, cast-ready, element-unheld, element-stop, element-sealing, element-kept, element-go}
 use borrow.Fn.Kinds.{In}
 use borrow.Fn.PlainCycle.{Measures, is, falls, and}
 use Rattle.writer.proofs.cycle.choose.Reads as choose
@@ -31,6 +31,7 @@ use Rattle.writer.proofs.cycle.+choose+content+element+inside+occur+par
 use Rattle.writer.proofs.cycle.rounds.Reads as rounds
 use Rattle.writer.proofs.cycle.rounds.Kinds as rounds-kinds
 use Rattle.writer.proofs.cycle.+choose+content+element+inside+occur+particle+rounds.Lts-rounds as rounds-lts
+use Rattle.writer_parts.proofs.codes.note_codes.Reads as note-codes-reads
 use Rattle.writer_parts.proofs.leaves.close.Reads as close-reads
 use Rattle.writer_parts.proofs.leaves.unlike.Reads as unlike-reads
 use Rattle.table.proofs.rows.content.Reads as content-reads
@@ -128,7 +129,7 @@ abbrev inside-env : ℕ → inside-lts.Claims
 inside-env t = (span-reads.Asked, span-reads.Learnt, all-reads.Asked, all-reads.Learnt, content-below t, content.Post)
 
 abbrev element-env : ℕ → element-lts.Claims
-element-env t = (word-reads.Asked, word-reads.Learnt, flag-in-reads.Asked, flag-in-reads.Learnt, unlike-reads.Asked, unlike-reads.Learnt, held-reads.Asked, held-reads.Learnt, inside-below t, inside.Post, close-reads.Asked, close-reads.Learnt)
+element-env t = (word-reads.Asked, word-reads.Learnt, flag-in-reads.Asked, flag-in-reads.Learnt, unlike-reads.Asked, unlike-reads.Learnt, note-codes-reads.Asked, note-codes-reads.Learnt, held-reads.Asked, held-reads.Learnt, inside-below t, inside.Post, close-reads.Asked, close-reads.Learnt)
 
 abbrev content-env : ℕ → content-lts.Claims
 content-env t = (content-reads.Asked, content-reads.Learnt, value-reads.Asked, value-reads.Learnt, particle-below t, particle.Post)
@@ -223,24 +224,46 @@ element-unlike-requires t c κs = search (needs, element-ways)
 element-returns : (t : ℕ) → element-lts.Need-returns (element-env t) (element-at t) element.Post
 element-returns t c = search (needs, element-ways)
 
+element-add-past : (t : ℕ) → element-lts.Need-add-past (element-env t) (element-at t) element.Post
+element-add-past t c = search (needs, element-ways)
+
+element-note-codes-requires : (t : ℕ) → element-lts.Need-note-codes-requires (element-env t) (element-at t) element.Post
+element-note-codes-requires t c κs =
+    let at-if1 = c .before in
+    let at-unlike = at-if1 .before in
+    let entry = at-unlike .before .before .before .before .before .before .before in
+    (element-ready _ _ _ _ (entry .pre .1 .0) _ _ (at-unlike .unlike .ensures) (at-if1 .if1 .left), entry .pre .1 .1 .is, entry .pre .1 .3, entry .pre .1 .2)
+
+element-enum-known-e : (t : ℕ) → element-lts.Need-enum-known-e (element-env t) (element-at t) element.Post
+element-enum-known-e t c = search needs
+
+element-enum-known-ty : (t : ℕ) → element-lts.Need-enum-known-ty (element-env t) (element-at t) element.Post
+element-enum-known-ty t c = search needs
+
 element-held-requires : (t : ℕ) → element-lts.Need-held-requires (element-env t) (element-at t) element.Post
-element-held-requires t c κs = search (needs, element-ways)
+element-held-requires t c κs = search needs
+
+element-same-length : (t : ℕ) → element-lts.Need-same-length (element-env t) (element-at t) element.Post
+element-same-length t c = search needs
 
 element-returns-2 : (t : ℕ) → element-lts.Need-returns-2 (element-env t) (element-at t) element.Post
 element-returns-2 t c =
     let at-held = c .before in
-    let at-if1 = at-held .before in
+    let at-ty = at-held .before .before in
+    let at-note-codes = at-ty .before .before .before .before in
+    let at-if1 = at-note-codes .before .before in
     let at-unlike = at-if1 .before in
     let at-flag-in = at-unlike .before in
     let at-word = at-flag-in .before in
     let entry = at-word .before .before .before .before .before in
-    search (element-unheld, entry .pre .1 .0, at-word .word .ensures, at-flag-in .flag-in .ensures, at-unlike .unlike .ensures, at-if1 .if1 .left, at-held .held .ensures, c .if2 .taken)
-
-element-add-t18 : (t : ℕ) → element-lts.Need-add-t18 (element-env t) (element-at t) element.Post
-element-add-t18 t c = search (needs, element-ways)
+    search (element-unheld, entry .pre .1 .0, at-word .word .ensures, at-flag-in .flag-in .ensures, at-unlike .unlike .ensures, at-if1 .if1 .left, at-note-codes .note-codes .ensures, at-ty .ty .given .1, at-held .held .ensures, c .if2 .taken)
 
 element-inside-requires : (t : ℕ) → element-lts.Need-inside-requires (element-env t) (element-at t) element.Post
-element-inside-requires t c κs = search (needs, element-ways)
+element-inside-requires t c κs =
+    let at-ty = c .before .before .before .before in
+    let at-note-codes = at-ty .before .before .before .before in
+    let entry = at-note-codes .before .before .before .before .before .before .before .before .before .before in
+    (omega (arith, entry .pre .0), (search (cast-ready, at-note-codes .note-codes .ensures, at-ty .ty .given .1), entry .pre .1 .1, search (cast-known, at-note-codes .note-codes .ensures, at-ty .ty .given .1), entry .pre .1 .4))
 
 element-enum-known-r : (t : ℕ) → element-lts.Need-enum-known-r (element-env t) (element-at t) element.Post
 element-enum-known-r t c = search needs
@@ -248,44 +271,64 @@ element-enum-known-r t c = search needs
 element-enum-told : (t : ℕ) → element-lts.Need-enum-told (element-env t) (element-at t) element.Post
 element-enum-told t c = search needs
 
-element-same-length : (t : ℕ) → element-lts.Need-same-length (element-env t) (element-at t) element.Post
-element-same-length t c = search needs
+element-same-length-2 : (t : ℕ) → element-lts.Need-same-length-2 (element-env t) (element-at t) element.Post
+element-same-length-2 t c = search needs
 
 element-returns-3 : (t : ℕ) → element-lts.Need-returns-3 (element-env t) (element-at t) element.Post
 element-returns-3 t c =
     let at-inside = c .before .before .before .before in
     let at-if2 = at-inside .before .before in
     let at-held = at-if2 .before in
-    let at-if1 = at-held .before in
+    let at-ty = at-held .before .before in
+    let at-note-codes = at-ty .before .before .before .before in
+    let at-if1 = at-note-codes .before .before in
     let at-unlike = at-if1 .before in
     let at-flag-in = at-unlike .before in
     let at-word = at-flag-in .before in
     let entry = at-word .before .before .before .before .before in
-    search (element-stop, entry .pre .1 .0, at-word .word .ensures, at-flag-in .flag-in .ensures, at-unlike .unlike .ensures, at-if1 .if1 .left, at-held .held .ensures, at-if2 .if2 .left, at-inside .inside .ensures, c .enum-told .given .1)
+    search (element-stop, entry .pre .1 .0, at-word .word .ensures, at-flag-in .flag-in .ensures, at-unlike .unlike .ensures, at-if1 .if1 .left, at-note-codes .note-codes .ensures, at-ty .ty .given .1, at-held .held .ensures, at-if2 .if2 .left, at-inside .inside .ensures, c .enum-told .given .1)
 
 element-close-requires : (t : ℕ) → element-lts.Need-close-requires (element-env t) (element-at t) element.Post
 element-close-requires t c κs =
     let at-r = c .before .before in
     let at-inside = at-r .before .before .before .before in
-    let entry = at-inside .before .before .before .before .before .before .before .before .before .before .before .before in
-    (search (element-kept, at-inside .inside .ensures, at-r .r .given .1, entry .pre .1 .0), search (element-sealing, at-inside .inside .ensures, at-r .r .given .1))
+    let at-ty = at-inside .before .before .before .before .before in
+    let at-note-codes = at-ty .before .before .before .before in
+    let entry = at-note-codes .before .before .before .before .before .before .before .before .before .before in
+    (search (element-kept, at-note-codes .note-codes .ensures, at-ty .ty .given .1, at-inside .inside .ensures, at-r .r .given .1, entry .pre .1 .0), search (element-sealing, at-note-codes .note-codes .ensures, at-ty .ty .given .1, at-inside .inside .ensures, at-r .r .given .1))
 
-element-same-length-2 : (t : ℕ) → element-lts.Need-same-length-2 (element-env t) (element-at t) element.Post
-element-same-length-2 t c = search needs
+element-same-length-3 : (t : ℕ) → element-lts.Need-same-length-3 (element-env t) (element-at t) element.Post
+element-same-length-3 t c = search needs
 
 element-returns-4 : (t : ℕ) → element-lts.Need-returns-4 (element-env t) (element-at t) element.Post
 element-returns-4 t c =
+    let at-e = c .before in
+    let at-note-codes = at-e .before .before .before .before in
+    let at-if1 = at-note-codes .before .before in
+    let at-unlike = at-if1 .before in
+    let at-flag-in = at-unlike .before in
+    let at-word = at-flag-in .before in
+    let entry = at-word .before .before .before .before .before in
+    search (element-uncast, entry .pre .1 .0, at-word .word .ensures, at-flag-in .flag-in .ensures, at-unlike .unlike .ensures, at-if1 .if1 .left, at-note-codes .note-codes .ensures, at-e .e .given .1)
+
+element-same-length-4 : (t : ℕ) → element-lts.Need-same-length-4 (element-env t) (element-at t) element.Post
+element-same-length-4 t c = search needs
+
+element-returns-5 : (t : ℕ) → element-lts.Need-returns-5 (element-env t) (element-at t) element.Post
+element-returns-5 t c =
     let at-close = c .before .before in
     let at-r = at-close .before .before .before in
     let at-inside = at-r .before .before .before .before in
     let at-if2 = at-inside .before .before in
     let at-held = at-if2 .before in
-    let at-if1 = at-held .before in
+    let at-ty = at-held .before .before in
+    let at-note-codes = at-ty .before .before .before .before in
+    let at-if1 = at-note-codes .before .before in
     let at-unlike = at-if1 .before in
     let at-flag-in = at-unlike .before in
     let at-word = at-flag-in .before in
     let entry = at-word .before .before .before .before .before in
-    search (element-go, entry .pre .1 .0, at-word .word .ensures, at-flag-in .flag-in .ensures, at-unlike .unlike .ensures, at-if1 .if1 .left, at-held .held .ensures, at-if2 .if2 .left, at-inside .inside .ensures, at-r .r .given .1, at-close .close .ensures)
+    search (element-go, entry .pre .1 .0, at-word .word .ensures, at-flag-in .flag-in .ensures, at-unlike .unlike .ensures, at-if1 .if1 .left, at-note-codes .note-codes .ensures, at-ty .ty .given .1, at-held .held .ensures, at-if2 .if2 .left, at-inside .inside .ensures, at-r .r .given .1, at-close .close .ensures)
 
 inside-span-requires : (t : ℕ) → inside-lts.Need-span-requires (inside-env t) (inside-at t) inside.Post
 inside-span-requires t c κs = search (needs, inside-ways)
@@ -364,10 +407,10 @@ particle-enum-known-name t c = search needs
 
 particle-element-requires : (t : ℕ) → particle-lts.Need-element-requires (particle-env t) (particle-at t) particle.Post
 particle-element-requires t c κs =
-    let at-name = c .before .before in
+    let at-name = c .before .before .before in
     let at-particle = at-name .before .before in
     let entry = at-particle .before .before .before .before .before .before in
-    (omega arith, (entry .pre .1 .0, entry .pre .1 .1, search (row-type, at-particle .particle .ensures, entry .pre .1 .1, entry .pre .1 .2, at-name .name .given .1), omega arith))
+    (omega (arith, entry .pre .0), (entry .pre .1 .0, entry .pre .1 .1, row-chosen _ _ _ (search (row-known, at-particle .particle .ensures, entry .pre .1 .1, entry .pre .1 .2, at-name .name .given .1)), search (row-type, at-particle .particle .ensures, entry .pre .1 .1, entry .pre .1 .2, at-name .name .given .1), omega (arith, entry .pre .1 .3)))
 
 particle-enum-known-first : (t : ℕ) → particle-lts.Need-enum-known-first (particle-env t) (particle-at t) particle.Post
 particle-enum-known-first t c = search needs
@@ -595,6 +638,8 @@ pub +choose+content+element+inside+occur+particle+rounds-spec : {M : Type 1} →
       flag-in-reads.Learnt,
       unlike-reads.Asked,
       unlike-reads.Learnt,
+      note-codes-reads.Asked,
+      note-codes-reads.Learnt,
       held-reads.Asked,
       held-reads.Learnt,
       inside-below t,
@@ -610,17 +655,23 @@ pub +choose+content+element+inside+occur+particle+rounds-spec : {M : Type 1} →
     (element-flag-in-requires t)
     (element-unlike-requires t)
     (element-returns t)
+    (element-add-past t)
+    (element-note-codes-requires t)
+    (element-enum-known-e t)
+    (element-enum-known-ty t)
     (element-held-requires t)
+    (element-same-length t)
     (element-returns-2 t)
-    (element-add-t18 t)
     (element-inside-requires t)
     (element-enum-known-r t)
     (element-enum-told t)
-    (element-same-length t)
+    (element-same-length-2 t)
     (element-returns-3 t)
     (element-close-requires t)
-    (element-same-length-2 t)
-    (element-returns-4 t))
+    (element-same-length-3 t)
+    (element-returns-4 t)
+    (element-same-length-4 t)
+    (element-returns-5 t))
     (λ t. inside-lts.spec (
       span-reads.Asked,
       span-reads.Learnt,

@@ -13,6 +13,9 @@ returns c = search (needs, checked-ways)
 returns-2 : tie.Need-returns-2
 returns-2 c = search (needs, checked-ways)
 
+known-mode-requires : tie.Need-known-mode-requires
+known-mode-requires c κs = search (needs, checked-ways)
+
 returns-3 : tie.Need-returns-3
 returns-3 c = search (needs, checked-ways)
 
@@ -27,4 +30,4 @@ returns-6 c = search (needs, checked-ways)
 
 pub judge-checked-spec : {M : Type 1} → statement M
 judge-checked-spec =
-    tie.close (tie.spec types-requires returns returns-2 returns-3 returns-4 returns-5 returns-6)
+    tie.close (tie.spec types-requires returns returns-2 known-mode-requires returns-3 returns-4 returns-5 returns-6)

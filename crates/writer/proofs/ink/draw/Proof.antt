@@ -21,8 +21,9 @@ same-length c = c .before .before .put-notes .kept .0 ∙ simp length-set
 
 returns : tie.Need-returns
 returns c =
-    let g = c .before .before .before .before .before .before .before .before .pre in
-    draw-done _ _ _ _ _ _ (g .0) (c .before .before .before .before .first .ensures) (g .1) _ _ (c .before .before .put-notes .ensures) (c .before .before .put-notes .kept .0) (λ i. omega (arith, c .slice-known2 .given i))
+    let entry = c .before .before .before .before .before .before .before .before in
+    let g = entry .pre in
+    draw-done _ _ (entry .args .mode) _ _ _ (g .0) (c .before .before .before .before .first .ensures) (g .1) _ _ (c .before .before .put-notes .ensures) (c .before .before .put-notes .kept .0) (λ i. omega (arith, c .slice-known2 .given i))
 
 pub draw-spec : {M : Type 1} → statement M
 draw-spec =
