@@ -50,7 +50,7 @@ extern "C" {
 
 /* The stack, in bytes, that a call never needs more than. It has no arrays but of fixed length, and calls itself once for each row open, of
  * which there are at most 64. `make stack` measures it, and bounds it by the frames of the machine code (x86-64). */
-#define BIM_STACK 262144
+#define BIM_STACK 212992
 
 /* Length coding: the mode, and the byte that a payload of that mode begins with. BIM_CASTING is added to a mode where elements have type
  * codes, and BIM_CASTING_BYTE to its byte: 1F, 5F, 9F are the modes 4, 5, 6. A table without derivations has none of these. */

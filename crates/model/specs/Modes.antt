@@ -1,7 +1,7 @@
 -- The mode as the code has it, and what an element has to choose from by it.
 use Prim.Native.Nat.{ℕ}
 use mathlib.Core.Path.{_≡_}
-use mathlib.Core.Bool.{false, cond}
+use mathlib.Core.Bool.{Bool, true, false, cond}
 use mathlib.Core.List.{List, []}
 use Rattle.table.specs.Words.{substitutesIn}
 use Rattle.table.specs.Rows.{tableOf}
@@ -20,6 +20,10 @@ lengthsIs Always = items.Lengths.always
 abbrev pub modeIs : Mode → items.Mode
 modeIs m = record { lengths = lengthsIs (m .lengths); casting = m .choices .derived }
 
+-- substitutes and derived types to choose from, or not
+abbrev pub offers : Bool → Bool → Choices
+offers substitutes derived = record { any = cond substitutes true derived; substitutes = substitutes; derived = derived }
+
 -- what an element of a row and a type has to choose from
 abbrev pub typesBy : List ℕ → Choices → ℕ → ℕ → Types
 typesBy l c type row =
@@ -29,6 +33,7 @@ typesBy l c type row =
       derived = λ t. cond (c .derived) (tableOf l .derived t) [];
     }
 
--- who looks for no substitutes has a table without any
+-- who looks for no substitutes has a table without any; who looks for nothing, for neither
 pub record Choosing (l : List ℕ) (c : Choices) : Type 0 where
   pub none : c .substitutes ≡ false → substitutesIn l ≡ 0
+  pub neither : c .any ≡ false → (c .substitutes ≡ false) × (c .derived ≡ false)

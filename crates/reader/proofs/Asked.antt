@@ -1,17 +1,18 @@
 -- What a function of the cycle asks, kept from call to call: by the table's laws, by the head's end, by the path.
-use Prim.Native.Nat.{ℕ, suc, _+_, _-_, _<_, _≤_}
+use Prim.Native.Nat.{ℕ, _+_, _-_, _<_, _≤_}
 use mathlib.Core.Path.{_≡_, sym, _∙_, subst}
 use mathlib.Core.List.{List}
-use mathlib.Core.Bool.{true, false}
+use mathlib.Core.Bool.{Bool, true, false}
 use native.Mathlib.Omega.{arith}
 use Rattle.numbers.specs.Limit.{mostName, mostNames, mostParticles}
+use Rattle.wire.specs.Bits.{bitAt}
 use Rattle.wire.specs.Answer.{readIs}
 use Rattle.wire.specs.declared.Bits.{Bits}
 use Rattle.wire.specs.declared.Read as code·read
 use Rattle.wire.specs.declared.Read.the-variants.{Value}
 use Rattle.value.specs.Code.{choiceAt}
 use Rattle.table.specs.Words.{typesIn, particlesIn}
-use Rattle.table.specs.Rows.{Row, tableOf, firstOf, countOf}
+use Rattle.table.specs.Rows.{Row, tableOf, heldOf, firstOf, countOf}
 use Rattle.table.specs.Rows.Row.{element, sequence, choice, occurs}
 use Rattle.table.specs.Keeps.{RowOk, ContentOk}
 use Rattle.table.proofs.Laws.{span-ok, counts-ok, particle-met, content-met}
@@ -21,23 +22,23 @@ use Rattle.table.specs.declared.answers.Content.the-variants.{Particles}
 use Rattle.table.specs.declared.answers.Particle as code·particle
 use Rattle.table.specs.declared.answers.Particle.the-variants.{Element, Sequence, Choice, Occurs}
 use Rattle.model.specs.Modes.{typesBy}
-use Rattle.model.specs.declared.Choices.{Choices}
 use Rattle.model.specs.declared.Mode.{Mode}
-use Rattle.reader_parts.specs.Codes.{Says}
 use Rattle.reader_parts.specs.Heads.{Within, Heads}
+use Rattle.reader_parts.specs.Opening.{rowChoices, Below, Opens}
 use Rattle.reader_parts.specs.Paths.{Pushed}
-use Rattle.reader_parts.specs.declared.Cast.{Cast}
-use Rattle.reader_parts.specs.declared.Coded.{Coded}
-use Rattle.reader_parts.specs.declared.Coded.the-variants.{As}
+use Rattle.reader_parts.specs.declared.Cursor.{Cursor}
+use Rattle.reader_parts.specs.declared.Inner.{Inner}
+use Rattle.reader_parts.specs.declared.Opened.{Opened}
+use Rattle.reader_parts.specs.declared.Opened.the-variants.{In}
 use Rattle.reader_parts.specs.declared.Head as code·head
 use Rattle.reader_parts.specs.declared.Head.the-variants.{Bare, Sized, Wrong}
 use Rattle.reader_parts.specs.declared.Path.{Path}
-use Rattle.reader_parts.proofs.CodeWays.{choice-in, effective-known}
-use Rattle.reader.specs.Meaning.{Ready, Rowed, Fits, Reaches, reachOf, stride}
+use Rattle.reader_parts.proofs.CodeWays.{choice-in, codes-known}
+use Rattle.reader_parts.proofs.OpeningWays.{row-owned}
+use Rattle.reader.specs.Meaning.{Ready, Owned, Fits, Rowed, reachOf}
 use Rattle.reader.specs.declared.cycle.Extent.{Extent}
 use Rattle.reader.specs.declared.cycle.Reach.{Reach}
 use Rattle.reader.specs.declared.cycle.Reach.the-variants.{To}
-use Rattle.reader.proofs.Strides.{stride-one, stride-none}
 
 module _ (t s : List ℕ) (mode : Mode) (wall n d : ℕ) (h : Ready t s mode wall n d) where
   -- a row is opened; so is an element, which takes a place of the path
@@ -76,19 +77,27 @@ module _ (t s : List ℕ) (mode : Mode) (wall n d : ℕ) (h : Ready t s mode wal
   row-fits i r g e = go (rowIs r) (particle-met t (h .valid) i g r e)
     where
       go : (x : Row) → RowOk (typesIn t) (particlesIn t) i x → Fits (typesIn t) (particlesIn t) x
-      go (element name type row) k = (k .name-small, k .type-known, k .row-known)
+      go (element name type row) k = (k .name-small, k .type-known, λ e. k .row-known)
       go (sequence first n) k = k .within
       go (choice first n) k = k .within
       go (occurs child least most) k = k .within
 
-  -- the type that an element's codes say is one of the table's
-  pub element-effective : (choices : Choices) (ty row : ℕ) (b : ℕ → ℕ) (end at : ℕ) (k : Coded) (x : Cast) → ty < typesIn t → Rowed t choices row
-      → Says (typesBy t choices ty row) b end at k → k ≡ As x → x .effective < typesIn t
-  element-effective choices ty row b end at k x g r e f = effective-known t (h .valid) choices ty row b end at g (r .known) k e x f
+  -- is not the root's
+  pub row-rowed : (i : ℕ) (r : code·particle.Particle) → i < particlesIn t → rowIs r ≡ tableOf t .row i → Rowed (rowIs r)
+  row-rowed i r g e = go (rowIs r) (particle-met t (h .valid) i g r e)
+    where
+      go : (x : Row) → RowOk (typesIn t) (particlesIn t) i x → Rowed x
+      go (element name type row) k = λ e. let f = k .row-known in let g = rows-few in absurd (omega arith)
+      go (sequence first n) k = tt
+      go (choice first n) k = tt
+      go (occurs child least most) k = tt
 
--- an element of a row
-pub rowed : (t : List ℕ) (choices : Choices) (row : ℕ) → row < particlesIn t → Rowed t choices row
-rowed t choices row h = record { known = λ e. h }
+  -- the type of an element that is open is one of the table's
+  pub element-effective : (c : Cursor) (E : List ℕ) (name ty row : ℕ) (coded : Bool) (body end : ℕ) (o : Opened) (E′ : List ℕ) (x : Inner) → ty < typesIn t → Owned (particlesIn t) row
+      → Opens name coded body end (typesBy t (rowChoices (mode .choices) row) ty row) (bitAt s) (heldOf t) c E o E′ → o ≡ In x → x .effective < typesIn t
+  element-effective c E name ty row coded body end o E′ x g w k f =
+      subst (λ (a : Opened). Below name coded body end (typesIn t) a) f
+      (k .below (typesIn t) (codes-known t (h .valid) (rowChoices (mode .choices) row) ty row (bitAt s) end body g (row-owned (mode .choices) row (particlesIn t) w)))
 
 -- what a row that fits names
 module _ (T P : ℕ) (r : code·particle.Particle) (h : Fits T P (rowIs r)) where
@@ -101,23 +110,17 @@ module _ (T P : ℕ) (r : code·particle.Particle) (h : Fits T P (rowIs r)) wher
   pub element-type : (name ty row : ℕ) → r ≡ Element name ty row → ty < T
   element-type name ty row f = fits-as (Element name ty row) f .1
 
-  pub element-row : (name ty row : ℕ) → r ≡ Element name ty row → row < P
+  pub element-row : (name ty row : ℕ) → r ≡ Element name ty row → Owned P row
   element-row name ty row f = fits-as (Element name ty row) f .2
 
-  pub sequence-rows : (first m : ℕ) → r ≡ Sequence first m → Reaches P first 1 m
-  sequence-rows first m f =
-      let k = fits-as (Sequence first m) f in
-      record { small = omega arith; row = λ j l. rw (stride-one first j) (omega arith) }
+  pub sequence-rows : (first m : ℕ) → r ≡ Sequence first m → first + m ≤ P
+  sequence-rows first m f = fits-as (Sequence first m) f
 
   pub choice-rows : (first m : ℕ) → r ≡ Choice first m → first + m ≤ P
   choice-rows first m f = fits-as (Choice first m) f
 
   pub occurs-row : (child least most : ℕ) → r ≡ Occurs child least most → child < P
   occurs-row child least most f = fits-as (Occurs child least most) f
-
--- the child of an occurs row, so many times
-pub occurs-rows : (P child m : ℕ) → child < P → Reaches P child 0 m
-occurs-rows P child m h = record { small = omega arith; row = λ j l. rw (stride-none child j) h }
 
 -- the branch that a choice names
 pub branch-row : (P first n : ℕ) (b : ℕ → ℕ) (wall at : ℕ) (r : code·read.Read) (v : ℕ) (q : Bits) → first + n ≤ P → readIs r ≡ choiceAt b n wall at → r ≡ Value v q → first + v < P
@@ -129,18 +132,12 @@ pub branch-fits : (t s : List ℕ) (mode : Mode) (wall m d : ℕ) → Ready t s 
     → first + n ≤ particlesIn t → readIs r ≡ choiceAt b n wall at → r ≡ Value v q → first + v < 4294967296
 branch-fits t s mode wall m d h first n b at r v q k e g = let f = branch-row (particlesIn t) first n b wall at r v q k e g in omega (arith, rows-few t s mode wall m d h)
 
--- the rows of rounds that are left
-module _ (P i k n j : ℕ) (h : Reaches P i k (n - j)) (g : j < n) where
-  pub round-row : i < P
-  unfolding stride
-  round-row = h .row 0 (omega arith)
+-- a round's row
+pub round-row : (P first n j : ℕ) → first + n ≤ P → j < n → first + j < P
+round-row P first n j h g = omega arith
 
-  pub round-next : Reaches P (i + k) k (n - (j + 1))
-  unfolding stride
-  round-next = record { small = h .small; row = λ a l. h .row (suc a) (omega arith) }
-
-pub round-fits : (t s : List ℕ) (mode : Mode) (wall m d : ℕ) → Ready t s mode wall m d → (i k n j : ℕ) → Reaches (particlesIn t) i k (n - j) → j < n → i + k < 4294967296
-round-fits t s mode wall m d h i k n j g l = let f = round-row (particlesIn t) i k n j g l in omega (arith, rows-few t s mode wall m d h, g .small)
+pub round-fits : (t s : List ℕ) (mode : Mode) (wall m d : ℕ) → Ready t s mode wall m d → (first n j : ℕ) → first + n ≤ particlesIn t → j < n → first + j < 4294967296
+round-fits t s mode wall m d h first n j g l = omega (arith, rows-few t s mode wall m d h)
 
 -- the path: one name longer inside an element
 pub ready-pushed : (t s : List ℕ) (mode : Mode) (wall d : ℕ) (path inner : Path) (name : ℕ) → Pushed path name inner → Ready t s mode wall (path .count + 1) d → Ready t s mode wall (inner .count) d
@@ -149,4 +146,4 @@ ready-pushed t s mode wall d path inner name i r = rw (i .count) r
 pub path-open : (t s : List ℕ) (mode : Mode) (wall n d : ℕ) → Ready t s mode wall (n + 1) d → n < mostNames
 path-open t s mode wall n d r = omega (arith, r .places)
 
-pub ruleset asked-ways = (ready-row, ready-element, ready-end, rows-few, spans-few, content-row, row-fits, element-name, element-type, element-row, rowed, element-effective, sequence-rows, choice-rows, occurs-row, occurs-rows, branch-row, branch-fits, round-row, round-fits, round-next, ready-pushed, path-open)
+pub ruleset asked-ways = (ready-row, ready-element, ready-end, rows-few, spans-few, content-row, row-fits, row-rowed, element-name, element-type, element-row, element-effective, sequence-rows, choice-rows, occurs-row, branch-row, branch-fits, round-row, round-fits, ready-pushed, path-open)

@@ -14,21 +14,23 @@ use Rattle.numbers.specs.Mode.{alwaysByte, neverByte, optionalByte}
 use Rattle.wire.specs.Res.{fault}
 use Rattle.table.specs.Words.{substitutesIn}
 use Rattle.table.specs.Rows.{tableOf}
-use Rattle.model.specs.Modes.{lengthsIs}
+use Rattle.model.specs.Modes.{lengthsIs, offers}
 use Rattle.model.specs.Whole.{mode, lengthsNumber, modeByte, modeOf}
+use Rattle.model.specs.declared.Choices.{Choices}
 use Rattle.model.specs.declared.Lengths.{Lengths}
 use Rattle.model.specs.declared.Lengths.the-variants.{Never, Optional, Always}
+use Rattle.model.proofs.ModeLaws.{offers-neither}
 use Rattle.model.proofs.EntryWays.{mode-is, mode-other, mode-empty, mode-long, mode-byte}
 use Rattle.reader.specs.declared.front.Found.{Found}
 use Rattle.reader.specs.declared.front.Found.the-variants.{Is, Refuse}
 use Rattle.reader.specs.Front.{foundIs, Makes, Finds}
 
 -- a mode, by how many substitutes the table has
-pub found-is : (l : List ℕ) (lengths : Lengths) (derived : Bool) (swaps : ℕ) → swaps ≡ substitutesIn l
-    → Makes l lengths derived (Is record { lengths = lengths; choices = record { substitutes = ltb 0 swaps; derived = derived } })
+pub found-is : (l : List ℕ) (lengths : Lengths) (derived : Bool) (swaps : ℕ) (choices : Choices) → swaps ≡ substitutesIn l → choices ≡ offers (ltb 0 swaps) derived
+    → Makes l lengths derived (Is record { lengths = lengths; choices = choices })
 unfolding foundIs
-found-is l lengths derived swaps e =
-    record { says = refl; choosing = record { none = λ h. let k = ltb-false 0 swaps h in omega arith } }
+found-is l lengths derived swaps choices e f =
+    rw f (record { says = refl; choosing = record { none = λ h. let k = ltb-false 0 swaps h in omega arith; neither = offers-neither (ltb 0 swaps) derived } })
 
 module _ (l s : List ℕ) where
   abbrev D : ℕ

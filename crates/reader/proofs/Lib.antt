@@ -3,7 +3,6 @@ mod Asked
 mod FrontLaws
 mod RestLaws
 mod RootLaws
-mod Strides
 mod RefusalPathLaws
 mod TwoTables
 mod Ways

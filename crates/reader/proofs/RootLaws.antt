@@ -16,9 +16,11 @@ use Rattle.wire.proofs.Res.{under}
 use Rattle.wire.specs.declared.Bits.{Bits}
 use Rattle.table.specs.First.Verdict.{right}
 use Rattle.table.specs.Valid.{verdict}
-use Rattle.table.specs.Words.{typesIn}
+use Rattle.table.specs.Words.{typesIn, particlesIn}
 use Rattle.table.specs.Rows.{tableOf, heldOf}
-use Rattle.table.specs.Views.{verdictIs}
+use Rattle.table.specs.Views.{verdictIs, rowIs}
+use Rattle.table.specs.declared.answers.Particle as code·particle
+use Rattle.table.specs.declared.answers.Particle.the-variants.{Element}
 use Rattle.table.specs.declared.answers.Verdict as code·verdict
 use Rattle.table.specs.declared.answers.Verdict.the-variants.{Right, Wrong}
 use Rattle.model.specs.Model.{Nodes, Answer, events, texts, treeSlots, treeBytes}
@@ -35,12 +37,12 @@ use Rattle.model.proofs.Buffers.{filled-sets}
 use Rattle.reader_parts.proofs.Bytes.{bytes-few}
 use Rattle.model.specs.Items as items
 use Rattle.model.specs.Model.{tableIn}
-use Rattle.model.specs.Modes.{lengthsIs, modeIs, typesBy, Choosing}
-use Rattle.model.specs.declared.Choices.{Choices}
+use Rattle.model.specs.Modes.{lengthsIs, modeIs, Choosing}
 use Rattle.model.specs.declared.Mode.{Mode}
 use Rattle.model.proofs.ModeLaws.{types-only}
 use Rattle.model.proofs.Steps.{root-element}
 use Rattle.reader_parts.proofs.Laws.{Went, did-go, did-stop}
+use Rattle.reader_parts.specs.Opening.{noRow, rowChoices}
 use Rattle.reader_parts.specs.Out.{roomOf, outcome}
 use Rattle.reader_parts.specs.Paths.{back, namesOf}
 use Rattle.reader_parts.specs.declared.Cursor.{Cursor}
@@ -55,7 +57,7 @@ use Rattle.reader.specs.Front.{foundIs, Chooses, Finds}
 use Rattle.reader.specs.RefusalPath.{view}
 use Rattle.reader.specs.declared.refusal_path.Walk.{Walk}
 use Rattle.reader.specs.declared.refusal_path.Walk.the-variants.{Go, Refuse, Told}
-use Rattle.reader.specs.Meaning.{Ready, Rowed, Walks, inside·, element·}
+use Rattle.reader.specs.Meaning.{Ready, Fits, Walks, inside·, element·, row·}
 use Rattle.reader.specs.Cleared.{Zeros}
 
 pub zeros-cleared : (l m : List ℕ) → m ≡ replicate (length l) 0 → Zeros m
@@ -63,11 +65,13 @@ zeros-cleared l m e = e ∙ ap (λ (n : ℕ). replicate n 0) (sym (length-replic
 
 -- what the root asks
 module _ (t s : List ℕ) (name ty : ℕ) (mode : Mode) (h : Entered t name ty) (k : Choosing t (mode .choices)) where
-  pub root-ready : (path : Path) (wall : ℕ) → path .count ≡ 0 → wall ≡ 8 * length s → Ready t s mode wall (path .count + 1) (mostOpen - 1)
+  pub root-ready : (path : Path) (wall : ℕ) → path .count ≡ 0 → wall ≡ 8 * length s → Ready t s mode wall (path .count) mostOpen
   root-ready path wall z e = record { valid = h .table-right; choosing = k; walls = omega arith; places = omega arith }
 
-pub root-rowed : (t : List ℕ) (choices : Choices) (row : ℕ) → choices .substitutes ≡ false → Rowed t choices row
-root-rowed t choices row e = record { known = λ f. let z : _≡_ {A = Bool} true false = sym f ∙ e in absurd (let z : _≡_ {A = ℕ} 0 1 = cc in omega arith) }
+  -- the root's row
+  pub root-fits : (r : code·particle.Particle) → r ≡ Element name ty noRow → Fits (typesIn t) (particlesIn t) (rowIs r)
+  unfolding tableOf
+  root-fits r e = rw e (h .name-small, h .type-known, λ f. absurd (f refl))
 
 pub root-type : (t : List ℕ) (name ty : ℕ) → Entered t name ty → ty < typesIn t
 unfolding tableOf
@@ -82,8 +86,8 @@ payload-short n s mode e = short n s .says mode e
 
 module _ (t s : List ℕ) (name ty : ℕ) (mode : Mode) (h : Entered t name ty) (m : modeOf (tableOf t .derivations) s ≡ got (modeIs mode)) (E T : List ℕ) (zE : Zeros E) (zT : Zeros T)
     (c : Cursor) (c8 : c .at .0 ≡ 8) (c0 : c .count ≡ 0) (u0 : c .used ≡ 0) (path : Path) (z : path .count ≡ 0) (wall : ℕ) (x : wall ≡ 8 * length s)
-    (choices : Choices) (plain : choices .substitutes ≡ false) (uncast : choices .derived ≡ false) (row : ℕ)
-    (w : Walk) (N E₁ T₁ : List ℕ) (k : Walks (element· t s mode (mostOpen - 1) name (typesBy t choices ty row)) wall c (namesOf path) E T w N E₁ T₁) where
+    (row : code·particle.Particle) (rooted : row ≡ Element name ty noRow)
+    (w : Walk) (N E₁ T₁ : List ℕ) (k : Walks (row· t s mode mostOpen (rowIs row)) wall c (namesOf path) E T w N E₁ T₁) where
   abbrev room : model.Room
   room = whole.roomOf (length E) (length T)
 
@@ -94,10 +98,10 @@ module _ (t s : List ℕ) (name ty : ℕ) (mode : Mode) (h : Entered t name ty) 
   Ans = model.read (bitAt s) (lengthsIs (mode .lengths)) (heldOf t) (planOf t name ty (mode .choices .derived)) room [] (8 * length s) 8
 
   -- the root has nothing to choose from
-  root-read : element· t s mode (mostOpen - 1) name (typesBy t choices ty row) room [] (8 * length s) 8 ≡ Ans
-  unfolding element· inside·
+  root-read : row· t s mode mostOpen (rowIs row) room [] (8 * length s) 8 ≡ Ans
+  unfolding row· element· inside·
   root-read =
-      rw (types-only t choices plain uncast ty row)
+      rw (rooted, types-only t (rowChoices (mode .choices) noRow) refl refl ty noRow)
       (sym (root-element (bitAt s) (lengthsIs (mode .lengths)) (heldOf t) (tableIn (mode .choices .derived) (tableOf t)) room [] (8 * length s) 8 name ty))
 
   no-names : namesOf path ≡ []
@@ -114,7 +118,7 @@ module _ (t s : List ℕ) (name ty : ℕ) (mode : Mode) (h : Entered t name ty) 
   root-says =
       (λ i. view w (sym no-names i) N E₁ T₁)
       ∙ k
-      ∙ (λ i. outcome (element· t s mode (mostOpen - 1) name (typesBy t choices ty row) (room-is i) (no-names i) (x i) (c8 i)) c (no-names i) E T)
+      ∙ (λ i. outcome (row· t s mode mostOpen (rowIs row) (room-is i) (no-names i) (x i) (c8 i)) c (no-names i) E T)
       ∙ ap (λ (a : Answer). outcome a c [] E T) root-read
 
   went-on : (d : Cursor) → w ≡ Go d → Went Ans c [] E T d [] E₁ T₁
@@ -185,7 +189,7 @@ module _ (t s : List ℕ) (name ty : ℕ) (mode : Mode) (h : Entered t name ty) 
         (reading-left t name ty s (length E) (length T) h (modeIs mode) m Ans refl (v .nodes) (d .at .0) (v .gave) (sym e ∙ f))
         (a ∙ ap (λ (π : List ℕ). declines leftOver (d .at .0) π) (no-path path z))
 
-pub ruleset root-ways = (root-ready, root-rowed, root-type, payload-short, root-used, root-given, root-refused, root-told, root-left)
+pub ruleset root-ways = (root-ready, root-fits, root-type, payload-short, root-used, root-given, root-refused, root-told, root-left)
 
 -- before the root: table, root, payload size and mode byte in this order, into buffers of zeros
 module _ (t s : List ℕ) (name ty : ℕ) (E T : List ℕ) where

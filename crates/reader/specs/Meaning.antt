@@ -3,27 +3,26 @@ use Prim.Native.Nat.{ℕ, zero, suc, _+_, _-_, _*_, _<_, _≤_}
 use mathlib.Core.Path.{_≡_}
 use mathlib.Core.List.{List}
 use mathlib.Core.Bool.{Bool, true, false}
-use lib.Dec.{ltb}
 use lib.ListN.{length}
+use Rattle.numbers.specs.Refusal as refusal
 use Rattle.numbers.specs.Kind as kinds
 use Rattle.numbers.specs.Limit.{mostName, mostNames}
 use Rattle.wire.specs.Bits.{bitAt}
 use Rattle.wire.specs.declared.Bits.{Bits}
 use Rattle.table.specs.First.Verdict.{right}
 use Rattle.table.specs.Valid.{verdict}
-use Rattle.table.specs.Words.{particlesIn}
 use Rattle.table.specs.Rows.{Row, Table, tableOf, heldOf}
 use Rattle.table.specs.Rows.Row.{element, sequence, choice, occurs}
 use Rattle.model.specs.Model.{event, Types, tableIn, Answer}
+use Rattle.model.specs.Model.Answer.{refused}
 use Rattle.model.specs.Model.Item.{picked, counted}
 use Rattle.model.specs.Items.{Lengths, itemAt, headAt}
-use Rattle.model.specs.Modes.{lengthsIs, Choosing}
-use Rattle.model.specs.Read.{Room, after, code, stored, castAt, entered, opened, mark}
+use Rattle.model.specs.Modes.{lengthsIs, typesBy, Choosing}
+use Rattle.model.specs.Read.{Room, after, code, stored, opened}
 use Rattle.model.specs.Steps.{particleAt, roundsAt, contentAt, insideAt}
-use Rattle.model.specs.declared.Choices.{Choices}
 use Rattle.model.specs.declared.Mode.{Mode}
+use Rattle.reader_parts.specs.Opening.{noRow, rowChoices}
 use Rattle.reader_parts.specs.Out.{roomOf, outcome, ending}
-use Rattle.reader_parts.specs.declared.Cast.{Cast}
 use Rattle.reader_parts.specs.declared.Cursor.{Cursor}
 use Rattle.reader_parts.specs.declared.Head.{Head}
 use Rattle.reader_parts.specs.declared.Head.the-variants.{Bare, Sized, Wrong}
@@ -54,26 +53,23 @@ pub record Ready (t s : List ℕ) (mode : Mode) (wall n depth : ℕ) : Type 0 wh
   pub walls : wall ≤ 8 * length s
   pub places : n + depth ≤ mostNames
 
--- who looks for substitutes is of a row of the table
-pub record Rowed (t : List ℕ) (choices : Choices) (row : ℕ) : Type 0 where
-  pub known : choices .substitutes ≡ true → row < particlesIn t
+-- an element is of a row of a table of P rows, or of none, as the root is
+abbrev pub Owned : (P row : ℕ) → Type 0
+Owned P row = (row ≡ noRow → ⊥) → row < P
 
 -- a row names types and rows of a table of T types and P rows
 abbrev pub Fits : (T P : ℕ) → Row → Type 0
-Fits T P (element name type row) = (name ≤ mostName) × (type < T) × (row < P)
+Fits T P (element name type row) = (name ≤ mostName) × (type < T) × Owned P row
 Fits T P (sequence first n) = first + n ≤ P
 Fits T P (choice first n) = first + n ≤ P
 Fits T P (occurs child least most) = child < P
 
--- the row that is j steps of k past the row i
-unfoldable pub stride : ℕ → ℕ → ℕ → ℕ
-stride i k zero = i
-stride i k (suc j) = stride (i + k) k j
-
--- n such rows are rows of a table of P
-pub record Reaches (P i k n : ℕ) : Type 0 where
-  pub small : k < 2
-  pub row : (j : ℕ) → j < n → stride i k j < P
+-- a row that is not the root's
+abbrev pub Rowed : Row → Type 0
+Rowed (element name type row) = row ≡ noRow → ⊥
+Rowed (sequence first n) = Unit {0}
+Rowed (choice first n) = Unit {0}
+Rowed (occurs child least most) = Unit {0}
 
 module _ (t s : List ℕ) (mode : Mode) where
   abbrev pub b : ℕ → ℕ
@@ -88,8 +84,8 @@ module _ (t s : List ℕ) (mode : Mode) where
   unfoldable pub particle· : ℕ → Row → Meaning
   particle· d row r π wall at = particleAt b lengths (heldOf t) schema d row r π wall at
 
-  unfoldable pub rounds· : ℕ → ℕ → ℕ → ℕ → Meaning
-  rounds· d i k n r π wall at = roundsAt b lengths (heldOf t) schema d n (λ j. tableOf t .row (stride i k j)) r π wall at
+  unfoldable pub rounds· : ℕ → (ℕ → Row) → ℕ → Meaning
+  rounds· d g n r π wall at = roundsAt b lengths (heldOf t) schema d n g r π wall at
 
   unfoldable pub content· : ℕ → ℕ → Meaning
   content· d ty r π wall at = contentAt b lengths (heldOf t) schema d (tableOf t .content ty) r π wall at
@@ -97,14 +93,9 @@ module _ (t s : List ℕ) (mode : Mode) where
   unfoldable pub inside· : ℕ → ℕ → Meaning
   inside· d ty r π wall at = insideAt b lengths (heldOf t) schema d ty r π wall at
 
-  -- the codes' event of an element, what is inside it, and its end
-  unfoldable pub whole· : ℕ → Cast → Bool → ℕ → Meaning
-  whole· d x coded body r π wall at =
-      after r (after r (castAt (x .sent) (x .effective) (x .substitute) r π at (x .next .0)) (λ u q. inside· d (x .effective) u π wall q)) (λ u q. ending coded body wall u π q)
-
-  unfoldable pub enter· : ℕ → ℕ → Cast → Bool → ℕ → Meaning
-  enter· d name x coded body r π wall at =
-      entered (ltb 0 (r .slots)) (x .sent) (inside· d) (mark name (x .effective) coded at body) (x .substitute) r π wall body (x .next .0)
+  -- what is inside an element, and its end
+  unfoldable pub whole· : ℕ → ℕ → Bool → ℕ → Meaning
+  whole· d ty coded body r π wall at = after r (inside· d ty r π wall at) (λ u q. ending coded body wall u π q)
 
   unfoldable pub element· : ℕ → ℕ → Types → Meaning
   element· d name y r π wall at = code (headAt lengths b wall at) π at (opened b lengths (heldOf t) (inside· d) name y r π wall at)
@@ -115,4 +106,12 @@ module _ (t s : List ℕ) (mode : Mode) where
 
   unfoldable pub occur· : ℕ → ℕ → ℕ → ℕ → Meaning
   occur· d child least most r π wall at =
-      code (itemAt (counted least most) b wall at) π at (λ (v, ts, q). after r (stored r π at (event kinds.times v 0 (q - at)) ts q) (λ u p. rounds· d child 0 v u π wall p))
+      code (itemAt (counted least most) b wall at) π at (λ (v, ts, q). after r (stored r π at (event kinds.times v 0 (q - at)) ts q) (λ u p. rounds· d (λ j. tableOf t .row child) v u π wall p))
+
+  -- a row that may be the root's, where rows may still be opened
+  unfoldable pub row· : ℕ → Row → Meaning
+  row· zero row r π wall at = refused refusal.depth at π
+  row· (suc d) (element name ty own) r π wall at = element· d name (typesBy t (rowChoices (mode .choices) own) ty own) r π wall at
+  row· (suc d) (sequence first n) r π wall at = rounds· d (λ j. tableOf t .row (first + j)) n r π wall at
+  row· (suc d) (choice first n) r π wall at = choose· d first n r π wall at
+  row· (suc d) (occurs child least most) r π wall at = occur· d child least most r π wall at

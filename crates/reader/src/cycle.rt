@@ -1,24 +1,21 @@
 // The cycle: an element reads what is inside it, that reads particle rows, and a particle row reads elements. `depth` rows may still be
 // opened; it falls at each row, so the cycle ends. The path goes down by value, copied where a row is entered and pushed where what is inside
-// holds rows; a success hands none back, as who called has its own. Each function but `particle` and `rounds` is called at one place.
+// holds rows; a success hands none back, as who called has its own. Each function but `particle` is called at one place.
 use crate::refusal_path::Walk;
 use crate::refusal_path::from_step;
 use crate::refusal_path::name_refusal;
-use model::Choices;
 use model::Mode;
 use numbers::kind;
 use numbers::refusal;
-use reader_parts::Cast;
-use reader_parts::Coded;
 use reader_parts::Cursor;
 use reader_parts::Head;
+use reader_parts::Opened;
 use reader_parts::Path;
 use reader_parts::Step;
 use reader_parts::attributes::all;
-use reader_parts::codes::codes;
-use reader_parts::codes::tell;
 use reader_parts::ends::close;
 use reader_parts::heads::head;
+use reader_parts::opening::open;
 use reader_parts::storing::store;
 use reader_parts::values::value;
 use table::Content;
@@ -35,18 +32,12 @@ ghost use Prim.Native.Nat.{_+_, _≤_, _<_};
 ghost use lib.ListN.{length};
 ghost use Rattle.numbers.specs.Limit.{mostName, mostNames};
 ghost use Rattle.table.specs.Words.{typesIn, particlesIn};
+ghost use Rattle.table.specs.Rows.{tableOf};
 ghost use Rattle.table.specs.Views.{rowIs};
-ghost use Rattle.model.specs.Model.{flagOf};
 ghost use Rattle.model.specs.Modes.{typesBy};
+ghost use Rattle.reader_parts.specs.Opening.{rowChoices};
 ghost use Rattle.reader_parts.specs.Paths.{namesOf};
-ghost use Rattle.reader.specs.Meaning.{Ready, Rowed, Fits, Reaches, Walks, reachOf, enter·, whole·, element·, inside·, content·, particle·, choose·, occur·, rounds·};
-
-// A Start's second word.
-fn flag(coded: bool) -> u32
-    ensures { λ r. ⌜ r ≡ flagOf coded ⌝ }
-{
-    if coded { 1 } else { 0 }
-}
+ghost use Rattle.reader.specs.Meaning.{Ready, Owned, Fits, Rowed, Walks, reachOf, whole·, element·, inside·, content·, row·, choose·, occur·, rounds·};
 
 // Whether a length is coded, where the body begins, and the wall of what is inside.
 pub struct Extent {
@@ -86,57 +77,7 @@ fn extent_of(h: Head, wall: Bits) -> Reach
     }
 }
 
-// A held element of an effective type, whose codes stand at its body: Start, then the rest of it, whose refusals it names.
-fn enter(
-    table: &[u32],
-    payload: &[u8],
-    events: &mut [u32],
-    texts: &mut [u8],
-    told: &mut [u16],
-    mode: Mode,
-    depth: u32,
-    wall: Bits,
-    c: Cursor,
-    path: Path,
-    name: u32,
-    cast: Cast,
-    coded: bool,
-    body: Bits,
-) -> Walk
-    requires { ⌜
-        (Ready (now table) (now payload) mode (wall .0) (path .count + 1) depth)
-        × (length (now told) ≡ mostNames)
-        × (name ≤ mostName)
-        × (cast .effective < typesIn (now table)) ⌝ }
-    ensures { λ r. ⌜
-        Walks (enter· (now (table .entry)) (now (payload .entry)) mode depth name cast coded (body .0)) (wall .0) c
-        (namesOf path) (now (events .entry)) (now (texts .entry)) r (now (told .exit)) (now (events .exit))
-        (now (texts .exit)) ⌝ }
-{
-    let s = store(events, c, kind::START, name, flag(coded), body);
-    let Step::Go(d) = s else {
-        return from_step(s);
-    };
-    let w = whole(
-        table,
-        payload,
-        events,
-        texts,
-        told,
-        mode,
-        depth,
-        wall,
-        d,
-        path,
-        name,
-        cast,
-        coded,
-        body,
-    );
-    name_refusal(told, path, name, w)
-}
-
-// The codes' event of an element of a name, what is inside it, below the wall, and its End.
+// What is inside an element of a name and a type, below the wall, and its End.
 fn whole(
     table: &[u32],
     payload: &[u8],
@@ -149,7 +90,7 @@ fn whole(
     c: Cursor,
     path: Path,
     name: u32,
-    cast: Cast,
+    t: u32,
     coded: bool,
     body: Bits,
 ) -> Walk
@@ -157,17 +98,12 @@ fn whole(
         (Ready (now table) (now payload) mode (wall .0) (path .count + 1) depth)
         × (length (now told) ≡ mostNames)
         × (name ≤ mostName)
-        × (cast .effective < typesIn (now table)) ⌝ }
+        × (t < typesIn (now table)) ⌝ }
     ensures { λ r. ⌜
-        Walks (whole· (now (table .entry)) (now (payload .entry)) mode depth cast coded (body .0)) (wall .0) c
+        Walks (whole· (now (table .entry)) (now (payload .entry)) mode depth t coded (body .0)) (wall .0) c
         (name ∷ namesOf path) (now (events .entry)) (now (texts .entry)) r (now (told .exit)) (now (events .exit))
         (now (texts .exit)) ⌝ }
 {
-    let s = tell(events, c, cast);
-    let Step::Go(d) = s else {
-        return from_step(s);
-    };
-    let t = cast.effective;
     let v = inside(
         table,
         payload,
@@ -177,7 +113,7 @@ fn whole(
         mode,
         depth,
         wall,
-        d,
+        c,
         path,
         name,
         t,
@@ -188,9 +124,8 @@ fn whole(
     from_step(close(events, coded, body, wall, e))
 }
 
-// An element of a name and a type, which is of a row where it has something to choose from: its head and its codes, then Start, a Blank or a
-// refusal.
-pub fn element(
+// An element of a name, a type and a row: its head, what becomes of it behind that, and where it is open the rest of it, whose refusals it names.
+fn element(
     table: &[u32],
     payload: &[u8],
     events: &mut [u32],
@@ -204,20 +139,20 @@ pub fn element(
     name: u32,
     t: u32,
     row: u32,
-    choices: Choices,
 ) -> Walk
     requires { ⌜
         (Ready (now table) (now payload) mode (wall .0) (path .count + 1) depth)
         × (length (now told) ≡ mostNames)
         × (name ≤ mostName)
         × (t < typesIn (now table))
-        × (Rowed (now table) choices row) ⌝ }
+        × (Owned (particlesIn (now table)) row) ⌝ }
     ensures { λ r. ⌜
-        Walks (element· (now (table .entry)) (now (payload .entry)) mode depth name (typesBy (now (table .entry)) choices t row))
+        Walks (element· (now (table .entry)) (now (payload .entry)) mode depth name (typesBy (now (table .entry)) (rowChoices (mode .choices) row) t row))
         (wall .0) c (namesOf path) (now (events .entry)) (now (texts .entry)) r (now (told .exit)) (now (events .exit))
         (now (texts .exit)) ⌝ }
 {
     let at = c.at;
+    let held = rows::held(table, t);
     let lengths = mode.lengths;
     let h = head(payload, lengths, wall, at);
     let r = extent_of(h, wall);
@@ -227,34 +162,45 @@ pub fn element(
             let coded = x.coded;
             let body = x.body;
             let inner = x.wall;
-            let k = codes(table, payload, choices, t, row, inner, body);
-            match k {
-                Coded::Wrong(n) => Walk::Refuse(n, body),
-                Coded::As(cast) => {
-                    let effective = cast.effective;
-                    let held = rows::held(table, effective);
-                    if held {
-                        return enter(
-                            table,
-                            payload,
-                            events,
-                            texts,
-                            told,
-                            mode,
-                            depth,
-                            inner,
-                            c,
-                            path,
-                            name,
-                            cast,
-                            coded,
-                            body,
-                        );
-                    }
-                    if coded {
-                        return from_step(store(events, c, kind::BLANK, name, effective, inner));
-                    }
-                    Walk::Refuse(refusal::NOT_HELD, at)
+            let choices = mode.choices;
+            let o = open(
+                table,
+                payload,
+                events,
+                choices,
+                c,
+                name,
+                t,
+                row,
+                held,
+                coded,
+                body,
+                inner,
+            );
+            match o {
+                Opened::Refuse(n, place) => Walk::Refuse(n, place),
+                Opened::Blank(d) => Walk::Go(d),
+                Opened::Full(n, place) => { name_refusal(told, path, name, Walk::Refuse(n, place)) }
+                Opened::In(y) => {
+                    let effective = y.effective;
+                    let d = y.cursor;
+                    let w = whole(
+                        table,
+                        payload,
+                        events,
+                        texts,
+                        told,
+                        mode,
+                        depth,
+                        inner,
+                        d,
+                        path,
+                        name,
+                        effective,
+                        coded,
+                        body,
+                    );
+                    name_refusal(told, path, name, w)
                 }
             }
         }
@@ -379,7 +325,7 @@ pub fn particle(
         × (length (now told) ≡ mostNames)
         × (Fits (typesIn (now table)) (particlesIn (now table)) (rowIs row)) ⌝ }
     ensures { λ r. ⌜
-        Walks (particle· (now (table .entry)) (now (payload .entry)) mode depth (rowIs row)) (wall .0) c (namesOf path)
+        Walks (row· (now (table .entry)) (now (payload .entry)) mode depth (rowIs row)) (wall .0) c (namesOf path)
         (now (events .entry)) (now (texts .entry)) r (now (told .exit)) (now (events .exit)) (now (texts .exit)) ⌝ }
 {
     let at = c.at;
@@ -387,7 +333,6 @@ pub fn particle(
         return Walk::Refuse(refusal::DEPTH, at);
     }
     let d = depth - 1;
-    let choices = mode.choices;
     match row {
         Particle::Element(name, t, own) => element(
             table,
@@ -403,7 +348,6 @@ pub fn particle(
             name,
             t,
             own,
-            choices,
         ),
         Particle::Sequence(first, n) => rounds(
             table,
@@ -417,7 +361,6 @@ pub fn particle(
             c,
             path,
             first,
-            1,
             n,
         ),
         Particle::Choice(first, n) => choose(
@@ -536,7 +479,8 @@ fn occur(
             let Step::Go(d) = s else {
                 return from_step(s);
             };
-            rounds(
+            let row = rows::particle(table, child);
+            repeated(
                 table,
                 payload,
                 events,
@@ -547,16 +491,15 @@ fn occur(
                 wall,
                 d,
                 path,
-                child,
-                0,
+                row,
                 v,
             )
         }
     }
 }
 
-// n rows from one on, each so far past the last: 1 for a sequence, 0 for the child of an occurs row.
-fn rounds(
+// A row n times.
+fn repeated(
     table: &[u32],
     payload: &[u8],
     events: &mut [u32],
@@ -567,23 +510,21 @@ fn rounds(
     wall: Bits,
     c: Cursor,
     path: Path,
-    first: u32,
-    step: u32,
+    row: Particle,
     n: u32,
 ) -> Walk
     requires { ⌜
         (Ready (now table) (now payload) mode (wall .0) (path .count) depth)
         × (length (now told) ≡ mostNames)
-        × (Reaches (particlesIn (now table)) first step n) ⌝ }
+        × (Fits (typesIn (now table)) (particlesIn (now table)) (rowIs row))
+        × (Rowed (rowIs row)) ⌝ }
     ensures { λ r. ⌜
-        Walks (rounds· (now (table .entry)) (now (payload .entry)) mode depth first step n) (wall .0) c (namesOf path)
+        Walks (rounds· (now (table .entry)) (now (payload .entry)) mode depth (λ j. rowIs row) n) (wall .0) c (namesOf path)
         (now (events .entry)) (now (texts .entry)) r (now (told .exit)) (now (events .exit)) (now (texts .exit)) ⌝ }
 {
     let mut cursor = c;
-    let mut i = first;
     let mut j: u32 = 0;
     while j < n {
-        let row = rows::particle(table, i);
         let w = particle(
             table,
             payload,
@@ -601,7 +542,55 @@ fn rounds(
             return w;
         };
         cursor = d;
-        i += step;
+        j += 1;
+    }
+    Walk::Go(cursor)
+}
+
+// The n rows of a sequence, from one on.
+fn rounds(
+    table: &[u32],
+    payload: &[u8],
+    events: &mut [u32],
+    texts: &mut [u8],
+    told: &mut [u16],
+    mode: Mode,
+    depth: u32,
+    wall: Bits,
+    c: Cursor,
+    path: Path,
+    first: u32,
+    n: u32,
+) -> Walk
+    requires { ⌜
+        (Ready (now table) (now payload) mode (wall .0) (path .count) depth)
+        × (length (now told) ≡ mostNames)
+        × (first + n ≤ particlesIn (now table)) ⌝ }
+    ensures { λ r. ⌜
+        Walks (rounds· (now (table .entry)) (now (payload .entry)) mode depth (λ j. tableOf (now (table .entry)) .row (first + j)) n) (wall .0) c (namesOf path)
+        (now (events .entry)) (now (texts .entry)) r (now (told .exit)) (now (events .exit)) (now (texts .exit)) ⌝ }
+{
+    let mut cursor = c;
+    let mut j: u32 = 0;
+    while j < n {
+        let row = rows::particle(table, first + j);
+        let w = particle(
+            table,
+            payload,
+            events,
+            texts,
+            told,
+            mode,
+            depth,
+            wall,
+            cursor,
+            path,
+            row,
+        );
+        let Walk::Go(d) = w else {
+            return w;
+        };
+        cursor = d;
         j += 1;
     }
     Walk::Go(cursor)

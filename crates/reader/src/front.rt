@@ -1,7 +1,7 @@
 // The byte that a payload begins with.
-use model::Choices;
 use model::Lengths;
 use model::Mode;
+use model::offered;
 use numbers::limit;
 use numbers::mode;
 use numbers::refusal;
@@ -26,10 +26,7 @@ fn by_table(table: &[u32], lengths: Lengths, derived: bool) -> Found
     ensures { λ r. ⌜ Makes (now (table .entry)) lengths derived r ⌝ }
 {
     let swaps = rows::swaps(table);
-    let choices = Choices {
-        substitutes: 0 < swaps,
-        derived,
-    };
+    let choices = offered(0 < swaps, derived);
     let m = Mode { lengths, choices };
     Found::Is(m)
 }

@@ -6,19 +6,20 @@ mod rest; // rest.rt: what is left after the root
 mod refusal_path; // refusal_path.rt: what a walk answers, and the path of a refusal
 
 use clear::both;
-use cycle::element;
+use cycle::particle;
 use front::Found;
 use front::mode_of;
-use model::Choices;
 use model::Lengths;
 use model::Mode;
 use numbers::limit;
 use numbers::refusal;
 use reader_parts::Cursor;
 use reader_parts::Path;
+use reader_parts::opening::NO_ROW;
 use refusal_path::Walk;
 use refusal_path::copy_names;
 use rest::padding;
+use table::Particle;
 use table::Verdict;
 use table::check;
 use table::rows::types;
@@ -127,10 +128,7 @@ fn accepted(mode: Mode, c: Cursor, path: Path) -> Answer
     }
 }
 
-// The rows that may be open inside the root, which is the first.
-const BELOW_ROOT: u32 = limit::MOST_OPEN - 1;
-
-// The root at bit 8, which has nothing to choose from, into buffers that are zero; then what is left after it.
+// The root at bit 8, an element of no row, into buffers that are zero; then what is left after it.
 fn root(
     table: &[u32],
     payload: &[u8],
@@ -161,25 +159,19 @@ fn root(
     };
     let path = nowhere();
     let mut told = [0u16; limit::MOST_NAMES];
-    let choices = Choices {
-        substitutes: false,
-        derived: false,
-    };
-    let w = element(
+    let row = Particle::Element(name, t, NO_ROW);
+    let w = particle(
         table,
         payload,
         events,
         texts,
         &mut told,
         mode,
-        BELOW_ROOT,
+        limit::MOST_OPEN,
         wall,
         c,
         path,
-        name,
-        t,
-        0,
-        choices,
+        row,
     );
     match w {
         Walk::Refuse(n, at) => {

@@ -27,14 +27,13 @@ use Rattle.table.specs.Rows.{tableOf}
 use Rattle.table.specs.Views.{listedAt, Listed}
 use Rattle.table.specs.declared.answers.TypeList.{TypeList}
 use Rattle.table.proofs.CastLaws.{derived-ok, substitutes-ok}
-use Rattle.model.specs.Model.{Types, chosen, defaultType, effectiveType, sends, codes}
+use Rattle.model.specs.Model.{Types, only, chosen, defaultType, effectiveType, sends, codes}
 use Rattle.model.specs.Model.Nodes.{none}
 use Rattle.model.specs.Model.Answer.{given}
 use Rattle.model.specs.Items.{substituteCode, typeCode, codesAt}
 use Rattle.model.specs.Modes.{typesBy}
 use Rattle.model.specs.Read.{castAt}
 use Rattle.model.specs.declared.Choices.{Choices}
-use Rattle.model.proofs.ModeLaws.{types-only}
 use Rattle.reader_parts.specs.declared.Cast.{Cast}
 use Rattle.reader_parts.specs.declared.Coded.{Coded}
 use Rattle.reader_parts.specs.declared.Coded.the-variants.{As, Wrong}
@@ -44,7 +43,7 @@ use Rattle.reader_parts.specs.declared.Cursor.{Cursor}
 use Rattle.reader_parts.specs.declared.Step.{Step}
 use Rattle.reader_parts.specs.declared.Step.the-variants.{Go}
 use Rattle.reader_parts.specs.Out.{stepView, outcome, Stores}
-use Rattle.reader_parts.specs.Codes.{pickIs, pickAt, Picks, sendsOf, codedIs, Says, Plain, Tells}
+use Rattle.reader_parts.specs.Codes.{pickIs, pickAt, Picks, sendsOf, codedIs, Says, Tells}
 use Rattle.reader_parts.proofs.Laws.{outcome-none}
 
 -- one of n is under n; none or one of n is at most n
@@ -165,20 +164,14 @@ module _ (b : ℕ → ℕ) (wall at : ℕ) where
       let z : at + 0 ≡ at = omega arith in
       rw (z, lt-leb at wall h)
 
--- plain
-module _ (t wall : ℕ) (at : Bits) where
-  pub plain-past : wall < at .0 → Plain t wall (at .0) (Wrong pastEnd)
-  unfolding codedIs codesAt substituteCode
-  plain-past h = record { says = λ b. record { says = sym (then-fault _ (none-past b wall (at .0) h)); sent = tt } }
+  -- an element's codes are then of no bits
+  pub codes-none : (t : ℕ) → at ≤ wall → codesAt (only t) b wall at ≡ got (t, 0, at)
+  unfolding codesAt substituteCode typeCode defaultType effectiveType chosen
+  codes-none t h = then _ (none-in h) (then _ (none-in h) refl)
 
-  pub plain-in : at .0 ≤ wall → Plain t wall (at .0) (As record { effective = t; substitute = 0; next = at; sent = false })
-  unfolding codedIs codesAt substituteCode typeCode defaultType effectiveType chosen codes sends
-  plain-in h =
-      record {
-        says = λ b. record { says = sym (then _ (none-in b wall (at .0) h) (then _ (none-in b wall (at .0) h) refl)); sent = refl };
-      }
-
-pub ruleset plain-ways = (plain-past, plain-in)
+  pub codes-past : (t : ℕ) → wall < at → codesAt (only t) b wall at ≡ fault pastEnd
+  unfolding codesAt substituteCode
+  codes-past t h = then-fault _ (none-past h)
 
 -- an element's codes, as one pick after another
 module _ (y : Types) (b : ℕ → ℕ) (wall at : ℕ) where
@@ -230,7 +223,7 @@ own-stays own b wall at =
     let z : x .0 ≡ 0 = omega arith in
     gives (rw z))
 
--- chosen
+-- codes
 module _ (l : List ℕ) (choices : Choices) (t row : ℕ) (b : ℕ → ℕ) (wall at : ℕ) (swaps : TypeList)
     (L : Listed l (cond (choices .substitutes) (tableOf l .substitutes row) []) swaps) (r : code.Picked) (h : Picks l b wall at t swaps r) where
   abbrev y : Types
@@ -275,13 +268,6 @@ module _ (l : List ℕ) (choices : Choices) (t row : ℕ) (b : ℕ → ℕ) (wal
 
 pub ruleset says-ways = (says-first, says-second, says-as)
 
--- codes
-module _ (l : List ℕ) (choices : Choices) (t row : ℕ) (b : ℕ → ℕ) (wall at : ℕ) where
-  pub says-plain : (r : Coded) → choices .substitutes ≡ false → choices .derived ≡ false → Plain t wall at r → Says (typesBy l choices t row) b wall at r
-  says-plain r e f h = rw (types-only l choices e f t row) (h .says b)
-
-pub ruleset codes-ways = (says-plain)
-
 -- the effective type is one of the table's
 pick-known : (T own : ℕ) (types : List ℕ) (b : ℕ → ℕ) (wall at : ℕ) → own < T → ((k : ℕ) → k < length types → getD types k 0 < T)
     → Ensures (pickAt own types b wall at) (λ x. x .0 < T)
@@ -308,15 +294,11 @@ module _ (l : List ℕ) (valid : verdict l ≡ right) (choices : Choices) (t row
       go true k i = derived-ok l valid d f .known k i
       go false k i = absurd (omega arith)
 
-  codes-known : Ensures (codesAt (typesBy l choices t row) b wall at) (λ x. x .0 < typesIn l)
+  pub codes-known : Ensures (codesAt (typesBy l choices t row) b wall at) (λ x. x .0 < typesIn l)
   codes-known =
       rw (codes-picks (typesBy l choices t row) b wall at)
       (bind (pick-known (typesIn l) t _ b wall at h substitutes-known) (λ (d, k, p) f.
       bind (pick-known (typesIn l) d _ b wall p f (derived-known d f)) (λ (e, j, q) i. gives i)))
-
-  pub effective-known : (k : Coded) → Says (typesBy l choices t row) b wall at k → (x : Cast) → k ≡ As x → x .effective < typesIn l
-  unfolding codedIs
-  effective-known k e x f = codes-known .says (x .effective, x .substitute, x .next .0) (sym (e .says) ∙ rw f)
 
 -- tell
 module _ (x : Cast) (c : Cursor) (E : List ℕ) where

@@ -4,6 +4,7 @@ pub mod CodeWays
 pub mod EndsLaws
 mod HeadWays
 pub mod Laws
+pub mod OpeningWays
 mod PathLaws
 mod StoreWays
 mod ValueWays

@@ -10,7 +10,7 @@ use Rattle.value.specs.Code.{codeAt}
 use Rattle.value.specs.Simple.{oneOf}
 use Rattle.table.specs.Views.{Listed}
 use Rattle.table.specs.declared.answers.TypeList.{TypeList}
-use Rattle.model.specs.Model.{Types, only, chosen, codes}
+use Rattle.model.specs.Model.{Types, chosen, codes}
 use Rattle.model.specs.Items.{codesAt}
 use Rattle.model.specs.Read.{castAt}
 use Rattle.reader_parts.specs.Out.{roomOf, stepView, outcome}
@@ -53,10 +53,6 @@ Sent y (Wrong n) = Unit {0}
 pub record Says (y : Types) (b : ℕ → ℕ) (wall at : ℕ) (r : Coded) : Type 0 where
   pub says : codedIs r ≡ codesAt y b wall at
   pub sent : Sent y r
-
--- of an element that has nothing to choose from, whatever the bits are
-pub record Plain (t wall at : ℕ) (r : Coded) : Type 0 where
-  pub says : (b : ℕ → ℕ) → Says (only t) b wall at r
 
 -- the event of an element's codes, where a flag bit was sent, with no text
 pub record Tells (x : Cast) (c : Cursor) (E : List ℕ) (s : Step) (E′ : List ℕ) : Type 0 where

@@ -2,3 +2,4 @@ pub mod Paths
 pub mod Out
 pub mod Heads
 pub mod Codes
+pub mod Opening

@@ -6,7 +6,6 @@ use crate::Step;
 use crate::storing::store;
 use model::Choices;
 use numbers::kind;
-use numbers::refusal;
 use table::TypeList;
 use table::rows;
 use value::reading::choice;
@@ -24,7 +23,7 @@ ghost use Rattle.value.specs.Simple.{oneOf};
 ghost use Rattle.table.specs.Rows.{tableOf};
 ghost use Rattle.table.specs.Views.{Listed};
 ghost use Rattle.model.specs.Modes.{typesBy};
-ghost use Rattle.reader_parts.specs.Codes.{sendsOf, Picks, Plain, Says, Tells};
+ghost use Rattle.reader_parts.specs.Codes.{sendsOf, Picks, Says, Tells};
 
 // A type that was picked, its number in the list (from 1, or 0 where it is not of the list) and the place past its code; or a refusal.
 pub enum Picked {
@@ -113,24 +112,8 @@ fn sends(swaps: u32, casts: u32) -> bool
     if 0 < swaps { true } else { 0 < casts }
 }
 
-// Of an element that has nothing to choose from: codes of no bits.
-fn plain(t: u32, wall: Bits, at: Bits) -> Coded
-    ensures { λ r. ⌜ Plain t (wall .0) (at .0) r ⌝ }
-{
-    if wall.0 < at.0 {
-        return Coded::Wrong(refusal::PAST_END);
-    }
-    let x = Cast {
-        effective: t,
-        substitute: 0,
-        next: at,
-        sent: false,
-    };
-    Coded::As(x)
-}
-
-// Of an element that may have something: which substitute, then which derived type of the type that it then has.
-fn chosen(
+// An element's codes, from a place on: which substitute, then which derived type of the type that it then has.
+pub fn codes(
     table: &[u32],
     payload: &[u8],
     choices: Choices,
@@ -163,29 +146,6 @@ fn chosen(
             }
         }
     }
-}
-
-// An element's codes, from a place on: its substitute first, then its derived type.
-pub fn codes(
-    table: &[u32],
-    payload: &[u8],
-    choices: Choices,
-    t: u32,
-    row: u32,
-    wall: Bits,
-    at: Bits,
-) -> Coded
-    requires { ⌜ wall .0 ≤ 8 * length (now payload) ⌝ }
-    ensures { λ r. ⌜
-        Says (typesBy (now (table .entry)) choices t row) (bitAt (now (payload .entry))) (wall .0) (at .0) r ⌝ }
-{
-    if choices.substitutes {
-        return chosen(table, payload, choices, t, row, wall, at);
-    }
-    if choices.derived {
-        return chosen(table, payload, choices, t, row, wall, at);
-    }
-    plain(t, wall, at)
 }
 
 // The event of an element's codes, where a flag bit was sent.

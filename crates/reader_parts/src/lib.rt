@@ -3,6 +3,7 @@ pub mod attributes; // attributes.rt: one attribute, and all of a type
 pub mod codes; // codes.rt: an element's substitution code and type code, and their event
 pub mod ends; // ends.rt: the end of an element
 pub mod heads; // heads.rt: an element's flag and length
+pub mod opening; // opening.rt: behind its head an element is opened, a Blank, or refused
 pub mod storing; // storing.rt: one event
 pub mod values; // values.rt: a simple value, with its text
 
@@ -50,6 +51,20 @@ pub struct Cast {
 pub enum Coded {
     As(Cast),
     Wrong(u32),
+}
+
+// An element that is open: its effective type, and where the reading is.
+pub struct Inner {
+    pub effective: u32,
+    pub cursor: Cursor,
+}
+
+// What becomes of an element behind its head: refused; a Blank; refused once it is in the path, for lack of room for its codes' event; open.
+pub enum Opened {
+    Refuse(u32, Bits),
+    Blank(Cursor),
+    Full(u32, Bits),
+    In(Inner),
 }
 
 impl Path {

@@ -13,7 +13,7 @@ use numbers::content;
 use numbers::particle;
 ghost use mathlib.Core.Path.{_≡_};
 ghost use Prim.Native.Nat.{_<_};
-ghost use Rattle.table.specs.Rows.{tableOf, heldOf, attributeOf, rowAt};
+ghost use Rattle.table.specs.Rows.{tableOf, heldOf, attributeOf, rowFrom, rowAt};
 ghost use Rattle.table.specs.Views.{contentIs, rowIs, attributeIs, Spans, Listed, listedAt};
 ghost use Rattle.table.specs.Words.{wordAt, rowsEnd, substitutesIn};
 
@@ -88,14 +88,10 @@ pub fn attribute(table: &[u32], i: u32) -> Attribute
     }
 }
 
-// The particle row i of a table with so many types and attribute rows.
-fn row_at(table: &[u32], types: u32, attributes: u32, i: u32) -> Particle
-    ensures { λ r. ⌜ rowIs r ≡ rowAt (now (table .entry)) types attributes i ⌝ }
+// The particle row i, by its words.
+fn row_of(i: u32, kind: u32, x: u32, y: u32, z: u32) -> Particle
+    ensures { λ r. ⌜ rowIs r ≡ rowFrom i kind x y z ⌝ }
 {
-    let base = particle_at(types, attributes, i);
-    let kind = word(table, base);
-    let x = word(table, base + 1);
-    let y = word(table, base + 2);
     if kind == particle::ELEMENT {
         return Particle::Element(x, y, i);
     }
@@ -105,8 +101,28 @@ fn row_at(table: &[u32], types: u32, attributes: u32, i: u32) -> Particle
     if kind == particle::CHOICE {
         return Particle::Choice(x, y);
     }
-    let z = word(table, base + 3);
     Particle::Occurs(x, y, z)
+}
+
+// The particle row i of a table with so many types and attribute rows. One test does for the four words of a row that is in the table.
+fn row_at(table: &[u32], types: u32, attributes: u32, i: u32) -> Particle
+    ensures { λ r. ⌜ rowIs r ≡ rowAt (now (table .entry)) types attributes i ⌝ }
+{
+    let base = particle_at(types, attributes, i);
+    if base + 3 < table.len() {
+        return row_of(
+            i,
+            table[base],
+            table[base + 1],
+            table[base + 2],
+            table[base + 3],
+        );
+    }
+    let kind = word(table, base);
+    let x = word(table, base + 1);
+    let y = word(table, base + 2);
+    let z = word(table, base + 3);
+    row_of(i, kind, x, y, z)
 }
 
 // The particle row i.

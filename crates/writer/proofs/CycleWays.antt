@@ -355,8 +355,8 @@ module _ (L X : List ℕ) (c : Spot) (N : List ℕ) (t : List ℕ) (mode : Mode)
           walked-as s (particle-as (Row.occurs child least most) (rw w) ∙ steps-laws.particle-occurs (len mode) (heldOf t) (tab t mode) (eventsAt L (c .event)) (textsAt X (c .used)) (d - 1) child least most
           ∙ (λ j. steps.itemThen (counted least most) (eventsAt L (c .event)) (textsAt X (c .used)) (λ v A U. steps.roundsOut (len mode) (heldOf t) (tab t mode) (d - 1) v (λ a. tableOf t .row (none a j)) A U))) h
 
-pub row-chosen : (t : List ℕ) (c : Choices) (row : ℕ) → row < particlesIn t → Rowed t c row
-row-chosen t c row h = record { known = λ e. h }
+pub row-chosen : (t : List ℕ) (mode : Mode) (row : ℕ) → Right t mode → row < particlesIn t → Rowed t (mode .choices) row
+row-chosen t mode row r h = record { known = λ e. h; neither = r .choosing .neither }
 
 pub ruleset particle-ways = (particle-deep, particle-element, particle-sequence, particle-choice, particle-occurs, row-type, row-known, row-sequence, row-choice, row-child)
 

@@ -1,6 +1,6 @@
 -- Each way through the entry: a refusal before the walk, in it, after it; and a payload that is made.
 use Prim.Native.Nat.{ℕ, _+_, _-_, _*_, _/_, _<_, _≤_}
-use mathlib.Core.Path.{_≡_, sym, ap, _∙_}
+use mathlib.Core.Path.{_≡_, refl, sym, ap, _∙_}
 use mathlib.Core.Bool.{false, true≢false}
 use mathlib.Core.List.{List, [], _∷_}
 use native.Mathlib.Omega.{arith}
@@ -98,10 +98,10 @@ write-room t name ty mode L h = let s = h .shape .few in omega arith
 
 -- the root has nothing to choose from
 abbrev nothing : Choices
-nothing = record { substitutes = false; derived = false }
+nothing = record { any = false; substitutes = false; derived = false }
 
 pub root-chosen : (t : List ℕ) → Rowed t nothing 0
-root-chosen t = record { known = λ e. absurd (true≢false (sym e)) }
+root-chosen t = record { known = λ e. absurd (true≢false (sym e)); neither = λ e. (refl, refl) }
 
 abbrev rootOut : List ℕ → Mode → (name ty : ℕ) → List Bare → List ℕ → Out
 rootOut t mode name ty = element· t mode (mostOpen - 1) name (typesBy t nothing ty 0)

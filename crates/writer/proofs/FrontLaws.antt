@@ -22,9 +22,11 @@ use Rattle.table.specs.Rows.{tableOf}
 use Rattle.table.specs.declared.answers.Verdict as verdictT
 use Rattle.table.specs.declared.answers.Verdict.the-variants as vv
 use Rattle.model.specs.Items.{Lengths, Mode}
-use Rattle.model.specs.Modes.{lengthsIs}
+use Rattle.model.specs.Modes.{lengthsIs, offers}
+use Rattle.model.specs.declared.Choices.{Choices}
 use Rattle.model.specs.declared.Lengths as lengthsT
 use Rattle.model.specs.declared.Lengths.the-variants as lv
+use Rattle.model.proofs.ModeLaws.{offers-neither}
 use Rattle.model.proofs.Entries.{asked-then, mode-asked, asked-mode}
 use Rattle.model.specs.Whole.{mode, lengthsNumber, modeNumber, modesFor, modeBy, unmade, asked, modeAsked, roomed, spent, shaped, orUnmade, verdictMade, writing}
 use Rattle.writer_parts.specs.declared.Spot.{Spot}
@@ -121,10 +123,10 @@ module _ (n : ℕ) where
 pub ruleset lengths-ways = (lengths-never, lengths-optional, lengths-always)
 
 -- mode_of
-pub moded : (t : List ℕ) (n : ℕ) (k : lengthsT.Lengths) → Numbered (n % 4) k → (s : ℕ) → s ≡ substitutesIn t
-    → Moded t n (record { lengths = k; choices = record { substitutes = ltb 0 s; derived = leb 4 n } })
+pub moded : (t : List ℕ) (n : ℕ) (k : lengthsT.Lengths) → Numbered (n % 4) k → (s : ℕ) (c : Choices) → s ≡ substitutesIn t → c ≡ offers (ltb 0 s) (leb 4 n)
+    → Moded t n (record { lengths = k; choices = c })
 unfolding modeNumber lengthsNumber
-moded t n k h s e = record { is = λ way f. go (way .lengths) (way .casting) (asked-mode (tableOf t .derivations) n .says way f .is); choosing = record { none = λ f. let z = ltb-false 0 s f in omega arith } }
+moded t n k h s c e c-is = rw c-is (record { is = λ way f. go (way .lengths) (way .casting) (asked-mode (tableOf t .derivations) n .says way f .is); choosing = record { none = λ f. let z = ltb-false 0 s f in omega arith; neither = offers-neither (ltb 0 s) (leb 4 n) } })
   where
     go : (l : Lengths) (c : Bool) → n ≡ modeNumber (mode l c) → _≡_ {A = Mode} (mode (lengthsIs k) (leb 4 n)) (mode l c)
     go l false f = λ i. mode (h .is l (small l f) i) (lt-leb 4 n (below l f) i)

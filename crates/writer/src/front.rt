@@ -1,7 +1,7 @@
 // What is judged before the walk: table, root, mode, the list's shape; and after it: what is left over, the room.
-use model::Choices;
 use model::Lengths;
 use model::Mode;
+use model::offered;
 use numbers::kind;
 use numbers::limit;
 use numbers::refusal;
@@ -62,10 +62,7 @@ pub fn mode_of(table: &[u32], number: u32) -> Mode
     ensures { λ r. ⌜ Moded (now (table .entry)) number r ⌝ }
 {
     let lengths = lengths_of(number % numbers::mode::CASTING);
-    let choices = Choices {
-        substitutes: 0 < swaps(table),
-        derived: numbers::mode::CASTING <= number,
-    };
+    let choices = offered(0 < swaps(table), numbers::mode::CASTING <= number);
     Mode { lengths, choices }
 }
 

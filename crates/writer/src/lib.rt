@@ -133,6 +133,7 @@ fn write_with_notes(
         bits: 0,
     };
     let nothing = Choices {
+        any: false,
         substitutes: false,
         derived: false,
     };

@@ -1,10 +1,10 @@
 -- Each way through the functions of an element's codes.
 use Prim.Native.Nat.{ℕ, zero, suc, _+_, _-_, _*_, _^_, _<_, _≤_}
 use mathlib.Core.Path.{_≡_, refl, sym, ap, _∙_}
-use mathlib.Core.Bool.{Bool, true, false, cond}
+use mathlib.Core.Bool.{Bool, true, false, not, cond}
 use mathlib.Core.List.{List, [], _∷_, _++_}
 use native.Mathlib.Omega.{arith}
-use borrow.Author.Tests.{lt-ltb, le-ltb, eq-eqb, ne-eqb, eqb-true, ltb-true}
+use borrow.Author.Tests.{lt-ltb, le-ltb, eq-eqb, ne-eqb, eqb-true, ltb-true, not-true}
 use mir.Val.{Fits as FitsIn}
 use mir.Syntax.{w32, w64}
 use lib.Dec.{ltb, eqb}
@@ -77,7 +77,11 @@ module _ (l : List ℕ) (c : Choices) (t row : ℕ) (s : TypeList) (h : Lists l 
   unfolding codes
   due-types z d g = let e = h .listed .count-is in rw (g .listed .count-is) (sym (sends-second _ _ (omega arith)))
 
-pub ruleset due-ways = (due-swap, due-types)
+pub due-nothing : (l : List ℕ) (c : Choices) (t row : ℕ) → Rowed l c row → not (c .any) ≡ true → false ≡ codes (typesBy l c t row)
+unfolding codes sends
+due-nothing l c t row h e = let n = h .neither (not-true (c .any) e) in rw (n .0, n .1) refl
+
+pub ruleset due-ways = (due-nothing, due-swap, due-types)
 
 -- default_type
 chosen-more : (t : ℕ) (types : List ℕ) (q : ℕ) → (q ≡ 0 → ⊥) → chosen t types q ≡ getD types (q - 1) 0

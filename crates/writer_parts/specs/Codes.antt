@@ -1,7 +1,7 @@
 -- What the functions of an element's codes promise: what there is to choose from, both codes as a note, and the walk past them.
 use Prim.Native.Nat.{ℕ, _+_, _-_, _*_, _<_, _≤_}
 use mathlib.Core.Path.{_≡_}
-use mathlib.Core.Bool.{true}
+use mathlib.Core.Bool.{true, false}
 use mathlib.Core.List.{List}
 use lib.ListN.{length, getD}
 use Rattle.wire.specs.Res.{got, fault}
@@ -20,9 +20,10 @@ use Rattle.writer_parts.specs.declared.Cast.the-variants as cv
 use Rattle.writer_parts.specs.Notes.{Noted}
 use Rattle.writer_parts.specs.Walk.{eventsIn, eventsAt, between, Ready}
 
--- who looks for a row's substitutes has a row of the table
+-- who looks for a row's substitutes has a row of the table; who looks for nothing, for neither
 pub record Rowed (l : List ℕ) (c : Choices) (row : ℕ) : Type 0 where
   pub known : c .substitutes ≡ true → row < particlesIn l
+  pub neither : c .any ≡ false → (c .substitutes ≡ false) × (c .derived ≡ false)
 
 -- a list of types as the code has it, at a place that can be counted on from
 pub record Lists (l types : List ℕ) (r : TypeList) : Type 0 where

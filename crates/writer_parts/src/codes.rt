@@ -61,8 +61,12 @@ fn derived(table: &[u32], choices: Choices, t: u32) -> TypeList
 
 // Whether an element of a row and a type has codes.
 fn due(table: &[u32], choices: Choices, t: u32, row: u32) -> bool
+    requires { ⌜ Rowed (now table) choices row ⌝ }
     ensures { λ r. ⌜ r ≡ codes (typesBy (now (table .entry)) choices t row) ⌝ }
 {
+    if !choices.any {
+        return false;
+    }
     let swaps = substitutes(table, choices, row);
     if 0 < swaps.count {
         return true;

@@ -15,11 +15,11 @@ cast-t28 c = omega (arith, payload-short _ _ _ (c .before .before .before .befor
 nowhere-requires : tie.Need-nowhere-requires
 nowhere-requires c κs = search needs
 
-slice-aggregate-element : tie.Need-slice-aggregate-element
-slice-aggregate-element c = search needs
+slice-aggregate-particle : tie.Need-slice-aggregate-particle
+slice-aggregate-particle c = search needs
 
-element-requires : tie.Need-element-requires
-element-requires c κs = search (needs, root-ways)
+particle-requires : tie.Need-particle-requires
+particle-requires c κs = search (needs, root-ways)
 
 enum-known-w : tie.Need-enum-known-w
 enum-known-w c = search needs
@@ -71,10 +71,10 @@ returns c =
     let at-if1 = c .before in
     let at-padding = at-if1 .before in
     let at-w3 = at-padding .before .before .before in
-    let at-element = at-w3 .before .before .before .before .before .before .before in
-    let at-nowhere = at-element .before .before .before .before in
+    let at-particle = at-w3 .before .before .before .before .before .before .before in
+    let at-nowhere = at-particle .before .before .before .before in
     let entry = at-nowhere .before .before .before .before .before in
-    search (root-given, entry .pre .0, entry .pre .1, entry .pre .3, entry .pre .4, at-nowhere .nowhere .ensures, at-element .element .ensures, at-w3 .w3 .given .1, at-padding .padding .ensures, at-if1 .if1 .taken, c .accepted .ensures)
+    search (root-given, entry .pre .0, entry .pre .1, entry .pre .3, entry .pre .4, at-nowhere .nowhere .ensures, at-particle .particle .ensures, at-w3 .w3 .given .1, at-padding .padding .ensures, at-if1 .if1 .taken, c .accepted .ensures)
 
 cast-place-3 : tie.Need-cast-place-3
 cast-place-3 c = search needs
@@ -95,16 +95,16 @@ returns-2 : tie.Need-returns-2
 returns-2 c =
     let at-both = c .before .before .before .before .before in
     let at-w = at-both .before .before .before .before .before in
-    let at-element = at-w .before .before .before .before .before .before .before in
-    let at-nowhere = at-element .before .before .before .before in
+    let at-particle = at-w .before .before .before .before .before .before .before in
+    let at-nowhere = at-particle .before .before .before .before in
     let entry = at-nowhere .before .before .before .before .before in
-    search (root-refused, entry .pre .0, entry .pre .1, entry .pre .3, entry .pre .4, at-nowhere .nowhere .ensures, at-element .element .ensures, at-element .element .kept .1 .1 .0, at-element .element .kept .1 .1 .1 .0, at-w .w .given .1, at-both .both .ensures .0, at-both .both .ensures .1, c .refused .ensures)
+    search (root-refused, entry .pre .0, entry .pre .1, entry .pre .3, entry .pre .4, at-nowhere .nowhere .ensures, at-particle .particle .ensures, at-particle .particle .kept .1 .1 .0, at-particle .particle .kept .1 .1 .1 .0, at-w .w .given .1, at-both .both .ensures .0, at-both .both .ensures .1, c .refused .ensures)
 
 same-length-5 : tie.Need-same-length-5
 same-length-5 c =
     let at-both2 = c .before .before .before .before .before .before .before in
-    let at-element = at-both2 .before .before .before .before .before .before .before .before .before .before .before .before in
-    at-both2 .both2 .kept .0 ∙ at-element .element .kept .1 .1 .0
+    let at-particle = at-both2 .before .before .before .before .before .before .before .before .before .before .before .before in
+    at-both2 .both2 .kept .0 ∙ at-particle .particle .kept .1 .1 .0
 
 same-length-6 : tie.Need-same-length-6
 same-length-6 c = search needs
@@ -114,10 +114,10 @@ returns-3 c =
     let at-heard = c .before in
     let at-both2 = at-heard .before .before .before .before .before .before in
     let at-w2 = at-both2 .before .before .before .before .before in
-    let at-element = at-w2 .before .before .before .before .before .before .before in
-    let at-nowhere = at-element .before .before .before .before in
+    let at-particle = at-w2 .before .before .before .before .before .before .before in
+    let at-nowhere = at-particle .before .before .before .before in
     let entry = at-nowhere .before .before .before .before .before in
-    search (root-told, entry .pre .0, entry .pre .1, entry .pre .3, entry .pre .4, at-nowhere .nowhere .ensures, at-element .element .ensures, at-element .element .kept .1 .1 .0, at-element .element .kept .1 .1 .1 .0, at-w2 .w2 .given .1, at-both2 .both2 .ensures .0, at-both2 .both2 .ensures .1, at-heard .path-from .ensures, c .refused2 .ensures)
+    search (root-told, entry .pre .0, entry .pre .1, entry .pre .3, entry .pre .4, at-nowhere .nowhere .ensures, at-particle .particle .ensures, at-particle .particle .kept .1 .1 .0, at-particle .particle .kept .1 .1 .1 .0, at-w2 .w2 .given .1, at-both2 .both2 .ensures .0, at-both2 .both2 .ensures .1, at-heard .path-from .ensures, c .refused2 .ensures)
 
 same-length-7 : tie.Need-same-length-7
 same-length-7 c = search needs
@@ -131,10 +131,10 @@ returns-4 c =
     let at-if1 = at-both3 .before .before .before .before in
     let at-padding = at-if1 .before in
     let at-w3 = at-padding .before .before .before in
-    let at-element = at-w3 .before .before .before .before .before .before .before in
-    let at-nowhere = at-element .before .before .before .before in
+    let at-particle = at-w3 .before .before .before .before .before .before .before in
+    let at-nowhere = at-particle .before .before .before .before in
     let entry = at-nowhere .before .before .before .before .before in
-    search (root-left, entry .pre .0, entry .pre .1, entry .pre .3, entry .pre .4, at-nowhere .nowhere .ensures, at-element .element .ensures, at-element .element .kept .1 .1 .0, at-element .element .kept .1 .1 .1 .0, at-w3 .w3 .given .1, at-padding .padding .ensures, at-if1 .if1 .left, at-both3 .both3 .ensures .0, at-both3 .both3 .ensures .1, c .refused3 .ensures)
+    search (root-left, entry .pre .0, entry .pre .1, entry .pre .3, entry .pre .4, at-nowhere .nowhere .ensures, at-particle .particle .ensures, at-particle .particle .kept .1 .1 .0, at-particle .particle .kept .1 .1 .1 .0, at-w3 .w3 .given .1, at-padding .padding .ensures, at-if1 .if1 .left, at-both3 .both3 .ensures .0, at-both3 .both3 .ensures .1, c .refused3 .ensures)
 
 pub root-spec : {M : Type 1} → statement M
 root-spec =
@@ -143,8 +143,8 @@ root-spec =
     mul-t27
     cast-t28
     nowhere-requires
-    slice-aggregate-element
-    element-requires
+    slice-aggregate-particle
+    particle-requires
     enum-known-w
     cast-place
     both-requires

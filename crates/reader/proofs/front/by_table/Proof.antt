@@ -7,8 +7,11 @@ use Rattle.reader.proofs.front.by_table.Tie as tie
 swaps-requires : tie.Need-swaps-requires
 swaps-requires c κs = search needs
 
+offered-requires : tie.Need-offered-requires
+offered-requires c κs = search needs
+
 returns : tie.Need-returns
 returns c = search (needs, found-is)
 
 pub by-table-spec : {M : Type 1} → statement M
-by-table-spec = tie.close (tie.spec swaps-requires returns)
+by-table-spec = tie.close (tie.spec swaps-requires offered-requires returns)

@@ -410,7 +410,7 @@ particle-element-requires t c κs =
     let at-name = c .before .before .before in
     let at-particle = at-name .before .before in
     let entry = at-particle .before .before .before .before .before .before in
-    (omega (arith, entry .pre .0), (entry .pre .1 .0, entry .pre .1 .1, row-chosen _ _ _ (search (row-known, at-particle .particle .ensures, entry .pre .1 .1, entry .pre .1 .2, at-name .name .given .1)), search (row-type, at-particle .particle .ensures, entry .pre .1 .1, entry .pre .1 .2, at-name .name .given .1), omega (arith, entry .pre .1 .3)))
+    (omega (arith, entry .pre .0), (entry .pre .1 .0, entry .pre .1 .1, row-chosen _ _ _ (entry .pre .1 .1) (search (row-known, at-particle .particle .ensures, entry .pre .1 .1, entry .pre .1 .2, at-name .name .given .1)), search (row-type, at-particle .particle .ensures, entry .pre .1 .1, entry .pre .1 .2, at-name .name .given .1), omega (arith, entry .pre .1 .3)))
 
 particle-enum-known-first : (t : ℕ) → particle-lts.Need-enum-known-first (particle-env t) (particle-at t) particle.Post
 particle-enum-known-first t c = search needs

@@ -10,8 +10,11 @@ lengths-of-requires c κs = search needs
 swaps-requires : tie.Need-swaps-requires
 swaps-requires c κs = search needs
 
+offered-requires : tie.Need-offered-requires
+offered-requires c κs = search needs
+
 returns : tie.Need-returns
 returns c = search (needs, moded)
 
 pub mode-of-spec : {M : Type 1} → statement M
-mode-of-spec = tie.close (tie.spec lengths-of-requires swaps-requires returns)
+mode-of-spec = tie.close (tie.spec lengths-of-requires swaps-requires offered-requires returns)
