@@ -71,7 +71,7 @@ enum {
  * Start of an element that has codes, whether they name anything or not: one whose row has substitutes, in every mode, and in the modes 4
  * to 6 one whose row's type has derived types. The root has none. */
 enum {
-    BIM_KIND_START = 1,     /* an element begins: p its name, q 1 where a length is coded; bits of flag and length */
+    BIM_KIND_START = 1,     /* an element begins: p its name, q 1 where a length is coded; bits of flag and length as they are there */
     BIM_KIND_ATTRIBUTE = 2, /* p its name, q 1 present (its Value follows) or 0 absent (none does); bits of its flag */
     BIM_KIND_VALUE = 3,     /* p the value as its simple kind has it (bim_table.h); of a text its bytes, next in the texts */
     BIM_KIND_PICK = 4,      /* p the branch of a choice, from 0 */
@@ -96,7 +96,7 @@ enum {
     BIM_NOT_HELD = 9,       /* effective type not held and no length; in the writer, not held: item, of the Start */
     BIM_LENGTH = 10,        /* TheLength passes the enclosing end: item */
     BIM_CONTENT_SHORT = 11, /* content ends before its declared end: the first bit after TheLength */
-    BIM_NOT_SHORTEST = 12,  /* number not in shortest form: item */
+    BIM_NOT_SHORTEST = 12,  /* number not in shortest form, but not of a TheLength, which may be padded: item */
     BIM_TOO_LARGE = 13,     /* number too large: item */
     BIM_NO_SUCH_CODE = 14,  /* code names nothing: item */
     BIM_MINUS_ZERO = 15,    /* minus zero: item */
@@ -201,7 +201,8 @@ uint32_t bim_read(const uint8_t *table, size_t table_bytes,
  *
  *     table, root_name, root_type    as for bim_read
  *     mode       of length coding: 0 none, 1 where an event Start says so, 2 always; and BIM_CASTING more for type codes
- *     events     the list, of 16 bytes each, at most 2,048; the fourth word of an event is ignored
+ *     events     the list, of 16 bytes each, at most 2,048; the fourth word of an event is ignored: lengths are written in shortest form,
+ *                also those that were read padded, so that a payload read without Blanks is never longer when it is written back
  *     texts      the bytes of the texts one after another, all of which the list uses
  *     payload    written: on acceptance its first (bits + 7) / 8 bytes are the payload; what is left is 0
  *     area       written: on acceptance mode, events and text are those given, bits those of the payload before its padding
@@ -227,7 +228,7 @@ uint32_t bim_write(const uint8_t *table, size_t table_bytes,
  *              8..11     left     how many bits there are from that place on: 0 at the end, and past it
  *
  * Refused are: BIM_AREA_SIZE an area of another size, before anything else, and the area is then 0 throughout; BIM_PAST_END a code that
- * passes the end, and any code from a place past it, one of no bits too; BIM_NOT_SHORTEST and BIM_TOO_LARGE as in a payload. */
+ * passes the end, and any code from a place past it, one of no bits too; BIM_NOT_SHORTEST and BIM_TOO_LARGE as of a value in a payload. */
 #define BIM_BITS_AREA 12
 
 /* A number of width bits, the most significant first; a width over 32 is BIM_TOO_LARGE, and one of 0 gives 0. */

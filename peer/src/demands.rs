@@ -8,6 +8,7 @@ use crate::bim;
 use crate::call::{Call, Read, Write, READER, WRITER};
 use crate::cases::Case;
 use crate::model;
+use crate::padding::lengths_are_shortest;
 use crate::rows::held_word;
 use crate::tally::Numbers;
 use crate::{reader, table, tally, writer};
@@ -43,8 +44,12 @@ pub struct Tally {
     pub blanks: u64,
     /// What was refused of substitution and casting.
     pub casts: tally::Tally,
-    /// Accepted readings without one, written back to the same bytes.
+    /// Accepted readings with a padded TheLength, those with a Blank among them.
+    pub padded: u64,
+    /// Accepted readings without a Blank, written back to the same bytes.
     pub identical: u64,
+    /// The same, written back in fewer bits.
+    pub shorter: u64,
     /// What the pairs of tables showed.
     pub pairs: Pairs,
 }
@@ -55,12 +60,17 @@ impl Tally {
         self.casts.has_met(&CASTS)
     }
 
-    /// Whether reader and writer were met with every number that they can answer; tells those that were not.
+    /// Whether reader and writer were met with every number that they can answer, and both parts of demand 2 were tried; tells what
+    /// was not.
     pub fn is_whole(&self) -> bool {
         // 24 is the C boundary's.
         let [reader @ .., _] = &READER;
         let [writer @ .., _] = &WRITER;
-        self.met.has_met(&[("reader", reader), ("writer", writer)])
+        let both = self.identical > 0 && self.shorter > 0;
+        if !both {
+            println!("NEVER MET: a part of demand 2");
+        }
+        self.met.has_met(&[("reader", reader), ("writer", writer)]) && both
     }
 }
 
@@ -146,6 +156,7 @@ pub fn read(tally: &mut Tally, call: &Read) -> Result<Outcome, String> {
         let list = outcome.list();
         let sum: usize = list.iter().map(|event| event[3] as usize).sum();
         demand(sum + 8 == answer.bits, || format!("the events' bits and 8 are not the bits used: {answer:?}"))?;
+        tally.padded += u64::from(!lengths_are_shortest(answer.mode, &list));
         if list.iter().any(|event| event[0] == bim::KIND_BLANK) {
             tally.blanks += 1;
             blanks_unseen(call, &outcome, &unseen)?;
@@ -186,15 +197,33 @@ fn reading_of(outcome: &Outcome) -> model::Reading {
     }
 }
 
-/// Demand 2: bytes read without blanks are written back identically.
+/// Demand 2: bytes read without blanks are written back, identically where every TheLength is shortest. Else fewer bits are written, and
+/// they read, in the same rooms, to the same mode, texts and first three words of every event.
 fn written_back(tally: &mut Tally, call: &Read, outcome: &Outcome) -> Result<(), String> {
-    let events = &outcome.events[..4 * outcome.answer.events];
+    let (read_as, list) = (&outcome.answer, outcome.list());
     let mut payload = vec![0xdd; call.payload.len()];
+    let events = &outcome.events[..4 * read_as.events];
     let answer =
-        writer::write(&call.table, call.root.0, call.root.1, outcome.answer.mode, events, outcome.text(), &mut payload);
-    demand(answer == outcome.answer, || format!("demand 2: read as {:?}, written back as {answer:?}", outcome.answer))?;
-    demand(payload == call.payload, || format!("demand 2: {:02x?} is written back as {payload:02x?}", call.payload))?;
-    tally.identical += 1;
+        writer::write(&call.table, call.root.0, call.root.1, read_as.mode, events, outcome.text(), &mut payload);
+    if lengths_are_shortest(read_as.mode, &list) {
+        demand(answer == *read_as, || format!("demand 2: read as {read_as:?}, written back as {answer:?}"))?;
+        demand(payload == call.payload, || {
+            format!("demand 2: {:02x?} is written back as {payload:02x?}", call.payload)
+        })?;
+        tally.identical += 1;
+        return Ok(());
+    }
+    demand(Answer { bits: read_as.bits, ..answer } == *read_as && answer.bits < read_as.bits, || {
+        format!("demand 2: padded and read as {read_as:?}, written back as {answer:?}")
+    })?;
+    payload.truncate(answer.bits.div_ceil(8));
+    let again = read(tally, &Read { payload, ..call.clone() })?;
+    let words = |list: &[[u32; 4]]| list.iter().map(|event| [event[0], event[1], event[2]]).collect::<Vec<_>>();
+    let same = again.answer == answer && again.text() == outcome.text() && words(&again.list()) == words(&list);
+    demand(same && lengths_are_shortest(answer.mode, &again.list()), || {
+        format!("demand 2: padded and read as {outcome:?}, written back and read as {again:?}")
+    })?;
+    tally.shorter += 1;
     Ok(())
 }
 

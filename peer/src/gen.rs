@@ -6,6 +6,7 @@
 use crate::bim;
 use crate::call::{Read, Write};
 use crate::model::{bits5, bits_of, bytes_of, count_bits, groups, value_bits, width};
+use crate::padding::{lengths_are_shortest, pad};
 use crate::rng::Rng;
 use crate::rows::{choice, complex, element, held_word, occurs, sequence, simple, Casts, Rows, NOTHING};
 use crate::table::{Particle, Table};
@@ -300,6 +301,11 @@ impl Sample {
         bytes_of(&self.bits)
     }
 
+    /// Pads some of the lengths: true bit counts, in a payload that no writer of ours makes.
+    pub fn pad(&mut self, rng: &mut Rng) {
+        self.bits = pad(self.mode, &mut self.events, &self.bits, |length| padded_groups(rng, length));
+    }
+
     /// Its reading, with so much room.
     pub fn reading(&self, table: &[u32], event_words: usize, text_room: usize) -> Read {
         Read { table: table.to_vec(), root: self.root, payload: self.payload(), event_words, text_room }
@@ -354,6 +360,42 @@ pub fn table_and_sample(rng: &mut Rng, quirk: usize) -> (Vec<u32>, Sample) {
             }
             tries -= 1;
         }
+    }
+}
+
+/// A table and a sample without quirks, but some of its lengths are padded.
+pub fn table_and_padded(rng: &mut Rng) -> (Vec<u32>, Sample) {
+    loop {
+        let (table, mut sample) = table_and_sample(rng, 0);
+        sample.pad(rng);
+        if !lengths_are_shortest(sample.mode, &sample.events) {
+            return (table, sample);
+        }
+    }
+}
+
+/// The bits of all heads in the payload of a list with true bit counts.
+pub fn heads(list: &[[u32; 4]]) -> Vec<usize> {
+    let mut at = 8;
+    let mut heads = vec![];
+    for event in list {
+        let next = at + event[3] as usize;
+        if event[0] == bim::KIND_START {
+            heads.extend(at..next);
+        }
+        at = next;
+    }
+    heads
+}
+
+/// As many groups as `value` needs, or, every other time, one more, any number up to eight, or eight.
+pub fn padded_groups(rng: &mut Rng, value: u64) -> usize {
+    let least = groups(value);
+    match rng.below(6) {
+        0 => (least + 1).min(8),
+        1 => rng.within(least, 8),
+        2 => 8,
+        _ => least,
     }
 }
 

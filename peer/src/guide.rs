@@ -3,6 +3,8 @@
 use crate::bim;
 use crate::cases;
 use crate::list::List;
+use crate::model::groups;
+use crate::padding::padded;
 use crate::rows::{choice, complex, element, occurs, sequence, simple, Rows, NOTHING};
 use crate::words::big_endian;
 
@@ -121,12 +123,16 @@ pub fn files() -> Vec<(&'static str, Vec<u8>)> {
     let mut damaged = film_always.clone();
     // The title's first letter: FF is in no UTF-8.
     damaged[8] = 0xff;
+    // As a head end writes it that leaves two groups for a length and fills them later.
+    let film_padded =
+        padded(&guide_table(true), ROOT, &film_always, |length| groups(length).max(2)).unwrap_or_default();
     vec![
         ("worked/worked.table", big_endian(&cases::worked().table)),
         ("worked/worked.bim", cases::worked().payload.clone()),
         ("guide/held.table", big_endian(&guide_table(true))),
         ("guide/not-held.table", big_endian(&guide_table(false))),
         ("guide/film.bim", film_always),
+        ("guide/film-padded.bim", film_padded),
         ("guide/film-no-lengths.bim", film(bim::MODE_NEVER)),
         ("guide/news.bim", news()),
         ("guide/film-cut.bim", cut),

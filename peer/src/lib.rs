@@ -20,6 +20,7 @@ pub mod lent;
 pub mod list;
 pub mod listing;
 pub mod model;
+pub mod padding;
 pub mod program;
 pub mod reader;
 pub mod rng;

@@ -600,7 +600,7 @@ impl Agenda<'_> {
                     bim::MODE_OPTIONAL => fetch.fixed(1)? == 1,
                     _ => true,
                 };
-                let length = if coded { Some(fetch.upto(i64::MAX)? as usize) } else { None };
+                let length = if coded { Some(fetch.loose5()?.0 as usize) } else { None };
                 let body = fetch.at;
                 if length.is_some_and(|length| body + length > wall) {
                     return Err(Fault::Here(bim::LENGTH));

@@ -6,7 +6,7 @@
 use crate::answer::{refusal, Answer, Path, Refusal};
 use crate::bim;
 use crate::bits::{copy_bytes, fixed, load64};
-use crate::codes::{read_choice, read_occurs, read_one_of, strict5};
+use crate::codes::{read5, read_choice, read_occurs, read_one_of};
 use crate::table::{Particle, Table, Type};
 use crate::value;
 
@@ -169,7 +169,7 @@ impl Reader<'_> {
         Ok(())
     }
 
-    /// Flag and TheLength at the next bit, without moving on: 5, 13, 12, then 10.
+    /// Flag and TheLength at the next bit, without moving on: 5, 13, then 10. TheLength may have more groups than it needs.
     fn head(&self, end: usize) -> Result<Head, Refusal> {
         let refused = |number| refusal(number, self.at);
         let mut body = self.at;
@@ -185,7 +185,7 @@ impl Reader<'_> {
         if !has_length {
             return Ok(Head { has_length, end, body });
         }
-        let length = strict5(self.payload, end, body).map_err(refused)?;
+        let length = read5(self.payload, end, body).map_err(refused)?;
         body += length.bits;
         if length.value as usize > end - body {
             return Err(refused(bim::LENGTH));

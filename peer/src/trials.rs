@@ -4,19 +4,19 @@ use crate::answer::{refusal, Answer, Path};
 use crate::bim;
 use crate::call::{Read, Write};
 use crate::demands::{self, check_table, two_tables, Tally};
-use crate::gen::{self, table_and_sample};
+use crate::gen::{self, table_and_padded, table_and_sample};
 use crate::rng::Rng;
 use crate::words::{big_endian, words_of};
 use crate::{bits, codes, host, model, reader, utf8, value, writer};
 
 /// The kinds of trial, by name.
-pub const KINDS: [&str; 10] = [
+pub const KINDS: [&str; 11] = [
     "valid lists", "odd codes", "damaged payloads", "two tables", "damaged lists", "damaged tables", "noise",
-    "codes alone", "C boundary", "deep lists",
+    "codes alone", "C boundary", "deep lists", "padded lengths",
 ];
 
-/// How often each kind comes up among 21.
-const SHARES: [usize; 21] = [0, 0, 0, 1, 1, 1, 2, 2, 2, 3, 3, 3, 4, 4, 4, 5, 6, 7, 7, 8, 9];
+/// How often each kind comes up among 23.
+const SHARES: [usize; 23] = [0, 0, 0, 1, 1, 1, 2, 2, 2, 3, 3, 3, 4, 4, 4, 5, 6, 7, 7, 8, 9, 10, 10];
 
 /// Runs the trial of this seed; gives its kind, and `Err` with what was violated.
 pub fn trial(tally: &mut Tally, seed: u64) -> (usize, Result<(), String>) {
@@ -32,7 +32,8 @@ pub fn trial(tally: &mut Tally, seed: u64) -> (usize, Result<(), String>) {
         6 => noise(tally, &mut rng),
         7 => codes_alone(&mut rng),
         8 => boundary(&mut rng),
-        _ => deep_list(tally, &mut rng),
+        9 => deep_list(tally, &mut rng),
+        _ => padded_lengths(tally, &mut rng),
     };
     (kind, result)
 }
@@ -97,12 +98,33 @@ fn deep_list(tally: &mut Tally, rng: &mut Rng) -> Result<(), String> {
     let Some(mut sample) = gen::deep_sample(rng, &table) else {
         return Ok(());
     };
-    if rng.one_in(3) {
+    let undamaged = !rng.one_in(3);
+    if !undamaged {
         gen::damage_list(rng, &mut sample.events, &mut sample.texts);
     }
     demands::write(tally, &sample.writing(&table, 9))?;
     let first = gen::let_go(rng, &table, 12);
-    let call = sample.reading(&table, 4 * sample.events.len() + 16, sample.texts.len());
+    let mut call = sample.reading(&table, 4 * sample.events.len() + 16, sample.texts.len());
+    if undamaged && rng.one_in(3) {
+        sample.pad(rng);
+        call.payload = sample.payload();
+    }
+    two_tables(tally, &first, &call)
+}
+
+/// A payload with padded lengths reads as its list; then by two tables, and damaged.
+fn padded_lengths(tally: &mut Tally, rng: &mut Rng) -> Result<(), String> {
+    let (table, sample) = table_and_padded(rng);
+    let mut call = sample.reading(&table, 4 * sample.events.len(), sample.texts.len());
+    let outcome = demands::read(tally, &call)?;
+    let fits = call.payload.len() <= bim::MOST_PAYLOAD && sample.events.len() <= bim::MOST_EVENTS;
+    if fits && (outcome.list() != sample.events || outcome.text() != sample.texts) {
+        return Err(format!("padded, {:?} reads as {:?}", sample.events, outcome.list()));
+    }
+    let first = gen::let_go(rng, &table, 4);
+    two_tables(tally, &first, &call)?;
+    gen::damage_payload(rng, &mut call.payload);
+    (call.event_words, call.text_room) = rooms(rng, sample.events.len() + 3, sample.texts.len() + 8);
     two_tables(tally, &first, &call)
 }
 
@@ -331,8 +353,11 @@ fn area_of(answer: &Answer) -> Vec<u8> {
 
 /// The byte calls against the word calls; 24, and bytes over the last whole word.
 fn boundary(rng: &mut Rng) -> Result<(), String> {
-    let quirk = rng.pick(&[0, 20]);
-    let (mut table, sample) = table_and_sample(rng, quirk);
+    let (mut table, sample) = match rng.below(4) {
+        0 => table_and_padded(rng),
+        1 => table_and_sample(rng, 0),
+        _ => table_and_sample(rng, 20),
+    };
     if rng.one_in(8) {
         gen::damage_table(rng, &mut table);
     }

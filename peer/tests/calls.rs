@@ -5,7 +5,11 @@ mod common;
 
 use peer::bim;
 use peer::calls::{run, Calls, Reading, Writing};
+use peer::codes::read5;
 use peer::host;
+use peer::model::{bits5, bits_of, bytes_of, groups};
+use peer::padding::lengths_are_shortest;
+use peer::words::words_of;
 use std::hint::black_box;
 
 faults! {
@@ -41,12 +45,20 @@ faults! {
     SubstituteFrom0,
     /// Codes that say no have no event.
     CastLeftOut,
+    /// A padded TheLength is refused.
+    PaddedRefused,
+    /// A Start has the bits of the shortest TheLength.
+    StartShort,
+    /// Content that ends too early is told at the first bit behind a shortest TheLength.
+    ShortPlace,
     /// What lies behind the payload is read.
     ReadsOn,
     /// A refused writing leaves a byte.
     PayloadByteLeft,
     /// The fourth word has to be right.
     FourthWord,
+    /// A padded TheLength stays padded.
+    PaddingKept,
     /// A payload of the last byte of room is refused.
     RoomOneShort,
     /// 19 where a Blank follows the root's End is 18.
@@ -66,6 +78,35 @@ fn first_of(kind: u32, events: &mut [u8]) -> Option<&mut [u8]> {
 
 fn blank_in(events: &mut [u8]) -> Option<&mut [u8]> {
     first_of(bim::KIND_BLANK, events)
+}
+
+fn word(bytes: &[u8], index: usize) -> u32 {
+    u32::from_be_bytes(bytes[4 * index..4 * index + 4].try_into().unwrap())
+}
+
+/// The last Start of a list whose TheLength is padded, and the bits of the shortest.
+fn padded_start(mode: u32, events: &[u8]) -> Option<(usize, u32)> {
+    let list: Vec<[u32; 4]> = words_of(events).as_chunks().0.to_vec();
+    let end_of = |start: usize| {
+        let mut open = 0;
+        (start..list.len()).find(|&at| {
+            open += i32::from(list[at][0] == bim::KIND_START) - i32::from(list[at][0] == bim::KIND_END);
+            open == 0
+        })
+    };
+    (0..list.len()).rev().filter(|&at| list[at][0] == bim::KIND_START).find_map(|start| {
+        let element = &list[start..=end_of(start)?];
+        let body = element[1..].iter().map(|event| u64::from(event[3])).sum();
+        let shortest = u32::from(mode % bim::CASTING == bim::MODE_OPTIONAL) + 5 * groups(body) as u32;
+        (!lengths_are_shortest(mode, element)).then_some((start, shortest))
+    })
+}
+
+/// The mode's flag bits and the root's TheLength in a payload that has one: value and bits, where it is padded.
+fn padded_root(payload: &[u8]) -> Option<(usize, u32, usize)> {
+    let flag = usize::from(payload.first()? & 0xc0 == bim::MODE_OPTIONAL_BYTE & 0xc0);
+    let length = read5(payload, 8 * payload.len(), 8 + flag).ok()?;
+    (!length.shortest).then_some((flag, length.value, length.bits))
 }
 
 /// Reads where a faulty library would. The bench lends every buffer between guards, so that the byte is there.
@@ -122,6 +163,24 @@ impl Calls for StandIn {
             BehindTexts => flip(texts.as_mut_ptr().wrapping_add(texts.len())),
             InputTouched if !payload.is_empty() => flip(payload.as_ptr().cast_mut()),
             PathLonger if number == bim::LEFT_OVER => area[23] += 1,
+            PaddedRefused if number == bim::ACCEPTED && padded_start(word(area, 1), events).is_some() => {
+                events.fill(0);
+                texts.fill(0);
+                area.fill(0);
+                area[3] = 8;
+                return bim::NOT_SHORTEST;
+            }
+            StartShort if number == bim::ACCEPTED => {
+                if let Some((start, bits)) = padded_start(word(area, 1), events) {
+                    events[16 * start + 12..16 * start + 16].copy_from_slice(&bits.to_be_bytes());
+                }
+            }
+            ShortPlace if number == bim::CONTENT_SHORT && word(area, 5) == 1 => {
+                if let Some((flag, value, _)) = padded_root(payload) {
+                    let place = (8 + flag + 5 * groups(value.into())) as u32;
+                    area[..4].copy_from_slice(&place.to_be_bytes());
+                }
+            }
             BlankShort => {
                 if let Some(blank) = blank_in(events) {
                     blank[15] = blank[15].wrapping_sub(1);
@@ -164,6 +223,21 @@ impl Calls for StandIn {
                 number = bim::NO_READING;
                 payload.fill(0);
                 area.fill(0);
+            }
+            PaddingKept if number == bim::ACCEPTED && word(events, 2) == 1 && area.len() == bim::AREA => {
+                let bits: Vec<_> = payload.iter().flat_map(|&byte| bits_of(byte.into(), 8)).collect();
+                let flag = usize::from(mode % bim::CASTING == bim::MODE_OPTIONAL);
+                let length = read5(payload, bits.len(), 8 + flag).unwrap();
+                let asked = (word(events, 3) as usize).saturating_sub(flag);
+                let used = word(area, 4) as usize;
+                let kept = used - length.bits + asked;
+                if asked % 5 == 0 && (length.bits + 1..=40).contains(&asked) && kept <= bits.len() {
+                    let head = bits5(length.value.into(), asked / 5);
+                    let all = [&bits[..8 + flag], &head, &bits[8 + flag + length.bits..used]].concat();
+                    let bytes = bytes_of(&all);
+                    payload[..bytes.len()].copy_from_slice(&bytes);
+                    area[16..20].copy_from_slice(&(kept as u32).to_be_bytes());
+                }
             }
             LateBlank if number == bim::BLANK && area[..4] == ((events.len() / 16 - 1) as u32).to_be_bytes() => {
                 number = bim::NO_READING

@@ -1,13 +1,13 @@
 -- DEMAND 2 of the calls: `bim_read` shows the reading of its payload; what `bim_write` makes reads back; what was read
 -- without a Blank is written back.
-use Prim.Native.Nat.{ℕ, suc, _+_, _*_, _/_, _%_, _≤_, _<_, min}
-use mathlib.Core.Path.{_≡_, refl, sym, ap, _∙_}
+use Prim.Native.Nat.{ℕ, zero, suc, _+_, _*_, _/_, _%_, _≤_, _<_, min}
+use mathlib.Core.Path.{_≡_, refl, sym, ap, ap₂, _∙_}
 use mathlib.Core.Bool.{Bool, true, false, cond}
-use mathlib.Core.List.{List, [], _∷_, _++_}
+use mathlib.Core.List.{List, [], _∷_, _++_, map}
 use native.Mathlib.Omega.{arith}
 use borrow.Author.Tests.{eqb-true, eq-eqb}
 use lib.Dec.{eqb}
-use lib.ListN.{length, take}
+use lib.ListN.{length, take, length-map}
 use lib.Seq.{take-at}
 use Rattle.numbers.specs.Limit.{mostPayload}
 use Rattle.numbers.specs.Limit as limit
@@ -17,21 +17,23 @@ use Rattle.buffers.specs.Bytes.{wordsOf, spelled, bytesOf, wordFrom}
 use Rattle.buffers.proofs.BytesLaws.{words-length, words-bytes, bytes-length}
 use Rattle.value.specs.Simple.{AllBytes}
 use Rattle.model.specs.Model.{Event, Nodes, events, texts}
-use Rattle.model.specs.Items.{Mode}
+use Rattle.model.specs.Items.{Lengths, Mode}
+use Rattle.model.specs.Write.{bare}
 use Rattle.model.specs.Plain.{NoBlank}
 use Rattle.model.proofs.Entries.{words-length as events-words}
 use Rattle.model.proofs.PackLaws.{pack-length}
-use Rattle.model.specs.Whole.{modeNumber, Reply, accepted, outcome, accepts, filled, eventWords, textsLeft, afterVerdict, reading, Made, made, unmade, outcomeMade, payloadLeft, writing, verdictMade}
+use Rattle.model.specs.Whole.{lengthsNumber, modeNumber, Reply, accepted, outcome, accepts, filled, eventWords, textsLeft, afterVerdict, reading, Made, made, unmade, outcomeMade, payloadLeft, writing, verdictMade}
 use Rattle.theorems.specs.Reader.{IsReading}
 use Rattle.theorems.proofs.Reader.{reading-sound, reading-complete, list-follows, blanks-exact, bits-add-up}
 use Rattle.theorems.proofs.NamedReading.{zero-accepts}
 use Rattle.theorems.proofs.NamedWriting.{zero-makes}
+use Rattle.theorems.specs.Shortest.{flagBits}
 use Rattle.theorems.specs.Demand2.{Valid, payloadOf, bytesFor}
-use Rattle.theorems.proofs.Demand2.{valid-written, valid-read, written-valid, read-write}
+use Rattle.theorems.proofs.Demand2.{valid-written, valid-read, written-valid, read-write, read-rewritten}
 use Rattle.bim.specs.Area.{areaOf, areaBytes, modeAt, eventsAt, textAt, bitsAt}
 use Rattle.bim.specs.Calls.{Back, back, lent, tableVerdict, readBytes, eventsBack, readCall, writeList, unlisted, writeBytes, writeCall}
 use Rattle.bim.proofs.WriteLaws.{Unlisted, unlisted-is, one-word}
-use Rattle.bim.specs.Demands.{shown, wrote, Reading, Same, Reads, Writes, NoBlankIn}
+use Rattle.bim.specs.Demands.{shown, wrote, Reading, Same, Reads, Writes, NoBlankIn, eventsIn, flagBit, ShortestIn, Rewrites}
 use Rattle.bim.proofs.WholeTables.{right-whole, whole-right}
 use Rattle.bim.proofs.AreaBack.{area-fetches, word-past}
 
@@ -203,24 +205,6 @@ module _ (t : List ℕ) (name type : ℕ) where
                   ∙ ap (shown e x (f .mode) (h .tree)) (sym used);
             }
 
-  -- the second half, with the list and the texts as numbers of the area tell them
-  back-written : (s : List ℕ) (e x room : ℕ) (mode : Mode) (tree : Nodes) (used : ℕ) → AllBytes s
-      → Reading t name type s e x mode tree used → NoBlank (events tree) → length s ≤ room
-      → (m n k u : ℕ) (E T : List ℕ) → m ≡ modeNumber mode → n ≡ length (events tree) → k ≡ length (texts tree)
-      → u ≡ used → E ≡ bytesOf (eventWords (events tree)) → T ≡ texts tree
-      → writeCall t name type m E T room areaBytes ≡ wrote room m n k u s
-  back-written s e x room mode tree used o r p h m n k u E T em en ek eu eE eT =
-      let L = eventWords (events tree) in
-      let a = bytes-length L in
-      let b = events-words (events tree) in
-      let i : length (bytesOf L) % limit.event ≡ 0 = omega arith in
-      let j : length (bytesOf L) / limit.event ≡ length (events tree) = omega arith in
-      let w = read-write (wordsOf t) name type s (e / 4) x room mode tree used o (is-accepted s e x r) p h in
-      let v = whole-right t (r .whole) (r .is .enters .table-right) in
-      rw (em, en, ek, eu, eE, eT)
-      (made-tells (modeNumber mode) (bytesOf L) (texts tree) room s used v i (rw (words-bytes L) w)
-      ∙ ap (λ (c : ℕ). wrote room (modeNumber mode) c (length (texts tree)) used s) j)
-
 -- no Blank among the kinds
 no-blank : (L : List Event) (z : List ℕ) → NoBlankIn (bytesOf (eventWords L) ++ z) (length L) → NoBlank L
 unfolding spelled eventWords
@@ -237,28 +221,160 @@ no-blank (a ∷ L) z h = (λ k. h 0 (omega arith) (omega (arith, k)), no-blank L
 two-buffers : {a b c d : List ℕ} → _≡_ {A = List (List ℕ)} (a ∷ b ∷ []) (c ∷ d ∷ []) → (a ≡ c) × (b ≡ d)
 two-buffers e = (cc, cc)
 
+-- the events that stand in bytes: past the first event, and those of a list that was stored there
+events-past : (a b : List ℕ) → length a ≡ limit.event → (i n : ℕ) → eventsIn (a ++ b) (i + 1) n ≡ eventsIn b i n
+unfolding eventsIn
+events-past a b l i zero = refl
+events-past a b l i (suc n) =
+    let past : (k j : ℕ) → k ≡ length a + j → wordFrom (a ++ b) k ≡ wordFrom b j
+    = λ k j e. ap (λ (y : ℕ). wordFrom (a ++ b) y) e ∙ word-past a b j in
+    let at = limit.event * i in
+    let next = limit.event * (i + 1) in
+    rw (past next at (omega arith), past (next + 4) (at + 4) (omega arith), past (next + 8) (at + 8) (omega arith), past (next + 12) (at + 12) (omega arith), events-past a b l (i + 1) n)
+
+events-back : (L : List Event) (z : List ℕ) → eventsIn (bytesOf (eventWords L) ++ z) 0 (length L) ≡ L
+unfolding eventsIn spelled eventWords
+events-back [] z = refl
+events-back (a ∷ L) z =
+    ap₂ _∷_ (λ i. record { kind = kind i; p = p i; q = q i; bits = bits i })
+    (events-past (bytesOf (a .kind ∷ a .p ∷ a .q ∷ a .bits ∷ [])) (bytesOf (eventWords L) ++ z) refl 0 (length L) ∙ events-back L z)
+  where
+    E : List ℕ
+    E = bytesOf (eventWords (a ∷ L)) ++ z
+
+    kind : wordFrom E 0 ≡ a .kind
+    kind = omega arith
+
+    p : wordFrom E 4 ≡ a .p
+    p = omega arith
+
+    q : wordFrom E 8 ≡ a .q
+    q = omega arith
+
+    bits : wordFrom E 12 ≡ a .bits
+    bits = omega arith
+
+stored-back : (e : ℕ) (L : List Event) → eventsIn (filled e (bytesOf (eventWords L))) 0 (length L) ≡ L
+unfolding filled
+stored-back e L = events-back L _
+
+-- the flag's bits by the mode's number
+flag-bit : (mode : Mode) → flagBit (modeNumber mode) ≡ flagBits (mode .lengths)
+unfolding flagBit modeNumber lengthsNumber
+flag-bit mode = go (mode .lengths) (mode .casting)
+  where
+    go : (h : Lengths) (c : Bool) → flagBit (modeNumber (record { lengths = h; casting = c })) ≡ flagBits h
+    go Lengths.never true = refl
+    go Lengths.never false = refl
+    go Lengths.optional true = refl
+    go Lengths.optional false = refl
+    go Lengths.always true = refl
+    go Lengths.always false = refl
+
+module _ (t : List ℕ) (name type : ℕ) (s A E T : List ℕ) (e x : ℕ) where
+  -- what a host has in hand that has read s: mode, events and texts of the reading, as the area counts them
+  record Handed : Type 0 where
+    reads : Reads t name type s e x
+    mode-is : wordFrom A modeAt ≡ modeNumber (reads .mode)
+    count : wordFrom A eventsAt ≡ length (events (reads .tree))
+    octets : wordFrom A textAt ≡ length (texts (reads .tree))
+    used : wordFrom A bitsAt ≡ reads .used
+    list : take (limit.event * wordFrom A eventsAt) E ≡ bytesOf (eventWords (events (reads .tree)))
+    text : take (wordFrom A textAt) T ≡ texts (reads .tree)
+    whole : T ≡ filled x (texts (reads .tree))
+    in-list : eventsIn E 0 (wordFrom A eventsAt) ≡ events (reads .tree)
+    plain : NoBlankIn E (wordFrom A eventsAt) → NoBlank (events (reads .tree))
+
+  handed : back 0 A (E ∷ T ∷ []) ≡ readCall t name type s e x areaBytes → Handed
+  unfolding filled
+  handed c =
+      let r = accepts-only t name type s e x (sym (ap (λ (b : Back). b .number) c)) in
+      let L = events (r .tree) in
+      let d = c ∙ r .shows in
+      let area = ap (λ (b : Back). b .area) d in
+      let buffers = two-buffers (ap (λ (b : Back). b .buffers) d) in
+      let shows = accepts (r .mode) (length L) (length (texts (r .tree))) (r .used) in
+      let f = area-fetches shows in
+      let fetch : (i n : ℕ) → wordFrom (areaOf shows) i ≡ n → wordFrom A i ≡ n
+      = λ i n y. ap (λ (B : List ℕ). wordFrom B i) area ∙ y in
+      let count = fetch eventsAt (length L) (f .events) in
+      let octets = fetch textAt (length (texts (r .tree))) (f .text) in
+      let size : length (bytesOf (eventWords L)) ≡ limit.event * wordFrom A eventsAt =
+      omega (arith, bytes-length (eventWords L), events-words L, count) in
+      record {
+        reads = r;
+        mode-is = fetch modeAt (modeNumber (r .mode)) (f .mode);
+        count = count;
+        octets = octets;
+        used = fetch bitsAt (r .used) (f .bits);
+        list = ap (take (limit.event * wordFrom A eventsAt)) (buffers .0) ∙ take-at (bytesOf (eventWords L)) _ (limit.event * wordFrom A eventsAt) size;
+        text = ap (take (wordFrom A textAt)) (buffers .1) ∙ take-at (texts (r .tree)) _ (wordFrom A textAt) (sym octets);
+        whole = buffers .1;
+        in-list = ap₂ (λ (B : List ℕ) (n : ℕ). eventsIn B 0 n) (buffers .0) count ∙ events-back L _;
+        plain = λ p. no-blank L _ (rw (buffers .0, count) at p);
+      }
+
+  -- a payload made of it, as the call tells that
+  hand-written : (h : Handed) (room : ℕ) (payload : List ℕ) (used : ℕ)
+      → writing (wordsOf t) name type (modeNumber (h .reads .mode)) (eventWords (events (h .reads .tree))) (texts (h .reads .tree)) room ≡ made payload used
+      → writeCall t name type (wordFrom A modeAt) (take (limit.event * wordFrom A eventsAt) E) (take (wordFrom A textAt) T) room areaBytes
+      ≡ wrote room (wordFrom A modeAt) (wordFrom A eventsAt) (wordFrom A textAt) used payload
+  hand-written h room payload used w =
+      let r = h .reads in
+      let tree = r .tree in
+      let L = eventWords (events tree) in
+      let a = bytes-length L in
+      let b = events-words (events tree) in
+      let i : length (bytesOf L) % limit.event ≡ 0 = omega arith in
+      let j : length (bytesOf L) / limit.event ≡ length (events tree) = omega arith in
+      let v = whole-right t (r .reading .whole) (r .reading .is .enters .table-right) in
+      rw (h .list, h .text, h .mode-is, h .count, h .octets)
+      (made-tells t name type (modeNumber (r .mode)) (bytesOf L) (texts tree) room payload used v i (rw (words-bytes L) w)
+      ∙ ap (λ (c : ℕ). wrote room (modeNumber (r .mode)) c (length (texts tree)) used payload) j)
+
 pub writes-back : (t : List ℕ) (name type : ℕ) (s A E T : List ℕ) (e x room : ℕ)
     → back 0 A (E ∷ T ∷ []) ≡ readCall t name type s e x areaBytes → AllBytes s → NoBlankIn E (wordFrom A eventsAt)
-    → length s ≤ room
+    → ShortestIn (wordFrom A modeAt) E (wordFrom A eventsAt) → length s ≤ room
     → writeCall t name type (wordFrom A modeAt) (take (limit.event * wordFrom A eventsAt) E) (take (wordFrom A textAt) T) room areaBytes
     ≡ wrote room (wordFrom A modeAt) (wordFrom A eventsAt) (wordFrom A textAt) (wordFrom A bitsAt) s
-unfolding filled
-writes-back t name type s A E T e x room c o p h =
-    let r = accepts-only t name type s e x (sym (ap (λ (b : Back). b .number) c)) in
-    let L = events (r .tree) in
-    let d = c ∙ r .shows in
-    let area = ap (λ (b : Back). b .area) d in
-    let buffers = two-buffers (ap (λ (b : Back). b .buffers) d) in
-    let shows = accepts (r .mode) (length L) (length (texts (r .tree))) (r .used) in
-    let f = area-fetches shows in
-    let fetch : (i n : ℕ) → wordFrom (areaOf shows) i ≡ n → wordFrom A i ≡ n
-    = λ i n y. ap (λ (B : List ℕ). wordFrom B i) area ∙ y in
-    let count = fetch 8 (length L) (f .events) in
-    let octets = fetch textAt (length (texts (r .tree))) (f .text) in
-    let size : length (bytesOf (eventWords L)) ≡ limit.event * wordFrom A eventsAt =
-    omega (arith, bytes-length (eventWords L), events-words L, count) in
-    back-written t name type s e x room (r .mode) (r .tree) (r .used) o (r .reading)
-    (no-blank L _ (rw (buffers .0, count) at p)) h _ _ _ _ _ _
-    (fetch 4 (modeNumber (r .mode)) (f .mode)) count octets (fetch 16 (r .used) (f .bits))
-    (ap (take (limit.event * wordFrom A eventsAt)) (buffers .0) ∙ take-at (bytesOf (eventWords L)) _ (limit.event * wordFrom A eventsAt) size)
-    (ap (take (wordFrom A textAt)) (buffers .1) ∙ take-at (texts (r .tree)) _ (wordFrom A textAt) (sym octets))
+writes-back t name type s A E T e x room c o p short k =
+    let h = handed t name type s A E T e x c in
+    let r = h .reads in
+    let flag = ap flagBit (h .mode-is) ∙ flag-bit (r .mode) in
+    let z = rw (h .in-list, flag) at short in
+    let w = read-write (wordsOf t) name type s (e / 4) x room (r .mode) (r .tree) (r .used) o (is-accepted t name type s e x (r .reading)) (h .plain p) z k in
+    hand-written t name type s A E T e x h room s (r .used) w ∙ ap (λ (u : ℕ). wrote room (wordFrom A modeAt) (wordFrom A eventsAt) (wordFrom A textAt) u s) (sym (h .used))
+
+pub rewrites : (t : List ℕ) (name type : ℕ) (s A E T : List ℕ) (e x room : ℕ)
+    → back 0 A (E ∷ T ∷ []) ≡ readCall t name type s e x areaBytes → NoBlankIn E (wordFrom A eventsAt) → length s ≤ room
+    → Rewrites t name type s A E T e x room
+rewrites t name type s A E T e x room c p k =
+    let h = handed t name type s A E T e x c in
+    let r = h .reads in
+    let w = read-rewritten (wordsOf t) name type s (e / 4) x room (r .mode) (r .tree) (r .used) (is-accepted t name type s e x (r .reading)) (h .plain p) k in
+    let v = whole-right t (r .reading .whole) (r .reading .is .enters .table-right) in
+    let L = events (w .tree) in
+    let count : length L ≡ length (events (r .tree)) = sym (length-map L bare) ∙ ap length (w .list) ∙ length-map (events (r .tree)) bare in
+    let same-count : wordFrom A eventsAt ≡ length L = h .count ∙ sym count in
+    let f = area-fetches (accepts (r .mode) (length L) (length (texts (w .tree))) (w .bits)) in
+    record {
+      payload = w .payload;
+      used = w .bits;
+      size = w .size;
+      shorter = w .shorter;
+      fewer = rw (h .used) (w .fewer);
+      wrote-it = hand-written t name type s A E T e x h room (w .payload) (w .bits) (w .writes);
+      area = areaOf (accepts (r .mode) (length L) (length (texts (w .tree))) (w .bits));
+      list = filled e (bytesOf (eventWords L));
+      reads =
+          call-tells t name type (w .payload) e x v ∙ ap (tells e x) (w .reads) ∙ tells-shown e x (r .mode) (w .tree) (w .bits)
+          ∙ ap (λ (X : List ℕ). back 0 (areaOf (accepts (r .mode) (length L) (length (texts (w .tree))) (w .bits))) (filled e (bytesOf (eventWords L)) ∷ X ∷ []))
+          (ap (filled x) (w .text) ∙ sym (h .whole));
+      mode = f .mode ∙ sym (h .mode-is);
+      count = f .events ∙ sym same-count;
+      text = f .text ∙ ap length (w .text) ∙ sym (h .octets);
+      bits = f .bits;
+      same =
+          ap (λ (n : ℕ). map bare (eventsIn (filled e (bytesOf (eventWords L))) 0 n)) same-count ∙ ap (map bare) (stored-back e L) ∙ w .list
+          ∙ sym (ap (map bare) (h .in-list));
+    }

@@ -4,7 +4,7 @@ use Rattle.theorems.proofs.ValidModel.{valid-model}
 use Rattle.bim.specs.Demands.{Demand1, Demand2, Demand3}
 use Rattle.bim.proofs.AreaBack.{area-fetches, area-one}
 use Rattle.bim.proofs.Demand1.{check-answered, read-answered, write-answered, bits-answered}
-use Rattle.bim.proofs.Demand2.{accepts-only, accepts-all, writes-only, writes-all, writes-back}
+use Rattle.bim.proofs.Demand2.{accepts-only, accepts-all, writes-only, writes-all, writes-back, rewrites}
 use Rattle.bim.proofs.Demand3.{second-accepts, only-first-accepts}
 
 pub demand1 : Demand1
@@ -25,6 +25,7 @@ demand2 = record {
   writes-only = writes-only;
   writes-all = writes-all;
   writes-back = writes-back;
+  rewrites = rewrites;
 }
 
 pub demand3 : Demand3

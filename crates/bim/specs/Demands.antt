@@ -3,15 +3,17 @@
 -- Bits), so that what is said of these is said of the calls. proofs/Demands.antt has the theorems `demand1`,
 -- `demand2`, `demand3`. An area of another size than areaBytes (bitsArea of the bit reader's calls) is demand 1's:
 -- nothing is accepted with it.
-use Prim.Native.Nat.{ℕ, _+_, _-_, _*_, _/_, _%_, _≤_, _<_, min}
+use Prim.Native.Nat.{ℕ, zero, suc, _+_, _-_, _*_, _/_, _%_, _≤_, _<_, min}
 use mathlib.Core.Path.{_≡_}
 use mathlib.Core.Logic.{_↔_}
-use mathlib.Core.Bool.{Bool, true}
+use mathlib.Core.Bool.{Bool, true, cond}
 use mathlib.Core.List.{List, [], _∷_, map, reverse}
 use mathlib.Core.Option.{Option, none, some}
+use lib.Dec.{eqb}
 use lib.ListN.{length, getD, take}
 use Rattle.numbers.specs.Refusal.{areaSize, notHeld}
 use Rattle.numbers.specs.Kind as kinds
+use Rattle.numbers.specs.Mode as modes
 use Rattle.numbers.specs.Limit.{bitsArea, event, mostNames, mostOpen, mostPayload, mostWord}
 use Rattle.table.specs.Rows.{tableOf, heldOf}
 use Rattle.table.specs.Held.{Alike}
@@ -29,6 +31,7 @@ use Rattle.theorems.specs.Less.{outermost, replaced, firstBare}
 use Rattle.theorems.specs.Open.{Excuse}
 use Rattle.model.specs.Whole.{modeNumber, Outcome, declines, accepts, filled, eventWords}
 use Rattle.theorems.specs.Reader.{IsReading}
+use Rattle.theorems.specs.Shortest.{AllShortest}
 use Rattle.theorems.specs.Demand2.{Valid, payloadOf, bytesFor}
 use Rattle.theorems.specs.Demand3.{newOf}
 use Rattle.bit_reader.specs.Codes.{leftAt}
@@ -152,6 +155,42 @@ pub record Writes (t : List ℕ) (name type n : ℕ) (E X : List ℕ) (room : �
 abbrev pub NoBlankIn : List ℕ → ℕ → Type 0
 NoBlankIn E n = (i : ℕ) → i < n → wordFrom E (event * i) ≡ kinds.blank → ⊥
 
+-- The n events in these bytes from event i on.
+unfoldable pub eventsIn : List ℕ → (i n : ℕ) → List model.Event
+eventsIn E i zero = []
+eventsIn E i (suc n) =
+    model.event (wordFrom E (event * i)) (wordFrom E (event * i + 4)) (wordFrom E (event * i + 8)) (wordFrom E (event * i + 12))
+    ∷ eventsIn E (i + 1) n
+
+-- The bits of a Start's flag: 1 in modes 1 and 5, else 0.
+unfoldable pub flagBit : (mode : ℕ) → ℕ
+flagBit mode = cond (eqb (mode % modes.casting) modes.optional) 1 0
+
+-- Of the first n events in these bytes every TheLength is shortest (`Shortest`, of the list alone).
+abbrev pub ShortestIn : (mode : ℕ) → List ℕ → ℕ → Type 0
+ShortestIn mode E n = AllShortest (flagBit mode) (eventsIn E 0 n)
+
+-- What comes of writing back what a call to `bim_read` left (A, E, T), in rooms e and x, of the payload s: a payload no
+-- longer than s, which reads, in the same rooms, to the same mode, the same texts, and events that are the same in
+-- their first three words (`bare`).
+pub record Rewrites (t : List ℕ) (name type : ℕ) (s A E T : List ℕ) (e x room : ℕ) : Type 0 where
+  pub payload : List ℕ
+  pub used : ℕ
+  pub size : length payload ≡ (used + 7) / 8
+  pub shorter : length payload ≤ length s
+  pub fewer : used ≤ wordFrom A bitsAt
+  pub wrote-it : writeCall t name type (wordFrom A modeAt) (take (event * wordFrom A eventsAt) E) (take (wordFrom A textAt) T)
+      room areaBytes
+      ≡ wrote room (wordFrom A modeAt) (wordFrom A eventsAt) (wordFrom A textAt) used payload
+  pub area : List ℕ
+  pub list : List ℕ
+  pub reads : readCall t name type payload e x areaBytes ≡ back 0 area (list ∷ T ∷ [])
+  pub mode : wordFrom area modeAt ≡ wordFrom A modeAt
+  pub count : wordFrom area eventsAt ≡ wordFrom A eventsAt
+  pub text : wordFrom area textAt ≡ wordFrom A textAt
+  pub bits : wordFrom area bitsAt ≡ used
+  pub same : map bare (eventsIn list 0 (wordFrom A eventsAt)) ≡ map bare (eventsIn E 0 (wordFrom A eventsAt))
+
 pub record Demand2 : Type 0 where
   -- what is accepted is the reading, and every reading is accepted
   pub accepts-only : (t : List ℕ) (name type : ℕ) (s : List ℕ) (e x : ℕ)
@@ -170,14 +209,19 @@ pub record Demand2 : Type 0 where
       → bytesFor (h .bits) ≤ min room mostPayload
       → writeCall t name type (modeNumber mode) E X room areaBytes
       ≡ wrote room (modeNumber mode) (length E / event) (length X) (8 + length (h .bits)) (payloadOf mode (h .bits))
-  -- what was read without a Blank is written back byte for byte, given room: the host hands over mode, events and
-  -- texts as the area counts them. The first two premises are the two clauses of `bim_read`'s contract
+  -- what was read without a Blank, and with every TheLength in its shortest form, is written back byte for byte, given
+  -- room: the host hands over mode, events and texts as the area counts them. The first two premises are the two
+  -- clauses of `bim_read`'s contract
   pub writes-back : (t : List ℕ) (name type : ℕ) (s A E T : List ℕ) (e x room : ℕ)
       → back 0 A (E ∷ T ∷ []) ≡ readCall t name type s e x areaBytes → AllBytes s
-      → NoBlankIn E (wordFrom A eventsAt) → length s ≤ room
+      → NoBlankIn E (wordFrom A eventsAt) → ShortestIn (wordFrom A modeAt) E (wordFrom A eventsAt) → length s ≤ room
       → writeCall t name type (wordFrom A modeAt) (take (event * wordFrom A eventsAt) E) (take (wordFrom A textAt) T)
       room areaBytes
       ≡ wrote room (wordFrom A modeAt) (wordFrom A eventsAt) (wordFrom A textAt) (wordFrom A bitsAt) s
+  -- and whatever TheLength was padded, it is written as no more bytes, which read as the same list but for its bits
+  pub rewrites : (t : List ℕ) (name type : ℕ) (s A E T : List ℕ) (e x room : ℕ)
+      → back 0 A (E ∷ T ∷ []) ≡ readCall t name type s e x areaBytes
+      → NoBlankIn E (wordFrom A eventsAt) → length s ≤ room → Rewrites t name type s A E T e x room
 
 -- DEMAND 3. Two tables that `bim_check_table` accepts, alike but for held marks, the second holding all that the
 -- first holds.

@@ -29,7 +29,7 @@ use Rattle.model.specs.Write
 use Rattle.model.specs.Write.{bare}
 use Rattle.model.specs.Pack
 use Rattle.model.specs.Whole
-use Rattle.model.specs.Whole.{mode, Reply, accepted, declined, Made, made, unmade, reading, writing, eventWords}
+use Rattle.model.specs.Whole.{mode, Reply, accepted, declined, Made, made, unmade, modeNumber, reading, writing, eventWords}
 
 -- the worked table; whether type 3 is held
 unfoldable pub words : ℕ → List ℕ
@@ -77,7 +77,10 @@ unfoldable pub castList : List Event
 castList =
     event 1 10 1 10 ∷ event 1 11 1 10 ∷ event 8 2 0 3 ∷ event 3 2 0 21 ∷ event 6 0 0 0 ∷ event 1 12 1 5 ∷ event 8 1 1 4 ∷ event 3 1 0 1 ∷ event 6 0 0 0 ∷ event 6 0 0 0 ∷ []
 
--- one type, which is empty; one that holds itself twice, without end
+-- one type of a simple kind; one type, which is empty; one that holds itself twice, without end
+unfoldable pub simply : ℕ → List ℕ
+simply kind = 1 ∷ 1 ∷ 0 ∷ 0 ∷ 1 ∷ 1 ∷ 0 ∷ 0 ∷ kind ∷ 0 ∷ 0 ∷ []
+
 unfoldable pub hollow : List ℕ
 hollow = 1 ∷ 1 ∷ 0 ∷ 0 ∷ 1 ∷ 0 ∷ 0 ∷ 0 ∷ 0 ∷ 0 ∷ 0 ∷ []
 
@@ -108,6 +111,8 @@ pub data Asked : Type 0 where
   within : (table : List ℕ) (words : ℕ) → List ℕ → Asked
   writesIn : ℕ → (table : List ℕ) → List Event → List ℕ → Asked
   writes : (table : List ℕ) → List Event → List ℕ → Asked
+  -- a payload read, and what was read written in its mode
+  rewrites : (table : List ℕ) (name : ℕ) → List ℕ → Asked
 
 -- and what comes of it
 pub data Shown : Type 0 where
@@ -130,6 +135,10 @@ unfoldable pub shownMade : Made → Shown
 shownMade (made s n) = makes s n
 shownMade (unmade n p) = refuses n p []
 
+unfoldable pub shownBack : (table : List ℕ) (name : ℕ) → Reply → Shown
+shownBack l name (accepted mode ns q) = shownMade (writing l name 0 (modeNumber mode) (eventWords (events ns)) (texts ns) 100)
+shownBack l name (declined n p π) = refuses n p π
+
 unfoldable pub shown : Asked → Shown
 shown (coded w) = bits w
 shown (reads rd w) = shownRes (rd (source w) (length w) 0)
@@ -137,6 +146,7 @@ shown (payload l name s) = shownReply (reading l name 0 s 8192 8192)
 shown (within l n s) = shownReply (reading l 10 0 s n 8192)
 shown (writesIn m l L T) = shownMade (writing l 10 0 m (eventWords L) T 100)
 shown (writes l L T) = shownMade (writing l 10 0 2 (eventWords L) T 100)
+shown (rewrites l name s) = shownBack l name (reading l name 0 s 8192 8192)
 
 pub record Case : Type 0 where
   pub ask : Asked
@@ -228,6 +238,48 @@ castCases =
     ∷ (writesIn 4 (castRows 1 1) [] [] ⇒ refuses 22 0 [])
     ∷ []
 
-pub cases : map (λ (c : Case). shown (c .ask)) (proved ++ (beside ++ castCases)) ≡ map (λ (c : Case). c .comes) (proved ++ (beside ++ castCases))
-unfolding words hollow tangle worked front back list blank shownRes shownReply shownMade shown nest castRows cast casted castList castCases proved beside Model.chosen Model.defaultType Model.effectiveType Model.sends Model.codes Items.substituteCode Items.typeCode Items.codesAt Read.castAt Write.placeIn Write.standing Write.codesOut Write.casts Whole.lengthsNumber Whole.modesFor Whole.modeBy Simple.oneOf Valid.derivedWords Valid.substituteWords Valid.among Valid.once Valid.wordsFrom Valid.typePair Valid.rowPair Valid.derivedRow Valid.substituteRow Valid.typePairRow Valid.rowPairRow Valid.castWords Valid.formWords Valid.formSize Valid.countWords Valid.lengthRight Rows.substitutesFrom Rows.substitutesOf Rows.derivedFrom Rows.derivedOf Model.eventOf Model.value Model.maybe Model.attribute Model.attributes Model.contents Model.rows Model.within Model.due Model.plan Model._then_ Model.flagOf Model.events Model.texts Model.treeSlots Model.treeBytes Model.treeBits Items.formOf Items.formAt Items.itemAt Items.lengthAt Items.headAt Read.onto Read.after Read.code Read.kept Read.stored Read.met Read.ended Read.closed Read.entered Read.bare Read.sized Read.opened Read.elementAt Read.read Write.put Write.along Write.unlike Write.matched Write.taken Write.wordOf Write.flagIn Write.simpleOut Write.formOut Write.itemOut Write.coded Write.headOut Write.sealed Write.tooDeep Write.allowed Write.elementOut Write.write Pack.pack Whole.modeByte Whole.modeNumber Whole.modeOf Whole.zeros Whole.padding Whole.padded Whole.replied Whole.rootIn Whole.inMode Whole.payload Whole.asked Whole.afterAsked Whole.afterVerdict Whole.reading Whole.eventWords Whole.filled Whole.outcome Whole.eventsLeft Whole.textsLeft Whole.eventsFrom Whole.roomed Whole.spent Whole.modeAsked Whole.shaped Whole.written Whole.orUnmade Whole.verdictMade Whole.writing Whole.outcomeMade Whole.payloadLeft Code.HasCode Code.bitsOf Code.choiceAt Code.numberAt Code.signedOf Code.someOf Code.codeAt Code.fits Code.codeOut Code.sizeOut Simple.spanCode Simple.rangeCode Simple.unboundedCode Simple.boundedCode Simple.timesCode Simple.simpleOf Simple.bytes Simple.bytesAt Simple.unless Simple.textOf Simple.simpleAt First.first First._then_ First.judge Valid.given Valid.headerWords Valid.frontWords Valid.unusedWords Valid.rangeWords Valid.enumerationWords Valid.kindWords Valid.emptyWords Valid.simpleWords Valid.particlesWords Valid.contentWords Valid.attributeWords Valid.elementWords Valid.groupWords Valid.occursWords Valid.particleWords Valid.rows Valid.typeRow Valid.attributeRow Valid.particleRow Valid.rowWords Valid.verdictFrom Valid.verdict Valid.rightAt Rows.contentFrom Rows.rowFrom Rows.contentOf Rows.rowAt Rows.rowOf Rows.attributeOf Rows.attributesFrom Rows.firstOf Rows.countOf Rows.attributesOf Rows.tableOf Rows.heldOf Res._>>=_ Res._>>_ Res.guard Res.atMost Bits.bitAt Bits.num Bits.fixedAt Bits.digits Width.leastFrom Width.width Number.onesAt Number.isShort Number.groupsAt Number.number5 Number.second8At Number.number8 Number.strict Number.read5 Number.read8 Number.more Number.codeOf5 Number.code5 Number.code8 utf8.has utf8.lines utf8.begun utf8.open-lines utf8.goesOn utf8.faultOf utf8.textFault signed.gapOf signed.signOf signed.magnitudeOf signed.wordOf signed.wrapped
+-- request 3's examples, and those where it meets request 1
+unfoldable pub sized : ℕ → List Event
+sized n = event 1 1 1 n ∷ event 3 1 0 1 ∷ event 6 0 0 0 ∷ []
+
+unfoldable pub threeGroups : List ℕ
+threeGroups = 0x8F ∷ 0xC0 ∷ 0x65 ∷ 0x50 ∷ 0xA8 ∷ 0x92 ∷ 0x1A ∷ 0x70 ∷ 0x61 ∷ 0x00 ∷ []
+
+unfoldable pub twoGroups : List ℕ
+twoGroups = 0x8F ∷ 0x80 ∷ 0x60 ∷ []
+
+unfoldable pub eightGroups : List ℕ
+eightGroups = 0x8F ∷ 0xFE ∷ 0x00 ∷ 0x00 ∷ 0x00 ∷ 0x01 ∷ 0x80 ∷ []
+
+unfoldable pub innerPadded : List ℕ
+innerPadded = 0x9F ∷ 0x8C ∷ 0x70 ∷ 0x0C ∷ 0x41 ∷ 0x24 ∷ 0x34 ∷ 0x96 ∷ 0x20 ∷ []
+
+unfoldable pub paddedCases : List Case
+paddedCases =
+    (payload (words 1) 10 threeGroups
+    ⇒ lists (mode Lengths.always false)
+    (event 1 10 1 15 ∷ event 2 20 1 1 ∷ event 3 4294967295 0 3 ∷ event 1 11 1 10 ∷ event 3 2 0 21 ∷ event 6 0 0 0 ∷ back) (72 ∷ 105 ∷ []) 73)
+    ∷ (rewrites (words 1) 10 threeGroups ⇒ makes (worked 0xAA 0x20) 68)
+    ∷ (payload (simply 0) 1 (0x8F ∷ 0x0C ∷ []) ⇒ lists (mode Lengths.always false) (sized 5) [] 14)
+    ∷ (payload (simply 0) 1 twoGroups ⇒ lists (mode Lengths.always false) (sized 10) [] 19)
+    ∷ (rewrites (simply 0) 1 twoGroups ⇒ makes (0x8F ∷ 0x0C ∷ []) 14)
+    ∷ (payload (simply 0) 1 eightGroups ⇒ lists (mode Lengths.always false) (sized 40) [] 49)
+    ∷ (rewrites (simply 0) 1 eightGroups ⇒ makes (0x8F ∷ 0x0C ∷ []) 14)
+    ∷ (payload (simply 0) 1 (0x8F ∷ 0xFF ∷ 0x00 ∷ 0x00 ∷ 0x00 ∷ 0x00 ∷ []) ⇒ refuses 13 8 [])
+    ∷ (payload hollow 1 (0x8F ∷ 0x80 ∷ 0x00 ∷ []) ⇒ lists (mode Lengths.always false) (event 1 1 1 10 ∷ event 6 0 0 0 ∷ []) [] 18)
+    ∷ (payload (simply 2) 1 (0x0F ∷ 0x80 ∷ 0x40 ∷ []) ⇒ refuses 12 8 (1 ∷ []))
+    ∷ (payload (simply 2) 1 (0x8F ∷ 0x82 ∷ 0xA0 ∷ 0x10 ∷ []) ⇒ refuses 12 18 (1 ∷ []))
+    ∷ (payload (simply 0) 1 (0x8F ∷ 0x80 ∷ 0xA0 ∷ []) ⇒ refuses 11 18 (1 ∷ []))
+    ∷ (payload (simply 0) 1 (0x8F ∷ 0x82 ∷ 0x60 ∷ []) ⇒ refuses 10 8 [])
+    ∷ (payload (simply 0) 1 (0x8F ∷ 0xE0 ∷ []) ⇒ refuses 5 8 [])
+    ∷ (payload (cast 1) 10 innerPadded
+    ⇒ lists (mode Lengths.always true)
+    (event 1 10 1 10 ∷ event 1 11 1 15 ∷ event 8 2 0 3 ∷ event 3 2 0 21 ∷ event 6 0 0 0 ∷ event 1 12 1 5 ∷ event 8 1 1 4 ∷ event 3 1 0 1 ∷ event 6 0 0 0 ∷ event 6 0 0 0 ∷ []) (72 ∷ 105 ∷ []) 67)
+    ∷ (rewrites (cast 1) 10 innerPadded ⇒ makes casted 62)
+    ∷ (payload (cast 1) 10 (0x9F ∷ 0x8C ∷ 0x70 ∷ 0x0C ∷ 0x71 ∷ 0x24 ∷ 0x34 ∷ 0x96 ∷ 0x20 ∷ []) ⇒ refuses 14 33 (10 ∷ []))
+    ∷ (payload (cast 1) 10 (0x9F ∷ 0x8C ∷ 0x70 ∷ 0x0C ∷ 0xC1 ∷ 0x24 ∷ 0x34 ∷ 0xCB ∷ 0x10 ∷ []) ⇒ refuses 11 33 (10 ∷ 11 ∷ []))
+    ∷ []
+
+pub cases : map (λ (c : Case). shown (c .ask)) (proved ++ (beside ++ (castCases ++ paddedCases))) ≡ map (λ (c : Case). c .comes) (proved ++ (beside ++ (castCases ++ paddedCases)))
+unfolding words simply hollow tangle worked front back list blank shownRes shownReply shownMade shown nest castRows cast casted castList castCases sized threeGroups twoGroups eightGroups innerPadded paddedCases shownBack proved beside Model.chosen Model.defaultType Model.effectiveType Model.sends Model.codes Items.substituteCode Items.typeCode Items.codesAt Read.castAt Write.placeIn Write.standing Write.codesOut Write.casts Whole.lengthsNumber Whole.modesFor Whole.modeBy Simple.oneOf Valid.derivedWords Valid.substituteWords Valid.among Valid.once Valid.wordsFrom Valid.typePair Valid.rowPair Valid.derivedRow Valid.substituteRow Valid.typePairRow Valid.rowPairRow Valid.castWords Valid.formWords Valid.formSize Valid.countWords Valid.lengthRight Rows.substitutesFrom Rows.substitutesOf Rows.derivedFrom Rows.derivedOf Model.eventOf Model.value Model.maybe Model.attribute Model.attributes Model.contents Model.rows Model.within Model.due Model.plan Model._then_ Model.flagOf Model.events Model.texts Model.treeSlots Model.treeBytes Model.treeBits Items.formOf Items.formAt Items.itemAt Items.lengthAt Items.headAt Read.onto Read.after Read.code Read.kept Read.stored Read.met Read.ended Read.closed Read.entered Read.bare Read.sized Read.opened Read.elementAt Read.read Write.put Write.along Write.unlike Write.matched Write.taken Write.wordOf Write.flagIn Write.simpleOut Write.formOut Write.itemOut Write.coded Write.headOut Write.sealed Write.tooDeep Write.allowed Write.elementOut Write.write Pack.pack Whole.modeByte Whole.modeNumber Whole.modeOf Whole.zeros Whole.padding Whole.padded Whole.replied Whole.rootIn Whole.inMode Whole.payload Whole.asked Whole.afterAsked Whole.afterVerdict Whole.reading Whole.eventWords Whole.filled Whole.outcome Whole.eventsLeft Whole.textsLeft Whole.eventsFrom Whole.roomed Whole.spent Whole.modeAsked Whole.shaped Whole.written Whole.orUnmade Whole.verdictMade Whole.writing Whole.outcomeMade Whole.payloadLeft Code.HasCode Code.bitsOf Code.choiceAt Code.numberAt Code.signedOf Code.someOf Code.codeAt Code.fits Code.codeOut Code.sizeOut Simple.spanCode Simple.rangeCode Simple.unboundedCode Simple.boundedCode Simple.timesCode Simple.simpleOf Simple.bytes Simple.bytesAt Simple.unless Simple.textOf Simple.simpleAt First.first First._then_ First.judge Valid.given Valid.headerWords Valid.frontWords Valid.unusedWords Valid.rangeWords Valid.enumerationWords Valid.kindWords Valid.emptyWords Valid.simpleWords Valid.particlesWords Valid.contentWords Valid.attributeWords Valid.elementWords Valid.groupWords Valid.occursWords Valid.particleWords Valid.rows Valid.typeRow Valid.attributeRow Valid.particleRow Valid.rowWords Valid.verdictFrom Valid.verdict Valid.rightAt Rows.contentFrom Rows.rowFrom Rows.contentOf Rows.rowAt Rows.rowOf Rows.attributeOf Rows.attributesFrom Rows.firstOf Rows.countOf Rows.attributesOf Rows.tableOf Rows.heldOf Res._>>=_ Res._>>_ Res.guard Res.atMost Bits.bitAt Bits.num Bits.fixedAt Bits.digits Width.leastFrom Width.width Number.onesAt Number.isShort Number.groupsAt Number.number5 Number.second8At Number.number8 Number.strict Number.read5 Number.read8 Number.more Number.codeOf5 Number.code5 Number.code8 utf8.has utf8.lines utf8.begun utf8.open-lines utf8.goesOn utf8.faultOf utf8.textFault signed.gapOf signed.signOf signed.magnitudeOf signed.wordOf signed.wrapped
 cases = refl

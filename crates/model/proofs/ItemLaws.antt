@@ -10,11 +10,13 @@ use Rattle.wire.proofs.Res.{gives, bind, under, then, under-then}
 use Rattle.wire.specs.At.{At}
 use Rattle.wire.proofs.BitLaws.{at-none, at-both, at-left, at-right}
 use Rattle.wire.specs.Lawful.{Binary}
+use Rattle.wire.specs.Number.{codeOf5}
+use Rattle.wire.proofs.Laws5.{number-found5, any-code-read}
 use Rattle.value.specs.Code.{HasCode, bitsOf}
 use Rattle.value.proofs.CodeLaws.{code-lawful}
 use Rattle.value.proofs.SimpleLaws.{simple-found, simple-reads}
 use Rattle.model.specs.Model.{Item, Types, effectiveType}
-use Rattle.model.specs.Items.{Lengths, never, optional, always, flag, theLength, Form, present, simply, formOf, FormIs, is-present, is-simple, ItemIs, Length, free, long, Measures, HeadIs, no-head, flag-off, flag-on, head-on, formAt, itemAt, Head, lengthAt, headAt, substituteCode, typeCode, CodesAre, both, codesAt}
+use Rattle.model.specs.Items.{Lengths, never, optional, always, flag, Form, present, simply, formOf, FormIs, is-present, is-simple, ItemIs, Length, free, long, Measures, InGroups, HeadIs, no-head, flag-off, flag-on, head-on, formAt, itemAt, Head, lengthAt, headAt, substituteCode, typeCode, CodesAre, both, codesAt}
 
 pub record FoundItem (b : ℕ → ℕ) (i : Item) (wall at v : ℕ) (ts : List ℕ) (q : ℕ) : Type 0 where
   pub bits : List ℕ
@@ -52,13 +54,14 @@ module _ (b : ℕ → ℕ) (bit : Binary b) where
       }
 
   -- TheLength after bits o that a head may begin with
-  length-found : (mode : Lengths) (wall at p : ℕ) (o : List ℕ) → ((n : ℕ) → HasCode theLength n → HeadIs mode (long n) (o ++ bitsOf theLength n)) → At b at o p
+  length-found : (mode : Lengths) (wall at p : ℕ) (o : List ℕ) → ((k n : ℕ) → InGroups k n → HeadIs mode (long n) (o ++ codeOf5 k n)) → At b at o p
       → Ensures (lengthAt 1 b wall p) (FindsHead b mode wall at)
   unfolding lengthAt
   length-found mode wall at p o is st =
-      bind (code-lawful theLength .found b bit wall p) λ r f. under refusal.length λ h.
+      bind (number-found5 b bit wall p) λ r f. under refusal.length λ h.
       let z : r .1 + r .0 - r .1 ≡ r .0 = omega arith in
-      gives (rw z (record { bits = o ++ bitsOf theLength (r .0); is = is (r .0) (f .fits); stands = at-both st (f .stands); within = λ k. f .within }), omega arith, h)
+      let g : InGroups (f .groups) (r .0) = record { few = omega (arith, f .few); holds = f .small } in
+      gives (rw z (record { bits = o ++ codeOf5 (f .groups) (r .0); is = is (f .groups) (r .0) g; stands = at-both st (f .stands); within = λ k. f .within }), omega arith, h)
 
   pub head-found : (mode : Lengths) (wall at : ℕ) → Ensures (headAt mode b wall at) (FindsHead b mode wall at)
   unfolding headAt lengthAt HasCode
@@ -67,9 +70,9 @@ module _ (b : ℕ → ℕ) (bit : Binary b) where
     where
       go : (v p : ℕ) → HasCode flag v → At b at (bitsOf flag v) p → p ≤ wall → Ensures (lengthAt v b wall p) (FindsHead b optional wall at)
       go zero p h f k = gives (record { bits = _; is = flag-off; stands = f; within = λ l. k })
-      go (suc zero) p h f k = length-found optional wall at p (bitsOf flag 1) (λ n x. flag-on x) f
+      go (suc zero) p h f k = length-found optional wall at p (bitsOf flag 1) (λ k n x. flag-on k x) f
       go (suc (suc v)) p h f k = absurd (omega arith)
-  head-found always wall at = length-found always wall at at [] (λ n x. head-on x) at-none
+  head-found always wall at = length-found always wall at at [] (λ k n x. head-on k x) at-none
 
   pub codes-found : (y : Types) (wall at : ℕ) → Ensures (codesAt y b wall at) (λ r. FoundCodes b y wall at (r .0) (r .1) (r .2))
   unfolding codesAt
@@ -108,21 +111,23 @@ module _ (b : ℕ → ℕ) where
   unfolding itemAt
   item-reads i h f k = form-reads h f k
 
-  length-reads : (n wall at p : ℕ) → HasCode theLength n → At b at (bitsOf theLength n) p → p + n ≤ wall → lengthAt 1 b wall at ≡ got (Head.sized p (p + n))
+  length-reads : (ones n wall at p : ℕ) → InGroups ones n → At b at (codeOf5 ones n) p → p + n ≤ wall → lengthAt 1 b wall at ≡ got (Head.sized p (p + n))
   unfolding lengthAt
-  length-reads n wall at p h f k = then _ (code-lawful theLength .reads b wall at n p h f (omega arith)) (under-then refusal.length k refl)
+  length-reads ones n wall at p h f k =
+      let z = f .next in
+      then _ (any-code-read b wall at ones n (h .few) (h .holds) (f .there) (omega arith)) (rw (← z) (under-then refusal.length k refl))
 
   pub head-reads : {mode : Lengths} {h : Length} {w : List ℕ} (wall : ℕ) {at p : ℕ} → HeadIs mode h w → At b at w p → p ≤ wall → stopOf h p wall ≤ wall
       → headAt mode b wall at ≡ got (headOf h p)
   unfolding headAt lengthAt
   head-reads wall {at} {p} no-head f k l = let n = f .next in let e : at ≡ p = omega arith in rw e
   head-reads wall {at} {p} flag-off f k l = then _ (code-lawful flag .reads b wall at 0 p flag-zero f k) refl
-  head-reads wall {at} {p} (flag-on {n} h) f k l =
-      let y = length-append (bitsOf flag 1) (bitsOf theLength n) in
+  head-reads wall {at} {p} (flag-on {n} ones h) f k l =
+      let y = length-append (bitsOf flag 1) (codeOf5 ones n) in
       let z = f .next in
-      then _ (code-lawful flag .reads b wall at 1 _ flag-one (at-left (bitsOf flag 1) (bitsOf theLength n) f) (omega arith))
-      (length-reads n wall _ p h (at-right (bitsOf flag 1) (bitsOf theLength n) f) l)
-  head-reads wall {at} {p} (head-on {n} h) f k l = length-reads n wall at p h f l
+      then _ (code-lawful flag .reads b wall at 1 _ flag-one (at-left (bitsOf flag 1) (codeOf5 ones n) f) (omega arith))
+      (length-reads ones n wall _ p h (at-right (bitsOf flag 1) (codeOf5 ones n) f) l)
+  head-reads wall {at} {p} (head-on {n} ones h) f k l = length-reads ones n wall at p h f l
 
   pub codes-reads : {y : Types} {t k : ℕ} {w : List ℕ} (wall : ℕ) {at p : ℕ} → CodesAre y t k w → At b at w p → p ≤ wall → codesAt y b wall at ≡ got (t, k, p)
   unfolding codesAt

@@ -13,7 +13,7 @@ use Rattle.utf8.specs.Text.{textFault}
 use Rattle.value.specs.Code.{Code, choice, five, signed, some, shifted, choiceAt, numberAt, signedOf, someOf, codeAt, fits, codeOut}
 use Rattle.value.specs.Simple.{Simple, plain, text, count, bytesAt, unless, textOf, simpleAt}
 use Rattle.model.specs.Model.{Item, Types, defaultType}
-use Rattle.model.specs.Items.{Lengths, flag, theLength, Form, present, simply, formOf, formAt, itemAt, lengthAt, headAt, substituteCode, typeCode, codesAt}
+use Rattle.model.specs.Items.{Lengths, flag, Form, present, simply, formOf, formAt, itemAt, lengthAt, headAt, substituteCode, typeCode, codesAt}
 use Rattle.model.specs.Write.{simpleOut, formOut, itemOut, standing, codesOut}
 
 abbrev pub Named : {A : Type 0} → Res A → Type 0
@@ -55,12 +55,14 @@ module _ (b : ℕ → ℕ) (wall : ℕ) where
   ones-named zero at k = omega arith
   ones-named (suc f) at k = named-cond (ltb at wall) _ _ (named-cond (eqb (b at) 0) _ _ tt (ones-named f (at + 1) (k + 1))) (omega arith)
 
+  number-named : (at : ℕ) → Named (number5 b wall at)
+  unfolding number5 groupsAt
+  number-named at =
+      named-bind (onesAt 8 b wall at 0) _ (ones-named 8 at 0) (λ r. named-bind (fixedAt b wall (r .1) (4 * (r .0 + 1))) _ (fixed-named (r .1) (4 * (r .0 + 1))) (λ s. tt))
+
   five-named : (at : ℕ) → Named (read5 b wall at)
-  unfolding read5 strict number5 groupsAt
-  five-named at =
-      named-bind (number5 b wall at) _
-      (named-bind (onesAt 8 b wall at 0) _ (ones-named 8 at 0) (λ r. named-bind (fixedAt b wall (r .1) (4 * (r .0 + 1))) _ (fixed-named (r .1) (4 * (r .0 + 1))) (λ s. tt)))
-      (λ r. named-cond (r .2) _ _ tt (omega arith))
+  unfolding read5 strict
+  five-named at = named-bind (number5 b wall at) _ (number-named at) (λ r. named-cond (r .2) _ _ tt (omega arith))
 
   choice-named : (n at : ℕ) → Named (choiceAt b n wall at)
   unfolding choiceAt
@@ -104,7 +106,7 @@ module _ (b : ℕ → ℕ) (wall : ℕ) where
   length-named : (f at : ℕ) → Named (lengthAt f b wall at)
   unfolding lengthAt
   length-named zero at = tt
-  length-named (suc k) at = named-bind (codeAt theLength b wall at) _ (code-named theLength at) (λ r. named-most _ _ 10 _ (omega arith) tt)
+  length-named (suc k) at = named-bind (number5 b wall at) _ (number-named at) (λ r. named-most _ _ 10 _ (omega arith) tt)
 
   pub head-named : (mode : Lengths) (at : ℕ) → Named (headAt mode b wall at)
   unfolding headAt

@@ -31,11 +31,13 @@ ones-bits : (n : ℕ) → Bits (replicate n 1)
 ones-bits zero = tt
 ones-bits (suc n) = (omega arith, ones-bits n)
 
+groups-bits : (n v : ℕ) → Bits (codeOf5 n v)
+unfolding codeOf5
+groups-bits n v = bits-append (replicate n 1) (0 ∷ digits (4 * (n + 1)) v) (ones-bits n) (omega arith, digits-bits (4 * (n + 1)) v)
+
 five-bits : (v : ℕ) → Bits (code5 v)
-unfolding code5 codeOf5
-five-bits v =
-    let n = more 7 v in
-    bits-append (replicate n 1) (0 ∷ digits (4 * (n + 1)) v) (ones-bits n) (omega arith, digits-bits (4 * (n + 1)) v)
+unfolding code5
+five-bits v = groups-bits (more 7 v) v
 
 code-bits : (c : Code) (v : ℕ) → Bits (bitsOf c v)
 unfolding bitsOf
@@ -62,8 +64,8 @@ form-bits (is-simple h) = simple-bits h
 head-bits : {mode : Lengths} {h : Length} {s : List ℕ} → HeadIs mode h s → Bits s
 head-bits no-head = tt
 head-bits flag-off = code-bits _ 0
-head-bits (flag-on {n} h) = bits-append (bitsOf _ 1) (bitsOf _ n) (code-bits _ 1) (code-bits _ n)
-head-bits (head-on {n} h) = code-bits _ n
+head-bits (flag-on {n} ones h) = bits-append (bitsOf _ 1) (codeOf5 ones n) (code-bits _ 1) (groups-bits ones n)
+head-bits (head-on {n} ones h) = groups-bits ones n
 
 codes-bits : {y : Types} {t k : ℕ} {c : List ℕ} → CodesAre y t k c → Bits c
 codes-bits (both {k} j h g) = bits-append (bitsOf _ k) (bitsOf _ j) (code-bits _ k) (code-bits _ j)

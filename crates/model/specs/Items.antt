@@ -1,12 +1,13 @@
 -- The codes of items and of heads: what each may be (a value, its text bytes, its bits) and its reading. This module alone knows
 -- which code an item has; grammar, reader and writer go by its names and, in ItemLaws, its laws.
-use Prim.Native.Nat.{ℕ, zero, suc, _+_, _-_, _^_}
+use Prim.Native.Nat.{ℕ, zero, suc, _+_, _-_, _^_, _<_, _≤_}
 use mathlib.Core.Path.{_≡_}
 use mathlib.Core.Bool.{Bool, true, false}
 use mathlib.Core.List.{List, [], _++_}
 use lib.ListN.{length}
 use Rattle.numbers.specs.Refusal as refusal
 use Rattle.wire.specs.Res.{Res, got, _>>=_, _>>_, atMost}
+use Rattle.wire.specs.Number.{number5, codeOf5}
 use Rattle.value.specs.Code.{Code, choice, five, HasCode, bitsOf, codeAt}
 use Rattle.value.specs.Simple.{Simple, plain, timesCode, oneOf, simpleOf, simpleAt, SimpleIs}
 use Rattle.model.specs.Model.{Item, Types, defaultType, effectiveType}
@@ -24,6 +25,7 @@ pub record Mode : Type 0 where
 abbrev pub flag : Code
 flag = choice 2
 
+-- TheLength as it is written: the shortest vluimsbf5
 abbrev pub theLength : Code
 theLength = five (2 ^ 32 - 1)
 
@@ -60,12 +62,17 @@ abbrev pub Measures : Length → ℕ → Type 0
 Measures free k = Unit
 Measures (long n) k = n ≡ k
 
+-- TheLength may be padded (001, 4.3, asks for no shortest form): any number of groups up to 8 that holds it; the ones before them are one fewer
+pub record InGroups (ones n : ℕ) : Type 0 where
+  pub few : ones ≤ 7
+  pub holds : n < 16 ^ suc ones
+
 -- a head (the first lines of 001, 8.4.2.1), the length, the bits of LengthFlag and TheLength
 pub data HeadIs : Lengths → Length → List ℕ → Type 0 where
   no-head : HeadIs never free []
   flag-off : HeadIs optional free (bitsOf flag 0)
-  flag-on : {n : ℕ} → HasCode theLength n → HeadIs optional (long n) (bitsOf flag 1 ++ bitsOf theLength n)
-  head-on : {n : ℕ} → HasCode theLength n → HeadIs always (long n) (bitsOf theLength n)
+  flag-on : {n : ℕ} (ones : ℕ) → InGroups ones n → HeadIs optional (long n) (bitsOf flag 1 ++ codeOf5 ones n)
+  head-on : {n : ℕ} (ones : ℕ) → InGroups ones n → HeadIs always (long n) (codeOf5 ones n)
 
 -- the codes behind it, SubstitutionCode (001, 7.6.5.3) and PayloadTypeCode (8.4.5): which substitute, and which derived type of the type that it then has
 unfoldable pub substituteCode : Types → Code
@@ -92,11 +99,11 @@ pub data Head : Type 0 where
   bare : (body : ℕ) → Head
   sized : (body end : ℕ) → Head
 
--- after the flag, where there is one: TheLength, which counts the bits after itself (001, 8.4.2.2) and does not pass the wall
+-- after the flag, where there is one: TheLength, in shortest form or not, which counts the bits after itself (001, 8.4.2.2) and does not pass the wall
 unfoldable pub lengthAt : ℕ → (ℕ → ℕ) → ℕ → ℕ → Res Head
 lengthAt zero b wall at = got (bare at)
 lengthAt (suc k) b wall at = do
-  (n, p) ← codeAt theLength b wall at
+  (n, p, short) ← number5 b wall at
   atMost (p + n) wall refusal.length
   got (sized p (p + n))
 

@@ -1,15 +1,19 @@
 -- Each way through a head.
-use Prim.Native.Nat.{ℕ, suc, _+_, _-_, _^_, _<_, _≤_}
+use Prim.Native.Nat.{ℕ, suc, _+_, _-_, _<_, _≤_}
 use mathlib.Core.Path.{_≡_, refl, sym, _∙_}
+use mathlib.Core.Bool.{Bool}
 use native.Mathlib.Omega.{arith}
 use Rattle.numbers.specs.Refusal as refusal
 use Rattle.wire.specs.declared.Bits.{Bits}
 use Rattle.wire.specs.declared.Read.{Read}
 use Rattle.wire.specs.declared.Read.the-variants as of-read
+use Rattle.wire.specs.declared.Number.{Number}
+use Rattle.wire.specs.declared.Number.the-variants as of-number
 use Rattle.wire.proofs.Res.{then, then-fault, under-then, under-fault}
-use Rattle.wire.specs.Answer.{readIs}
-use Rattle.wire.proofs.ReadWays.{read-value, read-refuse}
-use Rattle.value.specs.Code.{choiceAt, numberAt, codeAt}
+use Rattle.wire.specs.Answer.{readIs, numberIs}
+use Rattle.wire.specs.Number.{number5}
+use Rattle.wire.proofs.ReadWays.{read-value, read-refuse, number-value, number-refuse}
+use Rattle.value.specs.Code.{choiceAt, codeAt}
 use Rattle.model.specs.Items.{lengthAt, headAt}
 use Rattle.model.specs.Modes.{lengthsIs}
 use Rattle.model.specs.declared.Lengths.{Lengths}
@@ -19,15 +23,15 @@ use Rattle.reader_parts.specs.declared.Head.the-variants.{Bare, Sized, W
 use Rattle.reader_parts.specs.Heads.{headIs, Heads, Measured}
 
 -- TheLength
-module _ (b : ℕ → ℕ) (wall at : ℕ) (r : Read) (e : readIs r ≡ numberAt b (2 ^ 32 - 1) wall at) where
-  pub measured-refuse : (n : ℕ) → r ≡ of-read.Refuse n → Measured b wall at (Wrong n)
-  unfolding headIs lengthAt codeAt
-  measured-refuse n h = record { says = sym (then-fault _ (read-refuse e h)); within = tt }
+module _ (b : ℕ → ℕ) (wall at : ℕ) (r : Number) (e : numberIs r ≡ number5 b wall at) where
+  pub measured-refuse : (n : ℕ) → r ≡ of-number.Refuse n → Measured b wall at (Wrong n)
+  unfolding headIs lengthAt
+  measured-refuse n h = record { says = sym (then-fault _ (number-refuse e h)); within = tt }
 
-  module _ (n : ℕ) (body : Bits) (h : r ≡ of-read.Value n body) where
+  module _ (n : ℕ) (body : Bits) (short : Bool) (h : r ≡ of-number.Value n body short) where
     past : wall < body .0 + n → Measured b wall at (Wrong refusal.length)
-    unfolding headIs lengthAt codeAt
-    past k = record { says = sym (then _ (read-value e h) (under-fault refusal.length _ k)); within = tt }
+    unfolding headIs lengthAt
+    past k = record { says = sym (then _ (number-value e h) (under-fault refusal.length _ k)); within = tt }
 
     pub measured-before : wall < body .0 → Measured b wall at (Wrong refusal.length)
     measured-before k = past (omega arith)
@@ -36,8 +40,8 @@ module _ (b : ℕ → ℕ) (wall at : ℕ) (r : Read) (e : readIs r ≡ numberAt
     measured-past j k = past (omega arith)
 
     pub measured-in : (end : Bits) → body .0 ≤ wall → n ≤ wall - body .0 → end .0 ≡ body .0 + n → Measured b wall at (Sized body end)
-    unfolding headIs lengthAt codeAt
-    measured-in end j k l = record { says = rw l (sym (then _ (read-value e h) (under-then refusal.length (omega arith) refl))); within = omega arith }
+    unfolding headIs lengthAt
+    measured-in end j k l = record { says = rw l (sym (then _ (number-value e h) (under-then refusal.length (omega arith) refl))); within = omega arith }
 
 pub ruleset measured-ways = (measured-refuse, measured-before, measured-past, measured-in)
 

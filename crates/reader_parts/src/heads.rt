@@ -1,26 +1,26 @@
 // An element's head: its flag and its length, by the length coding.
 use crate::Head;
 use model::Lengths;
-use numbers::limit;
 use numbers::refusal;
 use value::reading::choice;
-use value::reading::number;
 use wire::Bits;
+use wire::Number;
 use wire::Read;
+use wire::reading::any5;
 ghost use Prim.Native.Nat.{_*_, _≤_};
 ghost use lib.ListN.{length};
 ghost use Rattle.wire.specs.Bits.{bitAt};
 ghost use Rattle.reader_parts.specs.Heads.{Measured, Heads};
 
-// TheLength and the end that it says, which is not past the wall.
+// TheLength, which need not be in shortest form, and the end that it says, which is not past the wall.
 fn read_length(payload: &[u8], wall: Bits, at: Bits) -> Head
     requires { ⌜ wall .0 ≤ 8 * length (now payload) ⌝ }
     ensures { λ r. ⌜ Measured (bitAt (now (payload .entry))) (wall .0) (at .0) r ⌝ }
 {
     let w = wall.0;
-    match number(payload, wall, at, limit::MOST_WORD) {
-        Read::Refuse(n) => Head::Wrong(n),
-        Read::Value(n, body) => {
+    match any5(payload, wall, at) {
+        Number::Refuse(n) => Head::Wrong(n),
+        Number::Value(n, body, _) => {
             let b = body.0;
             if w < b {
                 return Head::Wrong(refusal::LENGTH);

@@ -31,8 +31,8 @@ flag-is : {mode : Lengths} {h : Length} {s : List ℕ} → HeadIs mode h s → F
 unfolding flagOf
 flag-is no-head = refl
 flag-is flag-off = omega arith
-flag-is (flag-on h) = omega arith
-flag-is (head-on h) = refl
+flag-is (flag-on k h) = omega arith
+flag-is (head-on k h) = refl
 
 -- an item's value is one of its row, and its texts are the value's
 simple-of : {f : Form} {v : ℕ} {ts w : List ℕ} → FormIs f v ts w → (s : Simple) → f ≡ simply s → SimpleIs s v ts w

@@ -16,6 +16,8 @@ mod Own
 mod Parts
 mod Payload
 pub mod Reader
+mod Shorter
+mod Shortest
 mod Sound
 mod Unseen
 mod UnseenPayload

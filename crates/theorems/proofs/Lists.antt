@@ -4,9 +4,11 @@ use mathlib.Core.Path.{_≡_, refl, sym, ap, ap₂, _∙_}
 use mathlib.Core.List.{List, [], _∷_, _++_, map, append-nil, append-assoc, map-append}
 use native.Mathlib.Omega.{arith}
 use lib.ListN.{length, length-append}
-use Rattle.model.specs.Model.{end, Nodes, events, texts, treeSlots, treeBytes}
+use Rattle.model.specs.Model.{Event, end, Nodes, events, texts, treeSlots, treeBytes}
 use Rattle.model.specs.Model.Nodes.{none, leaf, node}
 use Rattle.model.specs.Write.{Bare, bare}
+use Rattle.model.specs.Plain.{NoBlank}
+use Rattle.theorems.specs.Follows.{NoBlanks}
 use Rattle.theorems.specs.Lists.{lists, spells}
 
 -- they are those of the flattening
@@ -42,3 +44,12 @@ unfolding spells treeBytes
 spells-length none U = omega arith
 spells-length (leaf at e ts r) U = omega (arith, length-append ts (spells r U), spells-length r U)
 spells-length (node m i r) U = omega (arith, spells-length i (spells r U), spells-length r U)
+
+-- no Blank: a matter of the kinds
+pub bare-none : (L : List Event) → NoBlank L → NoBlanks (map bare L)
+bare-none [] h = tt
+bare-none (e ∷ L) h = (h .0, bare-none L (h .1))
+
+pub none-bare : (L : List Event) → NoBlanks (map bare L) → NoBlank L
+none-bare [] h = tt
+none-bare (e ∷ L) h = (h .0, none-bare L (h .1))

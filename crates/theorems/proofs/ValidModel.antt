@@ -6,36 +6,23 @@
 use Prim.Native.Nat.{ℕ, _-_, _/_}
 use mathlib.Core.Path.{_≡_, _∙_}
 use mathlib.Core.Logic.{_↔_}
-use mathlib.Core.List.{List, [], _∷_, map}
+use mathlib.Core.List.{List}
 use native.Mathlib.Omega.{arith}
 use lib.ListN.{length}
 use Rattle.numbers.specs.Limit.{mostOpen}
 use Rattle.table.specs.Rows.{Table, tableOf, heldOf}
 use Rattle.table.specs.Words.{particlesIn}
-use Rattle.model.specs.Model.{Event, only, events, tableIn}
+use Rattle.model.specs.Model.{only, events, tableIn}
 use Rattle.model.specs.Items.{Mode}
-use Rattle.model.specs.Write.{bare, Out, write}
-use Rattle.model.specs.Plain.{NoBlank}
-use Rattle.model.proofs.Plain.{list-plain}
-use Rattle.theorems.proofs.Lists.{lists-all, spells-all}
-use Rattle.theorems.proofs.WriteComplete.{is-written}
-use Rattle.theorems.specs.Follows.{NoBlanks, Follows}
+use Rattle.theorems.proofs.Lists.{bare-none, none-bare}
+use Rattle.theorems.specs.Follows.{Follows}
 use Rattle.theorems.proofs.FollowsModel.{row-model, one-model}
 use Rattle.theorems.proofs.Bounded.{only-fine, right-bounded}
 use Rattle.theorems.proofs.ModelIs.{model-is}
-use Rattle.theorems.proofs.Neat.{right-neat}
 use Rattle.model.specs.Whole.{modeNumber, roomed, spent, written, writing}
-use Rattle.model.specs.Entries.{planOf, listOf}
 use Rattle.model.proofs.Entries.{events-length, mode-asked, writing-entered}
 use Rattle.theorems.specs.Demand2.{Valid}
-
-bare-none : (L : List Event) → NoBlank L → NoBlanks (map bare L)
-bare-none [] h = tt
-bare-none (e ∷ L) h = (h .0, bare-none L (h .1))
-
-none-bare : (L : List Event) → NoBlanks (map bare L) → NoBlank L
-none-bare [] h = tt
-none-bare (e ∷ L) h = (h .0, none-bare L (h .1))
+use Rattle.theorems.proofs.Demand2.{valid-bits, any-valid}
 
 module _ (l : List ℕ) (name type : ℕ) (mode : Mode) (L X : List ℕ) where
   -- the table as the mode has it, and the rows that the root lets be open inside it
@@ -65,28 +52,12 @@ module _ (l : List ℕ) (name type : ℕ) (mode : Mode) (L X : List ℕ) where
       let root = only-fine (tableOf l .types) type (h .enters .type-known) in
       let s = model-is (mode .lengths) (heldOf l) T (particlesIn l) bounded (h .model) root (omega arith) in
       let p = s .placed 8 in
-      record {
-        enters = h .enters;
-        casts = h .casts;
-        shape = h .shape;
-        tree = p .tree;
-        bits = s .bits;
-        is = p .is;
-        no-blank = none-bare (events (p .tree)) (rw (p .list) at (h .no-blank));
-        list = p .list;
-        text = p .text;
-      }
+      let none = none-bare (events (p .tree)) (rw (p .list) at (h .no-blank)) in
+      any-valid l name type mode L X (h .enters) (h .shape) (h .casts) (p .is) none (p .list) (p .text) .valid
 
   -- THE THEOREM
   pub valid-model : Valid l name type mode L X ↔ Follows l name type mode L X
   valid-model = (valid-follows, follows-valid)
-
-  valid-bits : (v : Valid l name type mode L X)
-      → write (mode .lengths) (heldOf l) (planOf l name type (mode .casting)) (listOf L) X ≡ Out.wrote (v .bits) [] []
-  valid-bits v =
-      let neat = right-neat (v .enters) (mode .casting) in
-      let w = is-written (mode .lengths) (heldOf l) (v .is) neat (list-plain (v .tree) (v .no-blank)) [] [] in
-      rw (v .list, v .text) (rw (lists-all (v .tree), spells-all (v .tree)) at w)
 
   -- so whatever follows the models is written, as the bits that it has by the grammar, and refused for nothing but lack
   -- of room (21)
@@ -96,4 +67,4 @@ module _ (l : List ℕ) (name type : ℕ) (mode : Mode) (L X : List ℕ) where
   follows-written room h =
       let asked = mode-asked (tableOf l .derivations) mode (h .casts) in
       writing-entered l name type (modeNumber mode) L X room mode (h .enters) asked (h .shape)
-      ∙ rw (valid-bits (follows-valid h))
+      ∙ rw (valid-bits l name type mode L X (follows-valid h))

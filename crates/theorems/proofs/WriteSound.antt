@@ -7,7 +7,8 @@ use mathlib.Core.List.{List, [], _∷_, _++_}
 use native.Mathlib.Omega.{arith}
 use lib.ListN.{length, length-append}
 use Rattle.numbers.specs.Kind as kinds
-use Rattle.value.specs.Code.{HasCode}
+use Rattle.wire.specs.Number.{more, code5}
+use Rattle.value.specs.Code.{bitsOf}
 use Rattle.model.specs.Model.{end, eventOf, Types, Plan, flagOf}
 use Rattle.model.specs.Model.Plan.{done, deep, item, element}
 use Rattle.model.specs.Model.Nodes.{none, leaf, node}
@@ -21,17 +22,18 @@ use Rattle.model.proofs.Plain.{item-plain, cast-plain}
 use Rattle.model.proofs.Named.{item-out-named}
 use Rattle.model.proofs.OutLaws.{Says, gives, stops, taken-says, coded-says, put-says, along-says, allowed-says, sealed-says, casts-says, says-more}
 use Rattle.theorems.specs.WriteSound.{Written, Writes}
+use Rattle.theorems.proofs.Shorter.{in-groups}
 use Rattle.theorems.proofs.Choices.{codes-written, none-coded, cast-sent, cast-unsent, cast-lists, cast-spells}
 
 -- a Start whose second word suits the mode
 pub head-written : (mode : Lengths) (q n : ℕ) → flagIn mode q ≡ q → n < 2 ^ 32 → HeadIs mode (lengthOf q n) (headOut mode (lengthOf q n))
-unfolding headOut flagIn HasCode
+unfolding headOut flagIn bitsOf code5
 head-written Lengths.never zero n e h = no-head
 head-written Lengths.never (suc k) n e h = absurd (omega arith)
 head-written Lengths.optional zero n e h = flag-off
-head-written Lengths.optional (suc k) n e h = flag-on {n = n} (omega arith)
+head-written Lengths.optional (suc k) n e h = flag-on (more 7 n) (in-groups n h)
 head-written Lengths.always zero n e h = absurd (omega arith)
-head-written Lengths.always (suc k) n e h = head-on {n = n} (omega arith)
+head-written Lengths.always (suc k) n e h = head-on (more 7 n) (in-groups n h)
 
 pub flag-back : (mode : Lengths) (q n : ℕ) → flagIn mode q ≡ q → flagIn mode q ≡ flagOf (coded (lengthOf q n))
 unfolding flagIn flagOf

@@ -11,6 +11,7 @@ pub mod Open
 pub mod Own
 pub mod Payload
 pub mod Reader
+pub mod Shortest
 pub mod Sound
 pub mod Unseen
 pub mod WriteSound

@@ -1,5 +1,5 @@
 pub mod BitLaws
-mod Groups
+pub mod Groups
 pub mod Lawful
 pub mod Laws5
 mod Laws8

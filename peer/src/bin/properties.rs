@@ -77,6 +77,7 @@ fn report(tally: &Tally, kinds: &[u64]) {
         println!("refused, {item}: {numbers}");
     }
     println!("table check: right {}, wrong {}", tally.tables[0], tally.tables[1]);
-    println!("accepted with Blanks {}, written back identically {}", tally.blanks, tally.identical);
+    println!("accepted with Blanks {}, with a padded TheLength {}", tally.blanks, tally.padded);
+    println!("written back identically {}, in fewer bits {}", tally.identical, tally.shorter);
     println!("demand 3: {}", tally.pairs);
 }

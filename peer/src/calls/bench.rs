@@ -133,6 +133,11 @@ impl<'a> Bench<'a> {
         }
     }
 
+    /// Counts an accepted reading: whether some TheLength is padded, and whether it has a Blank.
+    pub fn count_reading(&mut self, padded: bool, blanks: bool) {
+        self.tally.count_reading(padded, blanks);
+    }
+
     /// Counts a pair of tables, and what it showed if it was judged.
     pub fn count_pair(&mut self, pair: Option<Pair>) {
         self.cases += 1;

@@ -4,14 +4,15 @@ use super::bench::on_peer;
 use super::case::{Call, Case};
 use super::reading::root;
 use crate::bim;
-use crate::gen::{self, damage_list, damage_payload, damage_table, let_go, table_and_sample};
+use crate::gen::{self, damage_list, damage_payload, damage_table, let_go, padded_groups, table_and_sample};
 use crate::host;
+use crate::padding::padded;
 use crate::rng::Rng;
 use crate::words::{big_endian, words_of};
 
 /// Changes the case.
 pub fn change(rng: &mut Rng, case: &mut Case) {
-    match rng.below(12) {
+    match rng.below(14) {
         0 => case.mode = rng.below(8) as u32,
         1 => case.root = root(rng, case.root, case.inputs[0].get(7).map_or(1, |&types| u32::from(types).max(1))),
         2 => other_room(rng, case),
@@ -19,6 +20,7 @@ pub fn change(rng: &mut Rng, case: &mut Case) {
         4..=6 => turn(rng, case),
         7 => other_flags(rng, case),
         8 if rng.one_in(4) => *case = fresh(rng),
+        12..=13 => pad_lengths(rng, case),
         _ => change_content(rng, case),
     }
 }
@@ -84,6 +86,18 @@ fn turn(rng: &mut Rng, case: &mut Case) {
     };
     turned.inputs[0] = std::mem::take(&mut case.inputs[0]);
     *case = turned;
+}
+
+/// The lengths of a payload padded; a list is written first.
+fn pad_lengths(rng: &mut Rng, case: &mut Case) {
+    if case.call == Call::Write {
+        turn(rng, case);
+    }
+    let read = (case.call == Call::Read).then(|| (words_of(&case.inputs[0]), &case.inputs[1]));
+    match read.and_then(|(table, payload)| padded(&table, case.root, payload, |length| padded_groups(rng, length))) {
+        Some(payload) => case.inputs[1] = payload,
+        None => change_content(rng, case),
+    }
 }
 
 /// Lengths coded or not, element by element.

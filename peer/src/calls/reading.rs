@@ -4,7 +4,8 @@ use super::bench::Bench;
 use super::case::{Call, Case, Left};
 use crate::bim;
 use crate::cases;
-use crate::gen::{self, damage_payload, damage_table, edge_word, let_go, table_and_sample};
+use crate::gen::{self, damage_payload, damage_table, edge_word, let_go, table_and_padded, table_and_sample};
+use crate::padding::lengths_are_shortest;
 use crate::rng::Rng;
 use crate::words::big_endian;
 
@@ -12,7 +13,7 @@ const MOST: usize = bim::MOST_EVENTS;
 
 /// One seeded round: a case and its neighbours.
 pub fn round(bench: &mut Bench<'_>, rng: &mut Rng) {
-    match rng.below(40) {
+    match rng.below(46) {
         0..=9 => valid(bench, rng),
         10..=16 => odd_codes(bench, rng),
         17..=25 => damaged(bench, rng),
@@ -23,6 +24,7 @@ pub fn round(bench: &mut Bench<'_>, rng: &mut Rng) {
         32 => roots(bench, rng),
         33..=35 => noise(bench, rng),
         36..=38 => deep(bench, rng),
+        39..=44 => padded(bench, rng),
         _ if rng.one_in(5) => large(bench, rng),
         _ => valid(bench, rng),
     }
@@ -37,29 +39,52 @@ pub fn ask(bench: &mut Bench<'_>, kind: &'static str, case: &Case) -> Left {
     left
 }
 
-/// Demand 2: bytes read without blanks are written back identically.
+/// Demand 2: bytes read without blanks are written back, identically where every TheLength is shortest. Else fewer bits are written, and
+/// they read, in the same rooms, to the same mode, texts and first three words of every event.
 fn written_back(bench: &mut Bench<'_>, case: &Case, left: &Left) {
-    let (Some(events), Some(texts)) = (left.events(), left.texts()) else {
+    let (Some(events), Some(texts), Some(outcome)) = (left.events(), left.texts(), left.reading()) else {
         return bench.hold(case, false, || "the area counts more than the buffers have".to_string());
     };
-    if events.chunks_exact(bim::EVENT).any(|event| event[..4] == bim::KIND_BLANK.to_be_bytes()) {
+    let shortest = lengths_are_shortest(outcome.answer.mode, &outcome.list());
+    let blanks = events.chunks_exact(bim::EVENT).any(|event| event[..4] == bim::KIND_BLANK.to_be_bytes());
+    bench.count_reading(!shortest, blanks);
+    if blanks {
         return;
     }
     let mut back = Case::write(&[], case.root, left.word(1) as u32, events.to_vec(), texts.to_vec(), 0);
     back.inputs[0].clone_from(&case.inputs[0]);
     back.rooms[0] = case.inputs[1].len();
     let written = bench.ask_aside("written back", &back);
-    let same = written.is_accepted() && written.outputs[0] == case.inputs[1] && written.outputs[1] == left.outputs[2];
-    bench.hold(case, same, || format!("demand 2: written back as {written:02x?}"));
+    if shortest {
+        let same =
+            written.is_accepted() && written.outputs[0] == case.inputs[1] && written.outputs[1] == left.outputs[2];
+        return bench.hold(case, same, || format!("demand 2: written back as {written:02x?}"));
+    }
+    let bits = written.word(4);
+    let fewer = written.is_accepted() && bits < left.word(4);
+    bench.hold(case, fewer, || format!("demand 2: padded, and written back as {written:02x?}"));
+    if let Some(payload) = written.outputs[0].get(..bits.div_ceil(8)).filter(|_| fewer) {
+        let mut shorter = case.clone();
+        shorter.inputs[1] = payload.to_vec();
+        let again = bench.ask_aside("padded, written back and read", &shorter);
+        let alike = |(one, other): (&[u8], &[u8])| one[..12] == other[..12];
+        let same = again.is_accepted()
+            && again.outputs[0].chunks_exact(bim::EVENT).zip(left.outputs[0].chunks_exact(bim::EVENT)).all(alike)
+            && again.outputs[1] == left.outputs[1]
+            && again.outputs[2] == written.outputs[1]
+            && again.word(1) == left.word(1);
+        bench.hold(case, same, || format!("demand 2: padded, written back and read as {again:02x?}"));
+    }
 }
 
 fn check(bench: &mut Bench<'_>, kind: &'static str, table: &[u8]) {
     bench.ask(kind, &Case::check(table.to_vec()));
 }
 
-/// A table and a sample, some of its types let go.
+/// A table and a sample, some of its types let go; without a quirk, some samples have padded lengths.
 fn held_in_part(rng: &mut Rng, quirk: usize) -> Case {
-    let (table, sample) = table_and_sample(rng, quirk);
+    let (table, sample) =
+        if quirk == 0 && rng.one_in(4) { table_and_padded(rng) } else { table_and_sample(rng, quirk) };
     let table = if rng.one_in(2) { table } else { let_go(rng, &table, 5) };
     Case::read_sample(&table, &sample)
 }
@@ -76,6 +101,30 @@ fn valid(bench: &mut Bench<'_>, rng: &mut Rng) {
         }
     }
     rooms_around(bench, rng, &mut case, &left);
+}
+
+/// Padded lengths, with all types held and not, damaged, and their walls moved by a bit.
+fn padded(bench: &mut Bench<'_>, rng: &mut Rng) {
+    let (table, sample) = table_and_padded(rng);
+    let mut case = Case::read_sample(&table, &sample);
+    let left = ask(bench, "padded lengths", &case);
+    rooms_around(bench, rng, &mut case.clone(), &left);
+    case.inputs[0] = big_endian(&let_go(rng, &table, 4));
+    ask(bench, "padded lengths, types not held", &case);
+    case.rooms[0] += 64;
+    case.rooms[1] += 8;
+    for _ in 0..3 {
+        let mut damaged = case.clone();
+        if rng.one_in(2) {
+            damage_payload(rng, &mut damaged.inputs[1]);
+        } else {
+            // One bit of a head: its groups, or what they say.
+            let heads: Vec<_> = gen::heads(&sample.events);
+            let bit = rng.pick(&heads);
+            damaged.inputs[1][bit / 8] ^= 0x80 >> (bit % 8);
+        }
+        ask(bench, "padded lengths, damaged", &damaged);
+    }
 }
 
 /// Rooms of every size around what the reading took.
@@ -276,9 +325,12 @@ fn noise(bench: &mut Bench<'_>, rng: &mut Rng) {
 
 fn deep(bench: &mut Bench<'_>, rng: &mut Rng) {
     let table = gen::deep_table(rng);
-    let Some(sample) = gen::deep_sample(rng, &table) else {
+    let Some(mut sample) = gen::deep_sample(rng, &table) else {
         return;
     };
+    if rng.one_in(3) {
+        sample.pad(rng);
+    }
     let mut case = Case::read_sample(&table, &sample);
     ask(bench, "deep payloads", &case);
     case.inputs[0] = big_endian(&let_go(rng, &table, 12));

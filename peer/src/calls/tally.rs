@@ -15,6 +15,8 @@ pub struct Tally {
     kinds: BTreeMap<(&'static str, &'static str), u64>,
     /// What the pairs of tables showed of demand 3.
     pub pairs: Pairs,
+    /// Accepted readings, by whether some TheLength is padded and whether there is a Blank.
+    readings: [[u64; 2]; 2],
     /// Answers and differences.
     pub met: tally::Tally,
     /// What was refused of substitution and casting, by the model's words for it.
@@ -28,6 +30,11 @@ impl Tally {
     pub fn count(&mut self, part: &'static str, kind: &'static str, call: Call, number: u32) {
         *self.kinds.entry((part, kind)).or_default() += 1;
         self.met.count(call.name(), number);
+    }
+
+    /// Counts an accepted reading.
+    pub fn count_reading(&mut self, padded: bool, blanks: bool) {
+        self.readings[usize::from(padded)][usize::from(blanks)] += 1;
     }
 
     /// Counts what is refused, as far as substitution and casting have to do with it.
@@ -62,6 +69,8 @@ impl Tally {
         for (call, calls, numbers) in self.met.rows() {
             println!("{call}: {calls} calls   {numbers}");
         }
+        let [[identical, blanks], [shorter, padded_blanks]] = self.readings;
+        println!("written back: {identical} identically, {shorter} in fewer bits; with a Blank {blanks}, {padded_blanks} padded");
     }
 
     /// Prints all; true where there is no difference and, unless it is a sample, every number of every call was met, and
@@ -77,6 +86,10 @@ impl Tally {
         }
         self.report_answers();
         let mut good = sample || self.met.has_met(&Call::ALL.map(|call| (call.name(), call.numbers())));
+        if !sample && self.readings.as_flattened().contains(&0) {
+            println!("NEVER MET: a part of demand 2");
+            good = false;
+        }
         println!("demand 3: {} pairs: {}", self.pairs.all(), self.pairs);
         good &= sample || self.pairs.are_whole();
         println!("{} differences", self.met.differing());

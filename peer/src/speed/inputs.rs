@@ -6,6 +6,7 @@ use crate::call::Write;
 use crate::calls::Case;
 use crate::cases;
 use crate::list::List;
+use crate::padding::padded;
 use crate::rng::Rng;
 use crate::rows::{complex, element, occurs, simple, Rows, NOTHING};
 use crate::words::big_endian;
@@ -55,6 +56,13 @@ impl Input {
     /// The writing, into a buffer of the largest payload.
     pub fn writing(&self, table: &[u32]) -> Case {
         Case::write(table, self.root, self.mode, self.list.clone(), self.texts.clone(), bim::MOST_PAYLOAD)
+    }
+
+    /// The same but for the payload's TheLengths, each of which has eight groups.
+    fn padded(mut self) -> Self {
+        self.name = format!("{}, lengths padded", self.name);
+        self.payload = padded(&self.rows.words(), self.root, &self.payload, |_| 8).unwrap_or_default();
+        self
     }
 
     /// The same but for the payload's last bit, which becomes 1, and the list's last event, which becomes no End.
@@ -176,6 +184,7 @@ pub fn standard() -> Vec<Input> {
         numbers("2,048 events", 681),
         guide(50).refused(),
         cast_guide(50),
+        chain("64 rows open", 64).padded(),
     ]
 }
 

@@ -40,23 +40,28 @@ pub fn width(most: u32) -> u32 {
     32 - most.leading_zeros()
 }
 
-/// A vluimsbf5 in shortest form at the front of a window, `room` bits before the wall: value and bits.
+/// A vluimsbf5 of any number of groups at the front of a window, `room` bits before the wall: value and groups.
 #[inline(always)]
-pub fn five(window: u64, room: usize) -> Result<(u32, usize), u32> {
+pub fn any_five(window: u64, room: usize) -> Result<(u32, usize), u32> {
     let ones = window.leading_ones() as usize;
     if ones >= 8 {
         return Err(if room < 8 { bim::PAST_END } else { bim::TOO_LARGE });
     }
     let groups = ones + 1;
-    let bits = 5 * groups;
-    if room < bits {
+    if room < 5 * groups {
         return Err(bim::PAST_END);
     }
-    let value = ((window << groups) >> (64 - 4 * groups)) as u32;
-    if ones > 0 && value >> (4 * ones) == 0 {
+    Ok((((window << groups) >> (64 - 4 * groups)) as u32, groups))
+}
+
+/// A vluimsbf5 in shortest form: value and bits.
+#[inline(always)]
+pub fn five(window: u64, room: usize) -> Result<(u32, usize), u32> {
+    let (value, groups) = any_five(window, room)?;
+    if groups > 1 && value >> (4 * (groups - 1)) == 0 {
         return Err(bim::NOT_SHORTEST);
     }
-    Ok((value, bits))
+    Ok((value, 5 * groups))
 }
 
 /// Copies the text that begins at bit `at` over all of `target`; false where it is not UTF-8.

@@ -1,6 +1,6 @@
 //! The reader, for speed.
 
-use super::bits::{copy_text, five, front, width, window};
+use super::bits::{any_five, copy_text, five, front, width, window};
 use super::table::{word, Casts, Table};
 use super::{fill_area, refuse, whole_area};
 use crate::bim;
@@ -165,8 +165,8 @@ impl Reader<'_> {
                 body += 1;
             }
             if coded {
-                let (length, size) = self.or_refuse(five(bits, end - body), first)?;
-                body += size;
+                let (length, groups) = self.or_refuse(any_five(bits, end - body), first)?;
+                body += 5 * groups;
                 if length as usize > end - body {
                     return self.refuse(bim::LENGTH, first);
                 }

@@ -4,8 +4,8 @@ use borrow.Author.Needs.{needs}
 use Rattle.reader_parts.proofs.heads.read_length.Statement.{statement}
 use Rattle.reader_parts.proofs.heads.read_length.Tie as tie
 
-number-requires : tie.Need-number-requires
-number-requires c κs = search needs
+any5-requires : tie.Need-any5-requires
+any5-requires c κs = search needs
 
 enum-known-n : tie.Need-enum-known-n
 enum-known-n c = search needs
@@ -32,7 +32,7 @@ pub read-length-spec : {M : Type 1} → statement M
 read-length-spec =
     tie.close
     (tie.spec
-    number-requires
+    any5-requires
     enum-known-n
     enum-known-n-2
     returns
