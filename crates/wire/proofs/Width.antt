@@ -1,11 +1,12 @@
 -- For n choices the width is the least w with 2^w at least n, so one choice takes no bits.
-use Prim.Native.Nat.{ℕ, zero, suc, _+_, _-_, _*_, _/_, _<_, _≤_, _^_}
+use Prim.Native.Nat.{ℕ, zero, suc, _+_, _-_, _<_, _≤_, _^_}
 use mathlib.Core.Path.{_≡_, subst, sym}
-use native.Mathlib.Nat.{add-zero, lt-of-le-of-lt, div-lt-iff-lt-mul, le-div-iff-mul-le}
+use native.Mathlib.Nat.{add-zero}
 use native.Mathlib.Omega.{arith}
 use native.Mathlib.Decide.{decLe, decLt}
 use borrow.Author.Tests.{le-leb, lt-leb}
-use lib.Pow.{pow-pos, pow-add, pow-mono, pow-lt}
+use lib.Pow.{pow-pos, pow-mono, pow-lt}
+use lib.Count.{leadingZeros, leading-length}
 use Rattle.wire.specs.Width.{leastFrom, width}
 
 least-holds : (f w n : ℕ) → n ≤ 2 ^ (w + f) → n ≤ 2 ^ leastFrom f w n
@@ -63,36 +64,13 @@ width-under n w h = elim (decLt w (width n)) [
   | no k ↦ omega arith
 ]
 
--- a number between two powers
+-- at most one choice
 pub width-one : (n : ℕ) → n ≤ 1 → 0 ≡ width n
 width-one n h = width-is n 0 h (λ v l. absurd (omega arith))
 
-pub width-between : (n w : ℕ) → 2 ^ w < n → n ≤ 2 ^ suc w → suc w ≡ width n
-width-between n w h l = width-is n (suc w) l (λ v k. lt-of-le-of-lt (pow-mono {i = v} {j = w} (omega arith)) h)
-
--- of many choices the last k bits are counted apart
-module _ (n k r : ℕ) (h : 2 ^ k < n) (e : r ≡ width ((n - 1) / 2 ^ k + 1)) where
-  more-holds : n ≤ 2 ^ (r + k)
-  more-holds =
-      let f : (n - 1) / 2 ^ k + 1 ≤ 2 ^ r = rw e (width-holds ((n - 1) / 2 ^ k + 1)) in
-      let l : n - 1 < 2 ^ r * 2 ^ k = div-lt-iff-lt-mul {x = n - 1} {y = 2 ^ r} (pow-pos k) .0 (omega arith) in
-      rw pow-add (omega arith)
-
-  more-least : (v : ℕ) → v < r + k → 2 ^ v < n
-  more-least v l = elim (decLt v k) [
-    | yes m ↦ lt-of-le-of-lt (pow-mono {i = v} {j = k} (omega arith)) h
-    | no m ↦
-        let d : v - k + k ≡ v = omega arith in
-        let b : v - k < r = omega arith in
-        let s = width-least ((n - 1) / 2 ^ k + 1) (v - k) (rw e at b) in
-        let p : 2 ^ (v - k) * 2 ^ k ≤ n - 1 = le-div-iff-mul-le {x = 2 ^ (v - k)} {y = n - 1} (pow-pos k) .0 (omega arith) in
-        let f : 2 ^ v ≡ 2 ^ (v - k) * 2 ^ k = rw d at (pow-add 2 (v - k) k) in
-        omega arith
-  ]
-
-  pub width-more : r + k ≡ width n
-  width-more = width-is n (r + k) more-holds more-least
-
--- the ways through `narrow`, a law for each power
-pub narrow-is : (n w : ℕ) → w ≤ 7 → 2 ^ w < n → n ≤ 2 ^ suc w → (suc w ≡ width n) × (suc w ≤ 8)
-narrow-is n w f h l = (width-between n w h l, omega arith)
+-- of k bits, those below the leading zeros of the last choice
+pub width-zeros : (k n : ℕ) → 1 ≤ n → n - 1 < 2 ^ k → k - leadingZeros k (n - 1) ≡ width n
+width-zeros k n h l =
+    let (m, sum, holds, least) = leading-length k (n - 1) l in
+    let e : k - leadingZeros k (n - 1) ≡ m = omega arith in
+    rw e (width-is n m (omega arith) (λ v j. omega (arith, pow-mono {i = suc v} {j = m} j)))
