@@ -108,7 +108,8 @@ enum {
     BIM_PAYLOAD_ROOM = 21,  /* payload over 8,192 bytes or the lent room: 0 */
     BIM_WRITE_MODE = 22,    /* write mode other than 0, 1, 2 and, with derivations in the table, 4, 5, 6: 0 */
     BIM_TEXT_BYTES = 23,    /* text bytes short, or left over: event, or the event count */
-    BIM_AREA_SIZE = 24      /* the area has not BIM_AREA bytes: 0 */
+    BIM_AREA_SIZE = 24,     /* the area has not BIM_AREA bytes: 0 */
+    BIM_CONTROL = 25        /* text with a control character, a byte below 32 other than 9, 10, 13: item */
 };
 
 /* THE AREA, word by word; it has BIM_AREA bytes. */
@@ -166,6 +167,7 @@ static inline const char *bim_refusal_name(uint32_t number)
     case BIM_WRITE_MODE: return "write mode other than 0, 1, 2 and, with derivations in the table, 4, 5, 6";
     case BIM_TEXT_BYTES: return "text bytes short, or left over";
     case BIM_AREA_SIZE: return "answer area not 152 bytes";
+    case BIM_CONTROL: return "control character in a text";
     default: return "no number of this library";
     }
 }
@@ -188,8 +190,9 @@ uint32_t bim_check_table(const uint8_t *table, size_t table_bytes,
  *     texts      written: room for texts_bytes bytes. On acceptance the bytes of the texts one after another; what is left is 0
  *     area       written
  *
- * Refusals come in this order: 24, 1, 2, 3, 4, then 5 to 16 item by item, then 17. An element's codes are judged (5, 14) before its type
- * and the room for its Start are (9, 7), without the element in the path. */
+ * Refusals come in this order: 24, 1, 2, 3, 4, then 5 to 16 and 25 item by item, then 17. A text's bytes are judged for 16, then 25, then
+ * its room (8, 7); a text in an element that is stepped over is not judged. An element's codes are judged (5, 14) before its type and the
+ * room for its Start are (9, 7), without the element in the path. */
 uint32_t bim_read(const uint8_t *table, size_t table_bytes,
                   uint32_t root_name, uint32_t root_type,
                   const uint8_t *payload, size_t payload_bytes,
@@ -208,8 +211,8 @@ uint32_t bim_read(const uint8_t *table, size_t table_bytes,
  *     area       written: on acceptance mode, events and text are those given, bits those of the payload before its padding
  *
  * Refusals come in this order: 24, 1, 2, 22, 18 at events_bytes / 16 for bytes that are no whole list of at most 2,048 events, then 6, 9,
- * 16, 18, 19, 20 and 23 event by event, 18 or 19 for events and 23 for text bytes that are left over, then 21. 9 is judged after the
- * Start's Cast, by whose type it goes. */
+ * 16, 18, 19, 20, 23 and 25 event by event, 18 or 19 for events and 23 for text bytes that are left over, then 21. Of a text 20 comes
+ * first, then 23, 16, 25. 9 is judged after the Start's Cast, by whose type it goes. */
 uint32_t bim_write(const uint8_t *table, size_t table_bytes,
                    uint32_t root_name, uint32_t root_type,
                    uint32_t mode,

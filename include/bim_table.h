@@ -26,7 +26,7 @@ enum {
     BIM_UNSIGNED = 2,    /* 0 to 2^32 - 1 */
     BIM_SIGNED = 3,      /* in two's complement: bim_signed */
     BIM_ENUMERATION = 4, /* one of b, from 0 */
-    BIM_TEXT = 5,        /* its bytes of UTF-8, which stand in the texts */
+    BIM_TEXT = 5,        /* its bytes, which stand in the texts: UTF-8, and below 32 only 9, 10, 13 */
     BIM_FLOAT = 6        /* the bits of an IEEE 754 single */
 };
 

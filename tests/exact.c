@@ -146,7 +146,7 @@ static void ask(const struct trial *it)
         uint8_t *area = lend((enum place)place, 4, it->area_room, NULL);
         const uint32_t number = once[it->vector->asked](it, (enum place)place, area);
         calls++;
-        if (number > BIM_AREA_SIZE || (it->number >= 0 && number != (uint32_t)it->number))
+        if (number > BIM_CONTROL || (it->number >= 0 && number != (uint32_t)it->number))
             wrong("another number");
         if (it->area_too && memcmp(area, it->vector->area, BIM_AREA) != 0)
             wrong("another area");

@@ -145,11 +145,11 @@ static void try_no_past_rows(void)
 static void try_names(void)
 {
     uint32_t one, other;
-    for (one = 0; one <= BIM_AREA_SIZE + 1; one++)
+    for (one = 0; one <= BIM_CONTROL + 1; one++)
         for (other = 0; other < one; other++)
             if (strcmp(bim_refusal_name(one), bim_refusal_name(other)) == 0)
                 same("numbers of one name", one, other);
-    same("past the numbers", strcmp(bim_refusal_name(BIM_AREA_SIZE + 1), bim_refusal_name(0xffffffffu)), 0);
+    same("past the numbers", strcmp(bim_refusal_name(BIM_CONTROL + 1), bim_refusal_name(0xffffffffu)), 0);
 }
 
 /* The three calls link, and take null pointers with lengths of 0. */

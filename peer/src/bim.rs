@@ -53,6 +53,8 @@ pub const WRITE_MODE: u32 = 22;
 pub const TEXT_BYTES: u32 = 23;
 /// The area has not its bytes.
 pub const AREA_SIZE: u32 = 24;
+/// A text has a control character: a byte below 32 other than 9, 10, 13.
+pub const CONTROL: u32 = 25;
 
 // The kinds of an event, its first word.
 

@@ -53,6 +53,17 @@ pub fn copy_bytes(payload: &[u8], at: usize, target: &mut [u8]) {
     }
 }
 
+/// Puts a byte over the eight bits from `at` on, aligned or not.
+pub fn put_byte(payload: &mut [u8], at: usize, byte: u8) {
+    for bit in 0..8 {
+        let (place, mask) = ((at + bit) / 8, 0x80 >> ((at + bit) % 8));
+        match byte >> (7 - bit) & 1 {
+            0 => payload[place] &= !mask,
+            _ => payload[place] |= mask,
+        }
+    }
+}
+
 /// Bits not yet in a payload: the low `width` bits of `bits`, most significant first. No code takes more than 41.
 #[derive(Clone, Copy, Debug, PartialEq, Eq)]
 pub struct Code {

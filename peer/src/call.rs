@@ -4,15 +4,15 @@ use crate::bim;
 
 /// The numbers that a reading can be answered with; 24 at the C boundary alone.
 #[rustfmt::skip]
-pub const READER: [u32; 19] = [
+pub const READER: [u32; 20] = [
     bim::ACCEPTED, bim::TABLE, bim::ROOT, bim::PAYLOAD_SIZE, bim::MODE_BYTE, bim::PAST_END, bim::DEPTH, bim::EVENT_ROOM,
     bim::TEXT_ROOM, bim::NOT_HELD, bim::LENGTH, bim::CONTENT_SHORT, bim::NOT_SHORTEST, bim::TOO_LARGE, bim::NO_SUCH_CODE,
-    bim::MINUS_ZERO, bim::NOT_UTF8, bim::LEFT_OVER, bim::AREA_SIZE,
+    bim::MINUS_ZERO, bim::NOT_UTF8, bim::CONTROL, bim::LEFT_OVER, bim::AREA_SIZE,
 ];
 /// The numbers that a writing can be answered with.
 #[rustfmt::skip]
-pub const WRITER: [u32; 13] = [
-    bim::ACCEPTED, bim::TABLE, bim::ROOT, bim::DEPTH, bim::NOT_HELD, bim::NOT_UTF8, bim::NO_READING, bim::BLANK,
+pub const WRITER: [u32; 14] = [
+    bim::ACCEPTED, bim::TABLE, bim::ROOT, bim::DEPTH, bim::NOT_HELD, bim::NOT_UTF8, bim::CONTROL, bim::NO_READING, bim::BLANK,
     bim::OUTSIDE_ROW, bim::PAYLOAD_ROOM, bim::WRITE_MODE, bim::TEXT_BYTES, bim::AREA_SIZE,
 ];
 

@@ -115,7 +115,7 @@ fn answer_has_its_shape(answer: &Answer) -> bool {
     if answer.is_accepted() {
         answer.place == 0 && answer.path.names().is_empty()
     } else {
-        answer.number < bim::AREA_SIZE && (answer.mode, answer.events, answer.text, answer.bits) == (0, 0, 0, 0)
+        answer.number != bim::AREA_SIZE && (answer.mode, answer.events, answer.text, answer.bits) == (0, 0, 0, 0)
     }
 }
 
@@ -291,15 +291,24 @@ struct Span {
 /// The elements of an accepted list, in order of their first events. The types come from walking the table along the
 /// list, since a Start does not name its type.
 fn spans(words: &[u32], root: (u32, u32), list: &[[u32; 4]]) -> Vec<Span> {
+    walked(words, root, list).spans
+}
+
+fn walked<'a>(words: &'a [u32], root: (u32, u32), list: &'a [[u32; 4]]) -> SpanWalk<'a> {
     let table = table::Table::new(words).expect("an accepted list has a right table");
-    let mut walk = SpanWalk { table, list, next: 0, place: 8, text: 0, path: vec![], spans: vec![] };
+    let mut walk = SpanWalk { table, list, next: 0, place: 8, text: 0, path: vec![], spans: vec![], texts: vec![] };
     walk.element(root.0, root.1 as usize);
-    walk.spans
+    walk
 }
 
 /// The effective types of the elements of a list that its table has, the root's first.
 pub fn element_types(words: &[u32], root: (u32, u32), list: &[[u32; 4]]) -> Vec<usize> {
     spans(words, root, list).iter().map(|span| span.of_type).collect()
+}
+
+/// Where the bytes of a list's texts lie in its payload: the first bit, and how many bytes. The list is one that its table has.
+pub fn text_places(words: &[u32], root: (u32, u32), list: &[[u32; 4]]) -> Vec<(usize, usize)> {
+    walked(words, root, list).texts
 }
 
 struct SpanWalk<'a> {
@@ -310,6 +319,7 @@ struct SpanWalk<'a> {
     text: usize,
     path: Vec<u16>,
     spans: Vec<Span>,
+    texts: Vec<(usize, usize)>,
 }
 
 impl SpanWalk<'_> {
@@ -324,6 +334,7 @@ impl SpanWalk<'_> {
         let word = self.take()[1];
         if self.table.type_row(of_type).a == bim::TEXT {
             self.text += word as usize;
+            self.texts.push((self.place - 8 * word as usize, word as usize));
         }
     }
 

@@ -5,6 +5,7 @@
 
 use crate::bim;
 use crate::call::{Read, Write};
+use crate::demands::text_places;
 use crate::model::{bits5, bits_of, bytes_of, count_bits, groups, value_bits, width};
 use crate::padding::{lengths_are_shortest, pad};
 use crate::rng::Rng;
@@ -306,6 +307,31 @@ impl Sample {
         self.bits = pad(self.mode, &mut self.events, &self.bits, |length| padded_groups(rng, length));
     }
 
+    /// Puts a control character into one of the texts, in payload and list alike, at times a byte beside it that is no UTF-8, and at times
+    /// only what may stand there. False where no text has a byte. Before, the bit counts are true.
+    pub fn put_control(&mut self, rng: &mut Rng, table: &[u32]) -> bool {
+        let places = text_places(table, self.root, &self.events);
+        let with_bytes: Vec<_> = (0..places.len()).filter(|&text| places[text].1 > 0).collect();
+        if with_bytes.is_empty() {
+            return false;
+        }
+        let text = rng.pick(&with_bytes);
+        let (place, bytes) = places[text];
+        let first: usize = places[..text].iter().map(|place| place.1).sum();
+        // Mostly in place of a letter: inside a longer character it is no UTF-8.
+        let letters: Vec<_> = (0..bytes).filter(|&at| self.texts[first + at] < 0x80).collect();
+        let at = if letters.is_empty() || rng.one_in(6) { rng.below(bytes) } else { end_or_any(rng, &letters) };
+        let mut put = |at: usize, byte: u8| {
+            self.texts[first + at] = byte;
+            self.bits.splice(place + 8 * at..place + 8 * at + 8, bits_of(byte.into(), 8));
+        };
+        put(at, text_byte(rng));
+        if rng.one_in(6) {
+            put(rng.below(bytes), rng.pick(&[0x80, 0xff, 0xc2]));
+        }
+        true
+    }
+
     /// Its reading, with so much room.
     pub fn reading(&self, table: &[u32], event_words: usize, text_room: usize) -> Read {
         Read { table: table.to_vec(), root: self.root, payload: self.payload(), event_words, text_room }
@@ -371,6 +397,34 @@ pub fn table_and_padded(rng: &mut Rng) -> (Vec<u32>, Sample) {
         if !lengths_are_shortest(sample.mode, &sample.events) {
             return (table, sample);
         }
+    }
+}
+
+/// A table and a sample without quirks, but for a byte put into a text of it.
+pub fn table_and_control(rng: &mut Rng) -> (Vec<u32>, Sample) {
+    loop {
+        let (table, mut sample) = if rng.one_in(4) { table_and_padded(rng) } else { table_and_sample(rng, 0) };
+        if sample.put_control(rng, &table) {
+            return (table, sample);
+        }
+    }
+}
+
+/// A control character, or at times one of the three that a text may have, or what lies beside them.
+pub fn text_byte(rng: &mut Rng) -> u8 {
+    match rng.below(8) {
+        0 => rng.pick(&[9, 10, 13, 32, 127]),
+        1 => rng.below(32) as u8,
+        _ => rng.pick(&[0, 7, 8, 11, 12, 14, 27, 31]),
+    }
+}
+
+/// One of these, the first and the last more often.
+fn end_or_any(rng: &mut Rng, all: &[usize]) -> usize {
+    match rng.below(4) {
+        0 => all[0],
+        1 => all[all.len() - 1],
+        _ => rng.pick(all),
     }
 }
 
@@ -612,7 +666,7 @@ impl Maker<'_> {
         let mut bytes = text.into_bytes();
         if !bytes.is_empty() && self.odd() {
             let at = self.rng.below(bytes.len());
-            bytes[at] = self.rng.word() as u8;
+            bytes[at] = if self.rng.one_in(2) { text_byte(self.rng) } else { self.rng.word() as u8 };
         }
         let mut bits = self.number(bytes.len() as u64);
         for &byte in &bytes {
@@ -692,10 +746,12 @@ impl Maker<'_> {
     }
 }
 
-/// A character of one to four bytes, those at the limits of a length among them.
+/// A character of one to four bytes that a text may have, those at the limits of a length and beside control characters among them.
 fn character(rng: &mut Rng) -> char {
     let code = match rng.below(10) {
-        0 => rng.pick(&[0, 0x7f, 0x80, 0x7ff, 0x800, 0xd7ff, 0xe000, 0xffff, 0x10000, 0x10_ffff]),
+        0 => rng.pick(&[
+            0x09, 0x0a, 0x0d, 0x20, 0x7f, 0x80, 0x85, 0x7ff, 0x800, 0xd7ff, 0xe000, 0xfffe, 0xffff, 0x10000, 0x10_ffff,
+        ]),
         1 => rng.within(0x80, 0x7ff) as u32,
         2 => rng.within(0x800, 0xd7ff) as u32,
         3 => rng.within(0x10000, 0x10_ffff) as u32,
@@ -766,7 +822,7 @@ pub fn damage_list(rng: &mut Rng, events: &mut Vec<[u32; 4]>, texts: &mut Vec<u8
         }
         7 if !texts.is_empty() => {
             let byte = rng.below(texts.len());
-            texts[byte] = rng.word() as u8;
+            texts[byte] = if rng.one_in(2) { text_byte(rng) } else { rng.word() as u8 };
         }
         8 => events[at][0] = rng.below(10) as u32,
         12..=15 => damage_cast(rng, events),

@@ -123,6 +123,9 @@ pub fn files() -> Vec<(&'static str, Vec<u8>)> {
     let mut damaged = film_always.clone();
     // The title's first letter: FF is in no UTF-8.
     damaged[8] = 0xff;
+    let mut control = film_always.clone();
+    // The space in the title becomes a bell.
+    control[15] = 0x07;
     // As a head end writes it that leaves two groups for a length and fills them later.
     let film_padded =
         padded(&guide_table(true), ROOT, &film_always, |length| groups(length).max(2)).unwrap_or_default();
@@ -137,5 +140,6 @@ pub fn files() -> Vec<(&'static str, Vec<u8>)> {
         ("guide/news.bim", news()),
         ("guide/film-cut.bim", cut),
         ("guide/film-damaged.bim", damaged),
+        ("guide/film-control.bim", control),
     ]
 }

@@ -455,13 +455,20 @@ impl<'a> Fetch<'a> {
                 for _ in 0..count {
                     text.push(self.fixed(8)? as u8);
                 }
-                return match std::str::from_utf8(&text) {
-                    Ok(_) => Ok((count as u32, text)),
-                    Err(_) => Err(bim::NOT_UTF8),
-                };
+                text_fault(&text)?;
+                return Ok((count as u32, text));
             }
         };
         Ok((word as u32, vec![]))
+    }
+}
+
+/// 16 for bytes that are no characters, 25 for characters that XML 1.0 has not, of those below a space.
+pub fn text_fault(text: &[u8]) -> Result<(), u32> {
+    let characters = std::str::from_utf8(text).map_err(|_| bim::NOT_UTF8)?.chars();
+    match characters.filter(|&character| character < ' ').all(|below| "\t\n\r".contains(below)) {
+        true => Ok(()),
+        false => Err(bim::CONTROL),
     }
 }
 
@@ -968,9 +975,7 @@ impl Walk<'_> {
                     return Err(bim::TEXT_BYTES);
                 }
                 let (text, left) = self.left.split_at(size);
-                if std::str::from_utf8(text).is_err() {
-                    return Err(bim::NOT_UTF8);
-                }
+                text_fault(text)?;
                 self.left = left;
                 self.next += 1;
                 self.put(bits);

@@ -4,19 +4,19 @@ use crate::answer::{refusal, Answer, Path};
 use crate::bim;
 use crate::call::{Read, Write};
 use crate::demands::{self, check_table, two_tables, Tally};
-use crate::gen::{self, table_and_padded, table_and_sample};
+use crate::gen::{self, table_and_control, table_and_padded, table_and_sample};
 use crate::rng::Rng;
 use crate::words::{big_endian, words_of};
 use crate::{bits, codes, host, model, reader, utf8, value, writer};
 
 /// The kinds of trial, by name.
-pub const KINDS: [&str; 11] = [
+pub const KINDS: [&str; 12] = [
     "valid lists", "odd codes", "damaged payloads", "two tables", "damaged lists", "damaged tables", "noise",
-    "codes alone", "C boundary", "deep lists", "padded lengths",
+    "codes alone", "C boundary", "deep lists", "padded lengths", "control characters",
 ];
 
-/// How often each kind comes up among 23.
-const SHARES: [usize; 23] = [0, 0, 0, 1, 1, 1, 2, 2, 2, 3, 3, 3, 4, 4, 4, 5, 6, 7, 7, 8, 9, 10, 10];
+/// How often each kind comes up among 25.
+const SHARES: [usize; 25] = [0, 0, 0, 1, 1, 1, 2, 2, 2, 3, 3, 3, 4, 4, 4, 5, 6, 7, 7, 8, 9, 10, 10, 11, 11];
 
 /// Runs the trial of this seed; gives its kind, and `Err` with what was violated.
 pub fn trial(tally: &mut Tally, seed: u64) -> (usize, Result<(), String>) {
@@ -33,7 +33,8 @@ pub fn trial(tally: &mut Tally, seed: u64) -> (usize, Result<(), String>) {
         7 => codes_alone(&mut rng),
         8 => boundary(&mut rng),
         9 => deep_list(tally, &mut rng),
-        _ => padded_lengths(tally, &mut rng),
+        10 => padded_lengths(tally, &mut rng),
+        _ => control_characters(tally, &mut rng),
     };
     (kind, result)
 }
@@ -126,6 +127,17 @@ fn padded_lengths(tally: &mut Tally, rng: &mut Rng) -> Result<(), String> {
     gen::damage_payload(rng, &mut call.payload);
     (call.event_words, call.text_room) = rooms(rng, sample.events.len() + 3, sample.texts.len() + 8);
     two_tables(tally, &first, &call)
+}
+
+/// A byte in a text, mostly a control character: read by two tables, in rooms that may be short, and written.
+fn control_characters(tally: &mut Tally, rng: &mut Rng) -> Result<(), String> {
+    let (table, sample) = table_and_control(rng);
+    let mut call = sample.reading(&table, 4 * sample.events.len(), sample.texts.len());
+    let first = gen::let_go(rng, &table, 4);
+    two_tables(tally, &first, &call)?;
+    (call.event_words, call.text_room) = rooms(rng, sample.events.len(), sample.texts.len());
+    demands::read(tally, &call)?;
+    demands::write(tally, &sample.writing(&table, 0)).map(drop)
 }
 
 /// A payload with codes that no writer of ours makes.
@@ -318,11 +330,18 @@ fn codes_alone(rng: &mut Rng) -> Result<(), String> {
     let expected = model::width(choices as i64);
     agree("width", codes::width(choices).to_string(), expected.to_string())?;
 
-    let text: Vec<_> = (0..rng.below(14))
+    let mut text: Vec<_> = (0..rng.below(14))
         .map(|_| rng.pick(&[0x41, 0x80, 0xbf, 0xc2, 0xe0, 0xa0, 0xed, 0x9f, 0xf0, 0x90, 0xf4, 0x8f, 0xef]))
         .collect();
-    let good = utf8::check(&text) == 0;
-    agree("UTF-8", format!("{good} {text:02x?}"), format!("{} {text:02x?}", std::str::from_utf8(&text).is_ok()))
+    if rng.one_in(2) {
+        text = vec![0x41; rng.below(40)];
+    }
+    for _ in 0..rng.below(3) {
+        let at = rng.below(text.len() + 1);
+        text.insert(at, gen::text_byte(rng));
+    }
+    let of_model = model::text_fault(&text).err().unwrap_or(0);
+    agree("text", format!("{} {text:02x?}", utf8::check(&text)), format!("{of_model} {text:02x?}"))
 }
 
 /// What a fetch of the model gives, and the bits it took.

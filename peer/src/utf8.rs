@@ -1,11 +1,11 @@
-//! UTF-8 as RFC 3629 has it: shortest forms, no surrogates, nothing above U+10FFFF.
+//! Texts: UTF-8 as RFC 3629 has it (shortest forms, no surrogates, nothing above U+10FFFF), and of what is below 32 only what XML 1.0 has.
 
 use crate::bim;
 use crate::bits::load64;
 
 const ALL_TOP_BITS: u64 = 0x8080_8080_8080_8080;
 
-/// What is wrong with a text: 0 for nothing, or 16.
+/// What is wrong with a text: 0 for nothing, 16, or 25. All of it is judged for 16 before any of it is for 25.
 pub fn check(text: &[u8]) -> u32 {
     check_at(text, 0, text.len())
 }
@@ -24,7 +24,16 @@ pub fn check_at(payload: &[u8], at: usize, count: usize) -> u32 {
             None => return bim::NOT_UTF8,
         }
     }
+    let byte = |index: usize| (load64(payload, at + 8 * index) >> 56) as u8;
+    if (0..count).any(|index| is_control(byte(index))) {
+        return bim::CONTROL;
+    }
     0
+}
+
+/// A byte below 32 that is no tab, line feed or carriage return. None stands inside a longer character.
+fn is_control(byte: u8) -> bool {
+    byte < 32 && ![9, 10, 13].contains(&byte)
 }
 
 /// The bytes of the character that begins `window`, of which only the first `left` bytes are text.

@@ -62,10 +62,10 @@ fn read_text(payload: &[u8], end: usize, at: usize) -> Result<Value, u32> {
     if 8 * text > end - first {
         return Err(bim::PAST_END);
     }
-    if utf8::check_at(payload, first, text) != 0 {
-        return Err(bim::NOT_UTF8);
+    match utf8::check_at(payload, first, text) {
+        0 => Ok(Value { word: count.value, bits: count.bits + 8 * text, text }),
+        fault => Err(fault),
     }
-    Ok(Value { word: count.value, bits: count.bits + 8 * text, text })
 }
 
 /// The code of a value word, 20 where its row has no such value. A text's bytes follow its code.

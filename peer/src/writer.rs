@@ -239,8 +239,9 @@ impl Walk<'_> {
         if text > left.len() {
             return self.refuse(bim::TEXT_BYTES);
         }
-        if utf8::check(&left[..text]) != 0 {
-            return self.refuse(bim::NOT_UTF8);
+        let fault = utf8::check(&left[..text]);
+        if fault != 0 {
+            return self.refuse(fault);
         }
         self.put(code);
         self.put_text(text);

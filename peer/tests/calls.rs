@@ -51,6 +51,14 @@ faults! {
     StartShort,
     /// Content that ends too early is told at the first bit behind a shortest TheLength.
     ShortPlace,
+    /// A control character is told as bytes that are no UTF-8.
+    ControlIs16,
+    /// Tabs and line ends are control characters.
+    TabRefused,
+    /// So is 127.
+    DeleteRefused,
+    /// No room for a text is told before its control character.
+    RoomBeforeControl,
     /// What lies behind the payload is read.
     ReadsOn,
     /// A refused writing leaves a byte.
@@ -59,6 +67,8 @@ faults! {
     FourthWord,
     /// A padded TheLength stays padded.
     PaddingKept,
+    /// Control characters are written.
+    ControlWritten,
     /// A payload of the last byte of room is refused.
     RoomOneShort,
     /// 19 where a Blank follows the root's End is 18.
@@ -175,6 +185,17 @@ impl Calls for StandIn {
                     events[16 * start + 12..16 * start + 16].copy_from_slice(&bits.to_be_bytes());
                 }
             }
+            ControlIs16 if number == bim::CONTROL => return bim::NOT_UTF8,
+            RoomBeforeControl if number == bim::CONTROL && texts.is_empty() => return bim::TEXT_ROOM,
+            TabRefused | DeleteRefused if number == bim::ACCEPTED => {
+                let refused: &[u8] = if self.0 == TabRefused { &[9, 10, 13] } else { &[127] };
+                if texts[..word(area, 3) as usize].iter().any(|byte| refused.contains(byte)) {
+                    events.fill(0);
+                    texts.fill(0);
+                    area.fill(0);
+                    return bim::CONTROL;
+                }
+            }
             ShortPlace if number == bim::CONTENT_SHORT && word(area, 5) == 1 => {
                 if let Some((flag, value, _)) = padded_root(payload) {
                     let place = (8 + flag + 5 * groups(value.into())) as u32;
@@ -216,7 +237,11 @@ impl Calls for StandIn {
             payload[most..].fill(0);
             return host::write(table, name, of_type, mode, events, texts, &mut payload[..most], area);
         }
-        let mut number = host::write(table, name, of_type, mode, events, texts, payload, area);
+        let mut letters = texts.to_vec();
+        if self.0 == ControlWritten {
+            letters.iter_mut().filter(|byte| **byte < 32).for_each(|byte| *byte = b'a');
+        }
+        let mut number = host::write(table, name, of_type, mode, events, &letters, payload, area);
         match self.0 {
             PayloadByteLeft if number == bim::TEXT_BYTES && !payload.is_empty() => payload[0] = 0x0f,
             FourthWord if number == bim::ACCEPTED && events.chunks_exact(16).any(|event| event[12] != 0) => {

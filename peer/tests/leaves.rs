@@ -46,13 +46,17 @@ fn codes_are_put_one_behind_the_other() {
 }
 
 #[test]
-fn utf8_agrees_with_the_standard_library_on_all_short_texts() {
+fn texts_agree_with_the_standard_library_on_all_short_texts() {
     for first in 0..=255_u8 {
         for second in 0..=255_u8 {
             for tail in [&[][..], &[0x80], &[0xbf, 0x80], &[0x41, 0x80]] {
                 let text = [&[first, second], tail].concat();
-                let good = std::str::from_utf8(&text).is_ok();
-                assert_eq!(utf8::check(&text), if good { 0 } else { 16 }, "{text:02x?}");
+                let expected = match std::str::from_utf8(&text) {
+                    Err(_) => 16,
+                    Ok(text) if text.chars().any(|one| one.is_ascii_control() && !"\t\n\r\x7f".contains(one)) => 25,
+                    Ok(_) => 0,
+                };
+                assert_eq!(utf8::check(&text), expected, "{text:02x?}");
             }
         }
     }

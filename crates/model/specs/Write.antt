@@ -1,7 +1,7 @@
 -- The writing of a plan: from events without their fourth words, and texts, the bits, with the events and the texts left
 -- over. A refusal says how many events were then left, the one at fault among them: the event's index is the number of all less that.
 -- Document 01's order: noReading where none is left (`deep`, `taken`); depth (`deep`); blank, noReading (`taken`); notHeld
--- (`elementOut`); outsideRow, textBytes, notUtf8 (`itemOut`).
+-- (`elementOut`); outsideRow, textBytes, notUtf8, control (`itemOut`).
 use Prim.Native.Nat.{ℕ, zero, suc, min}
 use mathlib.Core.Bool.{Bool, true, false, cond}
 use mathlib.Core.List.{List, [], _∷_, _++_}

@@ -75,3 +75,6 @@ textBytes = 23
 
 abbrev pub areaSize : ℕ
 areaSize = 24
+
+abbrev pub control : ℕ
+control = 25

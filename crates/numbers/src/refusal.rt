@@ -50,3 +50,5 @@ pub const WRITE_MODE: u32 = 22;
 pub const TEXT_BYTES: u32 = 23;
 // The area has not the bytes it must have.
 pub const AREA_SIZE: u32 = 24;
+// A text has a control character: a byte below 32 that is none of tab, line feed and carriage return.
+pub const CONTROL: u32 = 25;

@@ -1,19 +1,21 @@
--- `textFault` is 0 exactly for the texts of RFC 3629, and `notUtf8` for all else.
+-- `textFault` is 0 exactly for the texts of RFC 3629 whose octets are all allowed; `notUtf8` for what is no such text, and `control` for all else.
 use Prim.Native.Nat.{ℕ}
 use mathlib.Core.Bool.{Bool, true, false}
-use mathlib.Core.Logic.{_⊎_, inl, inr, ⊎-elim}
+use mathlib.Core.Logic.{_⊎_, inl, inr}
 use mathlib.Core.Path.{_≡_, refl, sym, ap, subst, _∙_}
 use mathlib.Core.List.{List, [], _∷_, _++_}
 use mathlib.Core.Option.{Option, none, some}
 use native.Mathlib.Omega.{arith}
-use Rattle.numbers.specs.Refusal.{notUtf8}
+use Rattle.numbers.specs.Refusal.{notUtf8, control}
 use Rattle.utf8.specs.Rfc.{In, Char, utf8-1, utf8-2, utf8-3-E0, utf8-3-E1-EC, utf8-3-ED, utf8-3-EE-EF, utf8-4-F0, utf8-4-F1-F3, utf8-4-F4, Octets, empty, more}
-use Rattle.utf8.specs.Text.{Range, _to_, lines, begun, open-lines, goesOn, faultOf, textFault}
+use Rattle.utf8.specs.Controls.{AllAllowed}
+use Rattle.utf8.specs.Text.{Range, _to_, lines, begun, open-lines, goesOn, hasControl, faultOf, textFault}
 use Rattle.utf8.specs.Steps.{_leads_, rows}
 use Rattle.utf8.proofs.Look.{refuted, has-in}
 use Rattle.utf8.proofs.Rows.{Among, among, start-among}
 use Rattle.utf8.proofs.Left.{left, going, left-next}
 use Rattle.utf8.proofs.Lines.{InRanges, whole, then, all, _and_, IsLine, lines-are, Begun, begun-line}
+use Rattle.utf8.proofs.ControlLaws.{all-allowed, allowed-all}
 use Rattle.utf8.specs.declared.State.{State}
 use Rattle.utf8.specs.declared.State.the-variants.{Start, OneLeft, TwoLeft, ThreeLeft, AfterE0, AfterED, AfterF0, AfterF4}
 
@@ -92,23 +94,53 @@ unfolding goesOn
 octets-go empty = refl
 octets-go (more {l = l} c o) = char-goes l c ∙ octets-go o
 
--- no fault, exactly for the texts of the RFC; else `notUtf8`
-pub fault-none : {l : List ℕ} → Octets l → textFault l ≡ 0
+-- no fault, exactly for the texts of the RFC without control characters
+pub fault-none : {l : List ℕ} → Octets l → AllAllowed l → textFault l ≡ 0
 unfolding textFault faultOf
-fault-none o = ap faultOf (octets-go o)
+fault-none o a = rw (octets-go o, all-allowed a)
 
-fault-of : (b : Bool) → (b ≡ true) ⊎ (faultOf b ≡ notUtf8)
-unfolding faultOf
-fault-of true = inl refl
-fault-of false = inr refl
+-- which of the two tests failed
+record Judged (l : List ℕ) (goes found : Bool) : Type 0 where
+  is : textFault l ≡ faultOf goes found
+  text : goes ≡ true → Octets l
+  free : found ≡ false → AllAllowed l
 
-pub none-fault : (l : List ℕ) → textFault l ≡ 0 → Octets l
+judged : (l : List ℕ) → Judged l (goesOn [] l) (hasControl l)
 unfolding textFault
-none-fault l e = ⊎-elim (λ g. text-of (split [] l g)) (λ g. absurd (omega arith)) (fault-of (goesOn [] l))
+judged l = record { is = refl; text = λ g. text-of (split [] l g); free = allowed-all l }
 
-pub fault-is : (l : List ℕ) → (textFault l ≡ 0) ⊎ (textFault l ≡ notUtf8)
-unfolding textFault faultOf
-fault-is l = ⊎-elim (λ g. inl (ap faultOf g)) inr (fault-of (goesOn [] l))
+pub none-fault : (l : List ℕ) → textFault l ≡ 0 → Octets l × AllAllowed l
+unfolding faultOf
+none-fault l e = go (goesOn [] l) (hasControl l) (judged l)
+  where
+    go : (goes found : Bool) → Judged l goes found → Octets l × AllAllowed l
+    go true false j = (j .text refl, j .free refl)
+    go true true j = let f = j .is in absurd (omega arith)
+    go false found j = let f = j .is in absurd (omega arith)
 
+pub fault-is : (l : List ℕ) → (textFault l ≡ 0) ⊎ ((textFault l ≡ notUtf8) ⊎ (textFault l ≡ control))
+unfolding faultOf
+fault-is l = go (goesOn [] l) (hasControl l) (judged l)
+  where
+    go : (goes found : Bool) → Judged l goes found → (textFault l ≡ 0) ⊎ ((textFault l ≡ notUtf8) ⊎ (textFault l ≡ control))
+    go true false j = inl (j .is)
+    go true true j = inr (inr (j .is))
+    go false found j = inr (inl (j .is))
+
+-- the whole text is judged for `notUtf8` first
 pub fault-else : (l : List ℕ) → (Octets l → ⊥) → textFault l ≡ notUtf8
-fault-else l h = ⊎-elim (λ e. absurd (h (none-fault l e))) (λ e. e) (fault-is l)
+unfolding faultOf
+fault-else l h = go (goesOn [] l) (hasControl l) (judged l)
+  where
+    go : (goes found : Bool) → Judged l goes found → textFault l ≡ notUtf8
+    go true found j = absurd (h (j .text refl))
+    go false found j = j .is
+
+pub fault-control : {l : List ℕ} → Octets l → (AllAllowed l → ⊥) → textFault l ≡ control
+unfolding faultOf
+fault-control {l} o h = go (goesOn [] l) (hasControl l) (octets-go o) (judged l)
+  where
+    go : (goes found : Bool) → goes ≡ true → Judged l goes found → textFault l ≡ control
+    go true true g j = j .is
+    go true false g j = absurd (h (j .free refl))
+    go false found g j = refuted false g refl

@@ -4,7 +4,7 @@ use mathlib.Core.Bool.{Bool, true, false}
 use mathlib.Core.Path.{_≡_, refl, sym, ap, _∙_}
 use mathlib.Core.List.{List, [], _∷_}
 use mathlib.Core.Option.{Option, none, some}
-use Rattle.utf8.specs.Text.{Range, _to_, has, tail, lines, begun, open-lines, goesOn, faultOf, textFault}
+use Rattle.utf8.specs.Text.{Range, _to_, has, tail, lines, begun, open-lines, goesOn, hasControl, faultOf, textFault}
 use Rattle.utf8.specs.Steps.{Row, _leads_, look, rows, next, run, numberOf}
 use Rattle.utf8.specs.declared.State.{State}
 use Rattle.utf8.specs.declared.State.the-variants.{Start, OneLeft, TwoLeft, ThreeLeft, AfterE0, AfterED, AfterF0, AfterF4, Wrong}
@@ -66,20 +66,20 @@ unfolding goesOnFrom goesOn begun going
 goes-cons none x l = refl
 goes-cons (some wanted) x l = refl
 
-run-goes : (s : State) (l : List ℕ) → faultOf (goesOnFrom (left s) l) ≡ numberOf (run s l)
+run-goes : (s : State) (l : List ℕ) (found : Bool) → faultOf (goesOnFrom (left s) l) found ≡ numberOf (run s l) found
 unfolding run left faultOf goesOnFrom goesOn
-run-goes Start [] = refl
-run-goes OneLeft [] = refl
-run-goes TwoLeft [] = refl
-run-goes ThreeLeft [] = refl
-run-goes AfterE0 [] = refl
-run-goes AfterED [] = refl
-run-goes AfterF0 [] = refl
-run-goes AfterF4 [] = refl
-run-goes Wrong [] = refl
-run-goes s (x ∷ l) = ap faultOf (goes-cons (left s) x l ∙ ap (λ (o : Option (List Range)). goesOnFrom o l) (left-next s x)) ∙ run-goes (next s x) l
+run-goes Start [] found = refl
+run-goes OneLeft [] found = refl
+run-goes TwoLeft [] found = refl
+run-goes ThreeLeft [] found = refl
+run-goes AfterE0 [] found = refl
+run-goes AfterED [] found = refl
+run-goes AfterF0 [] found = refl
+run-goes AfterF4 [] found = refl
+run-goes Wrong [] found = refl
+run-goes s (x ∷ l) found = ap (λ (b : Bool). faultOf b found) (goes-cons (left s) x l ∙ ap (λ (o : Option (List Range)). goesOnFrom o l) (left-next s x)) ∙ run-goes (next s x) l found
 
 -- the states find what is wrong with a text
-pub fault-run : (l : List ℕ) → textFault l ≡ numberOf (run Start l)
+pub fault-run : (l : List ℕ) → textFault l ≡ numberOf (run Start l) (hasControl l)
 unfolding textFault goesOnFrom left
-fault-run l = run-goes Start l
+fault-run l = run-goes Start l (hasControl l)

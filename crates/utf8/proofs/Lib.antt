@@ -1,4 +1,5 @@
 mod Cases
+mod ControlLaws
 pub mod Exact
 mod Left
 mod Lines

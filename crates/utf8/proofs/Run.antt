@@ -1,8 +1,9 @@
 -- Laws of a reading octet by octet: over one octet at either end, over two parts, and for a loop.
 use Prim.Native.Nat.{ℕ}
+use mathlib.Core.Bool.{Bool}
 use mathlib.Core.Path.{_≡_, refl, _∙_}
 use mathlib.Core.List.{List, [], _∷_, _++_}
-use Rattle.utf8.specs.Text.{textFault}
+use Rattle.utf8.specs.Text.{hasControl, textFault}
 use Rattle.utf8.specs.Steps.{look, rows, next, run, numberOf}
 use Rattle.utf8.proofs.Left.{fault-run}
 use Rattle.utf8.specs.declared.State.{State}
@@ -35,5 +36,5 @@ module _ (l : List ℕ) (s : State) (so-far : s ≡ run Start l) where
   pub run-more : (x : ℕ) (r : State) → r ≡ next s x → r ≡ run Start (l ++ (x ∷ []))
   run-more x r e = rw (run-snoc, ← so-far) e
 
-  pub run-fault : (n : ℕ) → n ≡ numberOf s → n ≡ textFault l
-  run-fault n e = rw (fault-run, ← so-far) e
+  pub run-fault : (found : Bool) → found ≡ hasControl l → (n : ℕ) → n ≡ numberOf s found → n ≡ textFault l
+  run-fault found f n e = rw (fault-run, ← so-far, ← f) e

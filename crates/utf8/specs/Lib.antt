@@ -1,4 +1,5 @@
 pub mod Rfc
+pub mod Controls
 pub mod Text
 pub mod Steps
 pub mod Slanted

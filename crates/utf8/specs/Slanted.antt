@@ -1,9 +1,13 @@
--- A text whose octets begin at a bit of each byte, as texts stand in a payload, and the octets of it that are ASCII.
+-- A text whose octets begin at a bit of each byte, as texts stand in a payload, and the octets of it that are passed at once.
 use Prim.Native.Nat.{ℕ, zero, suc, _+_, _-_, _*_, _/_, _%_, _^_, _<_, _≤_, min}
+use mathlib.Core.Bool.{false}
 use mathlib.Core.Logic.{_⊎_}
 use mathlib.Core.Path.{_≡_}
 use mathlib.Core.List.{List, [], _∷_}
 use lib.ListN.{length, getD}
+use Rattle.utf8.specs.Rfc.{In}
+use Rattle.utf8.specs.Text.{hasControl}
+use Rattle.utf8.specs.Steps.{run}
 use Rattle.utf8.specs.declared.State.{State}
 use Rattle.utf8.specs.declared.State.the-variants.{Start}
 
@@ -21,18 +25,29 @@ octetsAt s k i (suc n) = octetAt s k i ∷ octetsAt s k (suc i) n
 abbrev pub Within : List ℕ → ℕ → ℕ → Type 0
 Within s k to = to + min k 1 ≤ length s
 
--- the bytes from..to have no bit k, of which 0 is the lowest
-pub record Without (s : List ℕ) (k from to : ℕ) : Type 0 where
-  pub none : (j : ℕ) → from ≤ j → j < to → getD s j 0 / 2 ^ k % 2 ≡ 0
+-- the octets from..to are printable ASCII: nothing is wrong with any of them
+pub record Printable (s : List ℕ) (k from to : ℕ) : Type 0 where
+  pub each : (j : ℕ) → from ≤ j → j < to → In 0x20 0x7F (octetAt s k j)
 
--- the bytes from..r have none, and r is not past to
+-- the octets from..r are, and r is not past to
 pub record Passed (s : List ℕ) (k from to r : ℕ) : Type 0 where
   pub from-r : from ≤ r
   pub r-to : r ≤ to
-  pub without : Without s k from r
+  pub printable : Printable s k from r
 
--- in this state nothing is passed, or ASCII octets between two characters
+-- the octets from..to are whole characters, and none of them a control character
+pub record Whole (s : List ℕ) (k from to : ℕ) : Type 0 where
+  pub ends : run Start (octetsAt s k from (to - from)) ≡ Start
+  pub free : hasControl (octetsAt s k from (to - from)) ≡ false
+
+-- the octets from..r are, and r is not past to
+pub record Went (s : List ℕ) (k from to r : ℕ) : Type 0 where
+  pub from-r : from ≤ r
+  pub r-to : r ≤ to
+  pub whole : Whole s k from r
+
+-- in this state nothing is passed, or whole characters between two characters
 pub record Skipped (s : List ℕ) (k i to : ℕ) (state : State) (r : ℕ) : Type 0 where
   pub from-r : i ≤ r
   pub r-to : r ≤ to
-  pub way : (r ≡ i) ⊎ ((state ≡ Start) × Without s (7 - k) i r)
+  pub way : (r ≡ i) ⊎ ((state ≡ Start) × Whole s k i r)

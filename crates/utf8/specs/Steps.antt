@@ -1,8 +1,8 @@
 -- A text octet by octet: the states of a reading, for callers whose octets do not lie in one slice.
 use Prim.Native.Nat.{ℕ}
-use mathlib.Core.Bool.{true, false}
+use mathlib.Core.Bool.{Bool, true, false, cond}
 use mathlib.Core.List.{List, [], _∷_}
-use Rattle.numbers.specs.Refusal.{notUtf8}
+use Rattle.numbers.specs.Refusal.{notUtf8, control}
 use Rattle.utf8.specs.Text.{Range, _to_, has, tail}
 use Rattle.utf8.specs.declared.State.{State}
 use Rattle.utf8.specs.declared.State.the-variants.{Start, OneLeft, TwoLeft, ThreeLeft, AfterE0, AfterED, AfterF0, AfterF4, Wrong}
@@ -50,14 +50,14 @@ unfoldable pub run : State → List ℕ → State
 run s [] = s
 run s (x ∷ l) = run (next s x) l
 
--- what is wrong with a text that ends here
-abbrev pub numberOf : State → ℕ
-numberOf Start = 0
-numberOf OneLeft = notUtf8
-numberOf TwoLeft = notUtf8
-numberOf ThreeLeft = notUtf8
-numberOf AfterE0 = notUtf8
-numberOf AfterED = notUtf8
-numberOf AfterF0 = notUtf8
-numberOf AfterF4 = notUtf8
-numberOf Wrong = notUtf8
+-- what is wrong with a text that ends here, in which a control character was found or not
+abbrev pub numberOf : State → Bool → ℕ
+numberOf Start found = cond found control 0
+numberOf OneLeft found = notUtf8
+numberOf TwoLeft found = notUtf8
+numberOf ThreeLeft found = notUtf8
+numberOf AfterE0 found = notUtf8
+numberOf AfterED found = notUtf8
+numberOf AfterF0 found = notUtf8
+numberOf AfterF4 found = notUtf8
+numberOf Wrong found = notUtf8

@@ -1,10 +1,11 @@
--- What is wrong with a text, as a number: computed from the lines of RFC 3629's ABNF. Exact.antt ties it to Rfc.antt.
+-- What is wrong with a text, as a number: computed from the lines of RFC 3629's ABNF, and from its control characters. Exact.antt ties it to Rfc.antt and
+-- Controls.antt.
 use Prim.Native.Nat.{ℕ}
-use mathlib.Core.Bool.{Bool, true, false}
+use mathlib.Core.Bool.{Bool, true, false, cond}
 use mathlib.Core.List.{List, [], _∷_}
 use mathlib.Core.Option.{Option, none, some}
-use lib.Dec.{leb}
-use Rattle.numbers.specs.Refusal.{notUtf8}
+use lib.Dec.{leb, ltb, eqb}
+use Rattle.numbers.specs.Refusal.{notUtf8, control}
 
 infix 80 _to_
 -- %xLO-HI
@@ -48,10 +49,18 @@ goesOn [] [] = true
 goesOn (range ∷ rest) [] = false
 goesOn wanted (x ∷ l) = elim (begun (open-lines wanted) x) [ some rest ↦ goesOn rest l | none ↦ false ]
 
--- the number, by whether it is a text
-unfoldable pub faultOf : Bool → ℕ
-faultOf true = 0
-faultOf false = notUtf8
+-- a byte under 32 other than 9, 10, 13
+unfoldable pub isControl : ℕ → Bool
+isControl x = cond (ltb x 32) (cond (eqb x 9) false (cond (eqb x 10) false (cond (eqb x 13) false true))) false
+
+unfoldable pub hasControl : List ℕ → Bool
+hasControl [] = false
+hasControl (x ∷ l) = cond (isControl x) true (hasControl l)
+
+-- the number, by whether it is UTF-8, and whether it has a control character: the whole text is judged for notUtf8 first
+unfoldable pub faultOf : Bool → Bool → ℕ
+faultOf true found = cond found control 0
+faultOf false found = notUtf8
 
 unfoldable pub textFault : List ℕ → ℕ
-textFault l = faultOf (goesOn [] l)
+textFault l = faultOf (goesOn [] l) (hasControl l)

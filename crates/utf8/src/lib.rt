@@ -1,12 +1,12 @@
-// What is wrong with a text, as a number: ACCEPTED, or NOT_UTF8 (RFC 3629).
-mod ascii; // ascii.rt: octets that are ASCII, passed 16 at a time
+// What is wrong with a text, as a number: ACCEPTED, NOT_UTF8 (RFC 3629), or CONTROL.
+mod ascii; // ascii.rt: octets that are printable ASCII, passed 16 at a time
 pub mod slanted; // slanted.rt: a text whose octets begin at any bit of a byte
 
 use numbers::refusal;
 use slanted::text_fault;
 ghost use mathlib.Core.Path.{_≡_};
 ghost use mathlib.Core.List.{[], _∷_};
-ghost use Rattle.utf8.specs.Text.{_to_, textFault};
+ghost use Rattle.utf8.specs.Text.{_to_, isControl, textFault};
 ghost use Rattle.utf8.specs.Steps.{_leads_, look, next, numberOf};
 
 // What may come next in a text. It starts in Start, between two characters, and may end there alone.
@@ -73,12 +73,32 @@ pub fn step(state: State, octet: u8) -> State
     }
 }
 
-// What is wrong with a text that ends in this state.
-pub fn fault(state: State) -> u32
-    ensures { λ r. ⌜ r ≡ numberOf state ⌝ }
+// Whether an octet is a control character, which no text may have.
+pub fn control(octet: u8) -> bool
+    ensures { λ r. ⌜ r ≡ isControl octet ⌝ }
+{
+    if 0x1F < octet {
+        return false;
+    }
+    match octet {
+        0x09 => false,
+        0x0A => false,
+        0x0D => false,
+        _ => true,
+    }
+}
+
+// What is wrong with a text that ends in this state, in which a control character was found or not.
+pub fn fault(state: State, found: bool) -> u32
+    ensures { λ r. ⌜ r ≡ numberOf state found ⌝ }
 {
     match state {
-        State::Start => refusal::ACCEPTED,
+        State::Start => {
+            if found {
+                return refusal::CONTROL;
+            }
+            refusal::ACCEPTED
+        }
         State::OneLeft => refusal::NOT_UTF8,
         State::TwoLeft => refusal::NOT_UTF8,
         State::ThreeLeft => refusal::NOT_UTF8,

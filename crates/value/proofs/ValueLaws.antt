@@ -213,7 +213,7 @@ rfc-octets rfc.empty = tt
 rfc-octets (rfc.more {c} {l} h k) = octets-append c l (char-octets h) (rfc-octets k)
 
 pub text-octets : (l : List ℕ) → textFault l ≡ 0 → AllBytes l
-text-octets l e = rfc-octets (none-fault l e)
+text-octets l e = rfc-octets (none-fault l e .0)
 
 -- THE SIMPLE KINDS: a value of the kind has bits, which are few
 pub record HasBits (kind b c v : ℕ) (X : List ℕ) : Type 0 where
@@ -237,9 +237,9 @@ kind-bits (InKind.ranged {b} {c} {v} h m n) =
 kind-bits (InKind.unsigned h) = word-bits (five (2 ^ 32 - 1)) refl (omega arith) λ k. omega arith
 kind-bits (InKind.signed h) = word-bits signed refl h λ k. omega arith
 kind-bits (InKind.enumeration {b} h) = word-bits (choice b) refl h λ k. omega (arith, width-under b 16 (k refl))
-kind-bits (InKind.text {X} h o) = record {
+kind-bits (InKind.text {X} h o a) = record {
   bits = _;
-  is = a-text {l = X} (omega arith) (rfc-octets o) (fault-none o);
+  is = a-text {l = X} (omega arith) (rfc-octets o) (fault-none o a);
   short = λ k.
       let n = bits-most count (length X) (omega arith) in
       omega (arith, length-append (bitsOf count (length X)) (bytes X), length-bytes X);
@@ -258,7 +258,7 @@ a-word d h f = let p = plain-is h d refl in rw (p .1) (f (p .0))
 text-is : {s : Simple} {b c v : ℕ} {X w : List ℕ} → SimpleIs s v X w → s ≡ text → InKind 5 b c v X
 unfolding HasCode
 text-is (a-code h) e = absurd (let n : _≡_ {A = ℕ} 0 1 = cc in omega arith)
-text-is (a-text {l} h k z) e = InKind.text {X = l} (omega arith) (none-fault l z)
+text-is (a-text {l} h k z) e = let n = none-fault l z in InKind.text {X = l} (omega arith) (n .0) (n .1)
 
 pub kind-is : (kind b c v : ℕ) {X w : List ℕ} → SimpleIs (simpleOf kind b c) v X w → InKind kind b c v X
 unfolding simpleOf HasCode

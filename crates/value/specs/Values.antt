@@ -5,6 +5,7 @@ use mathlib.Core.List.{List, []}
 use lib.ListN.{length}
 use Rattle.signed.specs.Words.{rank}
 use Rattle.utf8.specs.Rfc as rfc
+use Rattle.utf8.specs.Controls.{AllAllowed}
 
 pub data InKind : (kind b c v : ℕ) → List ℕ → Type 0 where
   boolean : {b c v : ℕ} → v < 2 → InKind 0 b c v []
@@ -13,6 +14,6 @@ pub data InKind : (kind b c v : ℕ) → List ℕ → Type 0 where
   unsigned : {b c v : ℕ} → v < 2 ^ 32 → InKind 2 b c v []
   signed : {b c v : ℕ} → v < 2 ^ 32 → InKind 3 b c v []
   enumeration : {b c v : ℕ} → v < b → InKind 4 b c v []
-  -- the value word is the count of the text's bytes, which are UTF-8
-  text : {b c : ℕ} {X : List ℕ} → length X ≤ 4095 → rfc.Octets X → InKind 5 b c (length X) X
+  -- the value word is the count of the text's bytes, which are UTF-8 without control characters
+  text : {b c : ℕ} {X : List ℕ} → length X ≤ 4095 → rfc.Octets X → AllAllowed X → InKind 5 b c (length X) X
   float : {b c v : ℕ} → v < 2 ^ 32 → InKind 6 b c v []

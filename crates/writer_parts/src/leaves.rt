@@ -147,7 +147,7 @@ pub fn note_code(
     }
 }
 
-// What is wrong with a text of n bytes at a place of the texts: too many bytes, more than are left, no UTF-8, in this order.
+// What is wrong with a text of n bytes at a place of the texts: too many bytes, more than are left, no UTF-8, a control character, in this order.
 fn text_fault(texts: &[u8], used: usize, v: u32) -> u32
     requires { ⌜ used ≤ length (now texts) ⌝ }
     ensures { λ r. ⌜ r ≡ textWrong (now (texts .entry)) used v ⌝ }

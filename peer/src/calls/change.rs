@@ -4,7 +4,9 @@ use super::bench::on_peer;
 use super::case::{Call, Case};
 use super::reading::root;
 use crate::bim;
-use crate::gen::{self, damage_list, damage_payload, damage_table, let_go, padded_groups, table_and_sample};
+use crate::bits::put_byte;
+use crate::demands::text_places;
+use crate::gen::{self, damage_list, damage_payload, damage_table, let_go, padded_groups, table_and_sample, text_byte};
 use crate::host;
 use crate::padding::padded;
 use crate::rng::Rng;
@@ -12,7 +14,7 @@ use crate::words::{big_endian, words_of};
 
 /// Changes the case.
 pub fn change(rng: &mut Rng, case: &mut Case) {
-    match rng.below(14) {
+    match rng.below(16) {
         0 => case.mode = rng.below(8) as u32,
         1 => case.root = root(rng, case.root, case.inputs[0].get(7).map_or(1, |&types| u32::from(types).max(1))),
         2 => other_room(rng, case),
@@ -21,6 +23,7 @@ pub fn change(rng: &mut Rng, case: &mut Case) {
         7 => other_flags(rng, case),
         8 if rng.one_in(4) => *case = fresh(rng),
         12..=13 => pad_lengths(rng, case),
+        14..=15 => put_control(rng, case),
         _ => change_content(rng, case),
     }
 }
@@ -97,6 +100,30 @@ fn pad_lengths(rng: &mut Rng, case: &mut Case) {
     match read.and_then(|(table, payload)| padded(&table, case.root, payload, |length| padded_groups(rng, length))) {
         Some(payload) => case.inputs[1] = payload,
         None => change_content(rng, case),
+    }
+}
+
+/// A byte of a text changed, mostly into a control character.
+fn put_control(rng: &mut Rng, case: &mut Case) {
+    let byte = text_byte(rng);
+    match case.call {
+        Call::Write if !case.inputs[2].is_empty() => {
+            let at = rng.below(case.inputs[2].len());
+            case.inputs[2][at] = byte;
+        }
+        Call::Read => {
+            let left = on_peer(case);
+            let reading = left.reading().filter(|_| left.is_accepted());
+            let places =
+                reading.map_or(vec![], |reading| text_places(&words_of(&case.inputs[0]), case.root, &reading.list()));
+            let bits: Vec<_> =
+                places.iter().flat_map(|&(place, bytes)| (0..bytes).map(move |at| place + 8 * at)).collect();
+            match bits.is_empty() {
+                true => change_content(rng, case),
+                false => put_byte(&mut case.inputs[1], rng.pick(&bits), byte),
+            }
+        }
+        _ => change_content(rng, case),
     }
 }
 

@@ -4,7 +4,7 @@ use super::bench::Bench;
 use super::case::Case;
 use crate::bim;
 use crate::demands::{element_types, judge_pair, Pair};
-use crate::gen::{self, let_go, table_and_padded, table_and_sample, Sample};
+use crate::gen::{self, let_go, table_and_control, table_and_padded, table_and_sample, Sample};
 use crate::rng::Rng;
 use crate::rows::held_word;
 use crate::words::big_endian;
@@ -15,7 +15,7 @@ const ENOUGH: u64 = 20;
 
 /// One pair: whole, odd, padded and damaged payloads, deep ones and noise, in enough room, just enough, and less.
 pub fn round(bench: &mut Bench<'_>, rng: &mut Rng) {
-    let (kind, table, sample) = match rng.below(14) {
+    let (kind, table, sample) = match rng.below(16) {
         0 => ("noise", gen::table(rng), None),
         1 => {
             let table = gen::deep_table(rng);
@@ -29,6 +29,10 @@ pub fn round(bench: &mut Bench<'_>, rng: &mut Rng) {
         4..=6 => {
             let (table, sample) = table_and_padded(rng);
             ("padded lengths", table, Some(sample))
+        }
+        7..=8 => {
+            let (table, sample) = table_and_control(rng);
+            ("control characters", table, Some(sample))
         }
         _ => {
             let (table, sample) = nested(rng, 0);

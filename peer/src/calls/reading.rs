@@ -4,7 +4,9 @@ use super::bench::Bench;
 use super::case::{Call, Case, Left};
 use crate::bim;
 use crate::cases;
-use crate::gen::{self, damage_payload, damage_table, edge_word, let_go, table_and_padded, table_and_sample};
+use crate::gen::{
+    self, damage_payload, damage_table, edge_word, let_go, table_and_control, table_and_padded, table_and_sample,
+};
 use crate::padding::lengths_are_shortest;
 use crate::rng::Rng;
 use crate::words::big_endian;
@@ -13,7 +15,7 @@ const MOST: usize = bim::MOST_EVENTS;
 
 /// One seeded round: a case and its neighbours.
 pub fn round(bench: &mut Bench<'_>, rng: &mut Rng) {
-    match rng.below(46) {
+    match rng.below(52) {
         0..=9 => valid(bench, rng),
         10..=16 => odd_codes(bench, rng),
         17..=25 => damaged(bench, rng),
@@ -25,6 +27,7 @@ pub fn round(bench: &mut Bench<'_>, rng: &mut Rng) {
         33..=35 => noise(bench, rng),
         36..=38 => deep(bench, rng),
         39..=44 => padded(bench, rng),
+        45..=50 => controls(bench, rng),
         _ if rng.one_in(5) => large(bench, rng),
         _ => valid(bench, rng),
     }
@@ -124,6 +127,21 @@ fn padded(bench: &mut Bench<'_>, rng: &mut Rng) {
             damaged.inputs[1][bit / 8] ^= 0x80 >> (bit % 8);
         }
         ask(bench, "padded lengths, damaged", &damaged);
+    }
+}
+
+/// A control character in a text that is read and in one that may be stepped over, with room for it and without.
+fn controls(bench: &mut Bench<'_>, rng: &mut Rng) {
+    let (table, sample) = table_and_control(rng);
+    let mut case = Case::read_sample(&table, &sample);
+    ask(bench, "control characters", &case);
+    let all = case.rooms.clone();
+    case.rooms = vec![rng.below(all[0] + 1), rng.below(all[1] + 1), bim::AREA];
+    ask(bench, "control characters, short rooms", &case);
+    case.rooms = all;
+    for times in [2, 5] {
+        case.inputs[0] = big_endian(&let_go(rng, &table, times));
+        ask(bench, "control characters, types not held", &case);
     }
 }
 

@@ -180,7 +180,7 @@ fn has_texts(rng: &mut Rng) -> (Vec<u32>, Sample) {
     }
 }
 
-/// Text bytes short, left over, or not UTF-8.
+/// Text bytes short, left over, not UTF-8, or control characters.
 fn texts(bench: &mut Bench<'_>, rng: &mut Rng) {
     let (table, sample) = has_texts(rng);
     let mut case = Case::write_sample(&table, &sample);
@@ -196,6 +196,16 @@ fn texts(bench: &mut Bench<'_>, rng: &mut Rng) {
         ask(bench, "texts changed", &case);
         if rng.one_in(2) {
             case.inputs[2].clone_from(&sample.texts);
+        }
+    }
+    for _ in 0..4 {
+        case.inputs[2].clone_from(&sample.texts);
+        let at = rng.below(length);
+        case.inputs[2][at] = gen::text_byte(rng);
+        ask(bench, "control characters", &case);
+        if length > 1 {
+            case.inputs[2].pop();
+            ask(bench, "control characters, texts short", &case);
         }
     }
 }

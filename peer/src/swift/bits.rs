@@ -64,14 +64,31 @@ pub fn five(window: u64, room: usize) -> Result<(u32, usize), u32> {
     Ok((value, 5 * groups))
 }
 
-/// Copies the text that begins at bit `at` over all of `target`; false where it is not UTF-8.
+/// What is wrong with a text: 0, 16 or 25.
 #[inline(always)]
-pub fn copy_text(payload: &[u8], at: usize, target: &mut [u8]) -> bool {
+pub fn text_fault(text: &[u8]) -> u32 {
+    if std::str::from_utf8(text).is_err() {
+        return bim::NOT_UTF8;
+    }
+    control_fault(text)
+}
+
+/// 25 where a control character is among these bytes: one pass without a branch, so that many bytes are looked at at once.
+#[inline(always)]
+fn control_fault(text: &[u8]) -> u32 {
+    let control = |byte: u8| (byte < 32) & (byte != 9) & (byte != 10) & (byte != 13);
+    let met = text.iter().fold(0, |met, &byte| met | u8::from(control(byte)));
+    u32::from(met) * bim::CONTROL
+}
+
+/// Copies the text that begins at bit `at` over all of `target`, and tells what is wrong with it.
+#[inline(always)]
+pub fn copy_text(payload: &[u8], at: usize, target: &mut [u8]) -> u32 {
     let first = at / 8;
     let shift = at % 8;
     if shift == 0 {
         target.copy_from_slice(&payload[first..first + target.len()]);
-        return std::str::from_utf8(target).is_ok();
+        return text_fault(target);
     }
     let source = &payload[first..first + target.len() + 1];
     let (words, last) = target.as_chunks_mut::<8>();
@@ -87,7 +104,11 @@ pub fn copy_text(payload: &[u8], at: usize, target: &mut [u8]) -> bool {
         *byte = pair[0] << shift | pair[1] >> (8 - shift);
         tops |= u64::from(*byte);
     }
-    tops & ALL_TOP_BITS == 0 || std::str::from_utf8(target).is_ok()
+    if tops & ALL_TOP_BITS == 0 {
+        control_fault(target)
+    } else {
+        text_fault(target)
+    }
 }
 
 /// The shortest vluimsbf5 of `value`: bits and width.

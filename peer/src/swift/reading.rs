@@ -294,22 +294,22 @@ impl Reader<'_> {
         self.store(bim::KIND_VALUE, word, 0, at + size)
     }
 
-    /// The bytes of a text from `first` on: 5, 16, 8, 7. They are copied before they are judged: a refusal clears them.
+    /// The bytes of a text from `first` on: 5, 16, 25, 8, 7. They are copied before they are judged: a refusal clears them.
     fn text(&mut self, count: u32, first: usize, end: usize) -> Step {
         let bytes = count as usize;
         let next = first + 8 * bytes;
         if next > end {
             return self.refuse(bim::PAST_END, self.at);
         }
-        let good = match self.texts.get_mut(self.used..self.used + bytes) {
+        let fault = match self.texts.get_mut(self.used..self.used + bytes) {
             Some(target) => copy_text(self.payload, first, target),
-            None if utf8::check_at(self.payload, first, bytes) == 0 => {
-                return self.refuse(bim::TEXT_ROOM, self.at);
-            }
-            None => false,
+            None => match utf8::check_at(self.payload, first, bytes) {
+                0 => bim::TEXT_ROOM,
+                fault => fault,
+            },
         };
-        if !good {
-            return self.refuse(bim::NOT_UTF8, self.at);
+        if fault != 0 {
+            return self.refuse(fault, self.at);
         }
         self.used += bytes;
         self.store(bim::KIND_VALUE, count, 0, next)

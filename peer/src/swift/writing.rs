@@ -1,6 +1,6 @@
 //! The writer, for speed: a walk judges every event and packs its code into a word; then the words are put out.
 
-use super::bits::{code5, width, Pen};
+use super::bits::{code5, text_fault, width, Pen};
 use super::table::{word, Casts, Table};
 use super::{fill_area, refuse, whole_area};
 use crate::bim;
@@ -382,7 +382,7 @@ impl Walk<'_> {
         Some(())
     }
 
-    /// A text of `count` bytes: 20, 23, 16.
+    /// A text of `count` bytes: 20, 23, 16, 25.
     fn text(&mut self, count: u32) -> Step {
         if count > bim::MOST_TEXT {
             return self.refuse(bim::OUTSIDE_ROW);
@@ -391,8 +391,9 @@ impl Walk<'_> {
         let Some(text) = self.texts.get(self.used..next) else {
             return self.refuse(bim::TEXT_BYTES);
         };
-        if std::str::from_utf8(text).is_err() {
-            return self.refuse(bim::NOT_UTF8);
+        let fault = text_fault(text);
+        if fault != 0 {
+            return self.refuse(fault);
         }
         self.used = next;
         self.put(code5(count), count);

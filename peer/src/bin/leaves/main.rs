@@ -52,14 +52,14 @@ const NUMBERS: [Numbers; 31] = [
     ("put_times", PUT_ROW),
     ("range", ROW),
     ("simple", ROW),
-    ("simple", &[bim::MINUS_ZERO, bim::NOT_UTF8]),
+    ("simple", &[bim::MINUS_ZERO, bim::NOT_UTF8, bim::CONTROL]),
     ("size_range", SIZE),
     ("size_simple", SIZE),
     ("size_times", SIZE),
     ("table", &[bim::ACCEPTED, bim::TABLE]),
-    ("text_fault", &[bim::ACCEPTED, bim::NOT_UTF8, OUTSIDE]),
+    ("text_fault", &[bim::ACCEPTED, bim::NOT_UTF8, bim::CONTROL, OUTSIDE]),
     ("times", ROW),
-    ("utf8", &[bim::ACCEPTED, bim::NOT_UTF8]),
+    ("utf8", &[bim::ACCEPTED, bim::NOT_UTF8, bim::CONTROL]),
     ("vlu5", SHORTEST),
     ("vlu8", SHORTEST),
 ];
@@ -73,6 +73,7 @@ fn main() -> ExitCode {
     let mut rng = Rng::new(seed);
     signs::widths(&mut tally);
     texts::damages(&mut rng, &mut tally);
+    texts::controls(&mut rng, &mut tally);
     tables::named(&mut tally);
     for _ in 0..rounds {
         reads::round(&mut rng, &mut tally);

@@ -1,16 +1,16 @@
-//! Texts: every kind of damage at every place and every alignment.
+//! Texts: every kind of damage and every control character, at every place and every alignment.
 
 use crate::proved::{self, Answer, OUTSIDE};
-use peer::gen::any_bits;
+use peer::gen::{any_bits, text_byte};
 use peer::model::{bits_of, bytes_of};
 use peer::rng::Rng;
 use peer::tally::Tally;
 use peer::utf8;
 
-/// Characters at the ends of the ranges of RFC 3629.
+/// Characters at the ends of the ranges of RFC 3629, and beside control characters.
 #[rustfmt::skip]
-const CHARACTERS: [char; 14] = [
-    '\0', 'a', '\u{7f}', '\u{80}', '\u{7ff}', '\u{800}', '\u{fff}', '\u{1000}', '\u{d7ff}', '\u{e000}', '\u{ffff}',
+const CHARACTERS: [char; 19] = [
+    '\0', '\t', '\n', '\r', '\u{1f}', ' ', 'a', '\u{7f}', '\u{80}', '\u{7ff}', '\u{800}', '\u{fff}', '\u{1000}', '\u{d7ff}', '\u{e000}', '\u{ffff}',
     '\u{10000}', '\u{fffff}', '\u{10ffff}',
 ];
 
@@ -26,14 +26,14 @@ const DAMAGES: [&[u8]; 32] = [
     &[0xf5, 0x80, 0x80, 0x80], &[0xf8, 0x88, 0x80, 0x80, 0x80], &[0xfc], &[0xfe], &[0xff],
 ];
 
-/// A right text of a few characters.
-fn right(rng: &mut Rng) -> String {
+/// A text of a few characters, whatever they are.
+fn characters(rng: &mut Rng) -> String {
     (0..rng.below(10)).map(|_| if rng.one_in(2) { 'x' } else { rng.pick(&CHARACTERS) }).collect()
 }
 
 /// A text, right or wrong.
 pub fn any(rng: &mut Rng) -> Vec<u8> {
-    let mut text = right(rng).into_bytes();
+    let mut text = characters(rng).into_bytes();
     match rng.below(4) {
         0 => text.extend(rng.pick(&DAMAGES)),
         1 if !text.is_empty() => {
@@ -68,6 +68,18 @@ pub fn damages(rng: &mut Rng, tally: &mut Tally) {
             ask(rng, tally, &[damage, character].concat());
             ask(rng, tally, &[character, damage].concat());
             ask(rng, tally, &[character, damage, character].concat());
+        }
+    }
+}
+
+/// Every byte up to a space by itself, and every control character's place in texts of up to 40 letters.
+pub fn controls(rng: &mut Rng, tally: &mut Tally) {
+    (0..=32).for_each(|byte| ask(rng, tally, &[byte]));
+    for length in 1..=40 {
+        for at in 0..length {
+            let mut text = vec![b'a'; length];
+            text[at] = text_byte(rng);
+            ask(rng, tally, &text);
         }
     }
 }

@@ -1,4 +1,4 @@
--- The bytes passed have no bit k.
+-- The octets passed are printable.
 use Prim.Native.Nat.{_-_}
 use Rattle.utf8.specs.Slanted.{Passed}
 use Rattle.utf8.proofs.SlantedLaws.{passed-none, passed-one}
@@ -7,19 +7,16 @@ use Rattle.utf8.proofs.ascii.by_ones.Statement.{statement}
 use Rattle.utf8.proofs.ascii.by_ones.Tie as tie
 
 abbrev Inv-loop : tie.InvT-loop
-Inv-loop s from to k i₀ i = Passed s k from to i
+Inv-loop s k from to i₀ i = Passed s k from to i
 
 abbrev μ-loop : tie.MeasureT-loop
-μ-loop s from to k i₀ i = to - i
+μ-loop s k from to i₀ i = to - i
 
 loop-holds : tie.Need-loop-holds Inv-loop μ-loop
 loop-holds c = search (needs, passed-none)
 
-shared-slice-read-x : tie.Need-shared-slice-read-x Inv-loop μ-loop
-shared-slice-read-x c = search needs
-
-digit-requires : tie.Need-digit-requires Inv-loop μ-loop
-digit-requires c κs = search needs
+lone-requires : tie.Need-lone-requires Inv-loop μ-loop
+lone-requires c κs = search needs
 
 returns : tie.Need-returns Inv-loop μ-loop
 returns c = search needs
@@ -43,8 +40,7 @@ by-ones-spec =
     Inv-loop
     μ-loop
     loop-holds
-    shared-slice-read-x
-    digit-requires
+    lone-requires
     returns
     add-i
     loop-less

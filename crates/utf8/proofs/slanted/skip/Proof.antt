@@ -1,5 +1,5 @@
 -- Nothing is passed within a character.
-use Rattle.utf8.proofs.SlantedLaws.{skipped-past, skipped-none}
+use Rattle.utf8.proofs.SlantedLaws.{skipped-went, skipped-none}
 use borrow.Author.Needs.{needs}
 use Rattle.utf8.proofs.slanted.skip.Statement.{statement}
 use Rattle.utf8.proofs.slanted.skip.Tie as tie
@@ -7,17 +7,14 @@ use Rattle.utf8.proofs.slanted.skip.Tie as tie
 enum-told : tie.Need-enum-told
 enum-told c = search needs
 
-sub-past : tie.Need-sub-past
-sub-past c = search needs
-
-past-requires : tie.Need-past-requires
-past-requires c κs = search needs
+characters-requires : tie.Need-characters-requires
+characters-requires c κs = search needs
 
 returns : tie.Need-returns
-returns c = search (needs, skipped-past)
+returns c = search (needs, skipped-went)
 
 returns-2 : tie.Need-returns-2
 returns-2 c = search (needs, skipped-none)
 
 pub skip-spec : {M : Type 1} → statement M
-skip-spec = tie.close (tie.spec enum-told sub-past past-requires returns returns-2)
+skip-spec = tie.close (tie.spec enum-told characters-requires returns returns-2)

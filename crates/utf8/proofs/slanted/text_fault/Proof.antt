@@ -1,50 +1,67 @@
--- The state is the one after the octets passed.
+-- The state is the one after the octets passed, and `found` tells whether one of them is a control character.
 use Prim.Native.Nat.{_-_, _≤_}
-use mathlib.Core.Path.{_≡_}
+use mathlib.Core.Logic.{⊎-elim}
 use native.Mathlib.Omega.{arith}
-use Rattle.utf8.specs.Steps.{run}
-use Rattle.utf8.specs.Slanted.{octetsAt}
-use Rattle.utf8.proofs.SlantedLaws.{start-run, again-run, all-run}
-use Rattle.utf8.specs.declared.State.the-variants.{Start}
+use Rattle.utf8.proofs.SlantedLaws.{Judged, judged-none, judged-skip, judged-found, judged-free, judged-all}
 use borrow.Author.Needs.{needs}
 use Rattle.utf8.proofs.slanted.text_fault.Statement.{statement}
 use Rattle.utf8.proofs.slanted.text_fault.Tie as tie
 
 abbrev Inv-loop : tie.InvT-loop
-Inv-loop s from to k state₀ i₀ state i = (from ≤ i) × (i ≤ to) × (state ≡ run Start (octetsAt s k from (i - from)))
+Inv-loop s from to k state₀ found₀ i₀ state found i = (from ≤ i) × (i ≤ to) × Judged s k from i state found
 
 abbrev μ-loop : tie.MeasureT-loop
-μ-loop s from to k state₀ i₀ state i = to - i
+μ-loop s from to k state₀ found₀ i₀ state found i = to - i
+
+loop-holds : tie.Need-loop-holds Inv-loop μ-loop
+loop-holds c = (omega arith, omega arith, judged-none _ _ _)
 
 skip-requires : tie.Need-skip-requires Inv-loop μ-loop
 skip-requires c κs = search needs
 
-loop-holds : tie.Need-loop-holds Inv-loop μ-loop
-loop-holds c = let w = c .skip .ensures in (omega arith, omega arith, start-run _ (c .before .shared-slice-known .given) _ _ (omega arith) _ _ w)
-
 octet-requires : tie.Need-octet-requires Inv-loop μ-loop
 octet-requires c κs = search needs
+
+control-requires : tie.Need-control-requires Inv-loop μ-loop
+control-requires c κs = search needs
 
 step-requires : tie.Need-step-requires Inv-loop μ-loop
 step-requires c κs = search needs
 
-add-skip : tie.Need-add-skip Inv-loop μ-loop
-add-skip c = search needs
-
-skip-requires-2 : tie.Need-skip-requires-2 Inv-loop μ-loop
-skip-requires-2 c κs = search needs
+add-i : tie.Need-add-i Inv-loop μ-loop
+add-i c = search needs
 
 loop-less : tie.Need-loop-less Inv-loop μ-loop
 loop-less c = search needs
 
 loop-again : tie.Need-loop-again Inv-loop μ-loop
-loop-again c = search (needs, again-run (c .before .before .before .before .before .before .before .args .s .now) (c .before .before .before .before .before .before .shared-slice-known .given))
+loop-again c =
+    let loop = c .before .before .before .before .before .before .before .loop in
+    let skip = c .before .before .before .before .before .skip in
+    let here = judged-skip _ _ _ _ _ _ _ _ (loop .inv .0) (loop .inv .2) (skip .ensures) in
+    let turn = c .before .before .before .octet .ensures in (
+      omega (arith, skip .ensures),
+      omega arith,
+      ⊎-elim
+          (λ w. judged-found _ _ _ _ _ _ _ _ _ (omega (arith, skip .ensures)) here turn (c .step .ensures) (c .before .before .control .ensures) _ (w .0 .taken) (w .1))
+          (λ w. judged-free _ _ _ _ _ _ _ _ _ (omega (arith, skip .ensures)) here turn (c .step .ensures) (c .before .before .control .ensures) _ (w .0 .left) (w .1))
+          (c .before .if2 .came),
+    )
+
+loop-less-2 : tie.Need-loop-less-2 Inv-loop μ-loop
+loop-less-2 c = search needs
+
+loop-again-2 : tie.Need-loop-again-2 Inv-loop μ-loop
+loop-again-2 c =
+    let inv = c .before .before .before .loop .inv in
+    let skip = c .before .skip .ensures in
+    (omega arith, omega arith, judged-skip _ _ _ _ _ _ _ _ (inv .0) (inv .2) skip)
 
 fault-requires : tie.Need-fault-requires Inv-loop μ-loop
 fault-requires c κs = search needs
 
 returns : tie.Need-returns Inv-loop μ-loop
-returns c = search (needs, all-run)
+returns c = search (needs, judged-all)
 
 pub text-fault-spec : {M : Type 1} → statement M
 text-fault-spec =
@@ -52,13 +69,15 @@ text-fault-spec =
     (tie.spec
     Inv-loop
     μ-loop
-    skip-requires
     loop-holds
+    skip-requires
     octet-requires
+    control-requires
     step-requires
-    add-skip
-    skip-requires-2
+    add-i
     loop-less
     loop-again
+    loop-less-2
+    loop-again-2
     fault-requires
     returns)
