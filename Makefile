@@ -6,7 +6,7 @@ CFLAGS = -O2
 # What every C file here is compiled with, besides.
 STRICT = -std=c99 -pedantic -Wall -Wextra -Wconversion -Wsign-conversion -Werror -Iinclude -Itools
 ARCHIVE = target/staticlib/libbim.a
-PROGRAMS = host explain holds pack
+PROGRAMS = host lengths explain holds pack
 TRIALS = refusals faults bits exact stack
 # The programs whose C code runs under the sanitizers. Not stack: it brings a stack of its own, of which they know nothing.
 SANITIZED = $(PROGRAMS) refusals faults bits exact header
@@ -34,7 +34,7 @@ run:
 	@rt check list >target/run.log 2>&1 || { cat target/run.log; exit 1; }
 	@$(EMULATOR) target/bin/list <crates/list/stdin
 
-# The small receiver and the table curator's programs, in target/c.
+# The small receiver, what gives a payload its lengths, and the table curator's programs, in target/c.
 host: $(PROGRAMS:%=target/c/%)
 
 vpath %.c examples tools tests

@@ -192,15 +192,6 @@ static int show(uint32_t root_name, uint32_t root_type, size_t table_bytes, size
     return 1;
 }
 
-/* A decimal number of 32 bits. */
-static int number_of(const char *digits, uint32_t *number)
-{
-    char *end;
-    const unsigned long long value = strtoull(digits, &end, 10);
-    *number = (uint32_t)value;
-    return *digits >= '0' && *digits <= '9' && *end == '\0' && value <= 0xffffffffu;
-}
-
 int main(int argc, char **argv)
 {
     size_t table_bytes, payload_bytes;

@@ -221,6 +221,17 @@ uint32_t bim_write(const uint8_t *table, size_t table_bytes,
                    uint8_t *payload, size_t payload_bytes,
                    uint8_t *area, size_t area_bytes);
 
+/* Writes a list without naming a mode: answer, area and payload are those of bim_write with BIM_MODE_ALWAYS, so that every receiver can
+ * step over what it does not hold. Every Start has to say that a length is coded (q is 1): one that does not is 18, and gets none after
+ * all. There are no type codes, also where the table has derivations: a list read in mode 6 is 18 at its first Cast that type codes alone
+ * sent, or 20 at one before it that casts. 22 cannot arise. Whoever wants another mode names it to bim_write. */
+uint32_t bim_write_lengths(const uint8_t *table, size_t table_bytes,
+                           uint32_t root_name, uint32_t root_type,
+                           const uint8_t *events, size_t events_bytes,
+                           const uint8_t *texts, size_t texts_bytes,
+                           uint8_t *payload, size_t payload_bytes,
+                           uint8_t *area, size_t area_bytes);
+
 /* THE LENT BIT READER, for the host's own small parsers: one code of any bytes, from a place on. A place is a bit, counted from the most
  * significant bit of byte 0. What lies past the bytes' end is never read; nor is bit 2^32 - 1 or any past it, as places stop there.
  *

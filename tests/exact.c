@@ -125,8 +125,12 @@ static uint32_t write_once(const struct trial *it, enum place place, uint8_t *ar
     uint8_t *table = lend(place, 0, it->table_bytes, vector->table.at);
     uint8_t *events = lend(place, 1, vector->events.length, vector->events.at), *texts = lend(place, 2, vector->texts.length, vector->texts.at);
     uint8_t *payload = lend(place, 3, it->payload_room, NULL);
-    const uint32_t number = bim_write(table, it->table_bytes, vector->root_name, vector->root_type, vector->mode, events,
-                                      vector->events.length, texts, vector->texts.length, payload, it->payload_room, area, it->area_room);
+    const uint32_t number =
+        vector->asked == WRITE
+            ? bim_write(table, it->table_bytes, vector->root_name, vector->root_type, vector->mode, events, vector->events.length, texts,
+                        vector->texts.length, payload, it->payload_room, area, it->area_room)
+            : bim_write_lengths(table, it->table_bytes, vector->root_name, vector->root_type, events, vector->events.length, texts,
+                                vector->texts.length, payload, it->payload_room, area, it->area_room);
     if (number != BIM_ACCEPTED && !all_zero(payload, it->payload_room))
         wrong("a refusal left bytes");
     if (number == BIM_ACCEPTED && it->number == BIM_ACCEPTED && !is(payload, it->payload_room, &vector->payload))
@@ -140,7 +144,7 @@ static uint32_t write_once(const struct trial *it, enum place place, uint8_t *ar
 
 static void ask(const struct trial *it)
 {
-    uint32_t (*const once[])(const struct trial *, enum place, uint8_t *) = {check_once, read_once, write_once};
+    uint32_t (*const once[])(const struct trial *, enum place, uint8_t *) = {check_once, read_once, write_once, write_once};
     int place;
     for (place = 0; place < places; place++) {
         uint8_t *area = lend((enum place)place, 4, it->area_room, NULL);

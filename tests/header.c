@@ -152,13 +152,14 @@ static void try_names(void)
     same("past the numbers", strcmp(bim_refusal_name(BIM_CONTROL + 1), bim_refusal_name(0xffffffffu)), 0);
 }
 
-/* The three calls link, and take null pointers with lengths of 0. */
+/* The four calls link, and take null pointers with lengths of 0. */
 static void try_calls(void)
 {
     uint8_t area[BIM_AREA];
     same("check", bim_check_table(NULL, 0, area, sizeof area), BIM_TABLE);
     same("read", bim_read(NULL, 0, 0, 0, NULL, 0, NULL, 0, NULL, 0, area, sizeof area), BIM_TABLE);
     same("write", bim_write(NULL, 0, 0, 0, 0, NULL, 0, NULL, 0, NULL, 0, area, sizeof area), BIM_TABLE);
+    same("write with lengths", bim_write_lengths(NULL, 0, 0, 0, NULL, 0, NULL, 0, NULL, 0, area, sizeof area), BIM_TABLE);
     same("no area", bim_check_table(NULL, 0, NULL, 0), BIM_AREA_SIZE);
 }
 

@@ -125,7 +125,7 @@ static uint32_t call(int *zero)
 {
     char copy[256], *rest;
     size_t one, other;
-    uint32_t number, mode;
+    uint32_t number, mode = 0;
     memset(events, 0xdd, sizeof events);
     memset(texts, 0xdd, sizeof texts);
     memset(payload, 0xdd, sizeof payload);
@@ -145,10 +145,15 @@ static uint32_t call(int *zero)
         *zero = all_zero(events, now.events) && all_zero(texts, now.texts);
         return number;
     }
-    mode = (uint32_t)strtoul(rest, &rest, 10);
+    if (strcmp(copy, "write") == 0)
+        mode = (uint32_t)strtoul(rest, &rest, 10);
     take_list(rest, &one, &other);
-    number = bim_write(now.table->bytes, now.table->length, now.root_name, now.root_type, mode, events, one, texts, other, payload,
-                       now.payload, area, now.area);
+    if (strcmp(copy, "write") == 0)
+        number = bim_write(now.table->bytes, now.table->length, now.root_name, now.root_type, mode, events, one, texts, other, payload,
+                           now.payload, area, now.area);
+    else
+        number = bim_write_lengths(now.table->bytes, now.table->length, now.root_name, now.root_type, events, one, texts, other, payload,
+                                   now.payload, area, now.area);
     *zero = all_zero(payload, now.payload);
     return number;
 }
@@ -264,7 +269,8 @@ int main(int argc, char **argv)
             continue;
         } else if (strncmp(line, "lent ", 5) == 0) {
             take_lent(rest);
-        } else if (strncmp(line, "check", 5) == 0 || strncmp(line, "read ", 5) == 0 || strncmp(line, "write ", 6) == 0) {
+        } else if (strncmp(line, "check", 5) == 0 || strncmp(line, "read ", 5) == 0 || strncmp(line, "write ", 6) == 0 ||
+                   strncmp(line, "write_lengths ", 14) == 0) {
             keep(now.asked, sizeof now.asked, line);
         } else if (strncmp(line, "answer ", 7) == 0 && now.table != NULL) {
             try_case(rest + 1);

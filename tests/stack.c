@@ -19,8 +19,8 @@ static ucontext_t here, there;
 static struct vector asked;
 static uint8_t events[BIM_MOST_EVENTS * BIM_EVENT], texts[BIM_MOST_PAYLOAD], payload[BIM_MOST_PAYLOAD], area[BIM_AREA];
 static uint32_t number;
-static size_t most[3];
-static char most_in[3][sizeof asked.name];
+static size_t most[CALLS];
+static char most_in[CALLS][sizeof asked.name];
 static unsigned long calls;
 
 static void call(void)
@@ -30,9 +30,12 @@ static void call(void)
     else if (asked.asked == READ)
         number = bim_read(asked.table.at, asked.table.length, asked.root_name, asked.root_type, asked.payload.at, asked.payload.length,
                           events, sizeof events, texts, sizeof texts, area, sizeof area);
-    else
+    else if (asked.asked == WRITE)
         number = bim_write(asked.table.at, asked.table.length, asked.root_name, asked.root_type, asked.mode, asked.events.at,
                            asked.events.length, asked.texts.at, asked.texts.length, payload, sizeof payload, area, sizeof area);
+    else
+        number = bim_write_lengths(asked.table.at, asked.table.length, asked.root_name, asked.root_type, asked.events.at,
+                                   asked.events.length, asked.texts.at, asked.texts.length, payload, sizeof payload, area, sizeof area);
 }
 
 /* Not by memset: its first call, at which the loader looks it up on the caller's stack, is left to the library. */
@@ -190,6 +193,10 @@ static int measure_chain(uint32_t pattern, uint32_t length, uint32_t rows, uint3
             at += snprintf(asked.name + at, 2, "%c", letters[kind_at(pattern, length, i)]);
         snprintf(asked.name + at, 48, " over and over, mode %lu", (unsigned long)mode);
         chain_list(pattern, length, rows, mode);
+        if (mode == BIM_MODE_ALWAYS) {
+            asked.asked = WRITE_LENGTHS;
+            measure();
+        }
         asked.asked = WRITE;
         measure();
         if (number == BIM_ACCEPTED) {
@@ -241,8 +248,8 @@ int main(int argc, char **argv)
             measure();
         fclose(file);
     }
-    for (i = 0; i < 3; i++) {
-        printf("%-15s %6lu bytes of stack (%s)\n", call_names[i], (unsigned long)most[i], most_in[i]);
+    for (i = 0; i < CALLS; i++) {
+        printf("%-17s %6lu bytes of stack (%s)\n", call_names[i], (unsigned long)most[i], most_in[i]);
         over |= most[i] > BIM_STACK;
     }
     printf("%lu calls measured; BIM_STACK is %lu%s\n", calls, (unsigned long)BIM_STACK, over ? ": TOO LITTLE" : "");

@@ -7,8 +7,8 @@
 #include <string.h>
 #include "bim.h"
 
-enum asked { CHECK, READ, WRITE };
-static const char *const call_names[] = {"bim_check_table", "bim_read", "bim_write"};
+enum asked { CHECK, READ, WRITE, WRITE_LENGTHS, CALLS };
+static const char *const call_names[] = {"bim_check_table", "bim_read", "bim_write", "bim_write_lengths"};
 
 struct bytes {
     uint8_t at[65536];
@@ -112,9 +112,12 @@ static inline int next_vector(FILE *file, struct vector *vector)
         } else if (strncmp(line, "mode ", 5) == 0) {
             vector->asked = WRITE;
             vector->mode = (uint32_t)strtoul(rest, NULL, 10);
-        } else if (strncmp(line, "room ", 5) == 0)
+        } else if (strncmp(line, "room ", 5) == 0) {
+            /* A list that names no mode is the short call's. */
+            if (vector->asked != WRITE)
+                vector->asked = WRITE_LENGTHS;
             vector->payload_room = strtoul(rest, NULL, 10);
-        else if (strncmp(line, "words ", 6) == 0 || strncmp(line, "event ", 6) == 0)
+        } else if (strncmp(line, "words ", 6) == 0 || strncmp(line, "event ", 6) == 0)
             add_words(&vector->events, rest);
         else if (strncmp(line, "texts ", 6) == 0)
             set_hex(vector, &vector->texts, rest);

@@ -1,4 +1,4 @@
-/* What the programs here share: a file into a buffer, and names by number. */
+/* What the programs here share: a file into a buffer, a number of an argument, and names by number. */
 #ifndef FILES_H
 #define FILES_H
 
@@ -20,6 +20,15 @@ static inline int read_file(const char *path, uint8_t *bytes, size_t room, size_
     if (!good)
         perror(path);
     return good;
+}
+
+/* A decimal number of 32 bits. */
+static inline int number_of(const char *digits, uint32_t *number)
+{
+    char *end;
+    const unsigned long long value = strtoull(digits, &end, 10);
+    *number = (uint32_t)value;
+    return *digits >= '0' && *digits <= '9' && *end == '\0' && value <= 0xffffffffu;
 }
 
 /* The words of the names file by number; a name without one is shown as its number. */

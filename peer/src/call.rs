@@ -1,6 +1,7 @@
 //! A call in words: what the named cases ask, and what the demands are held of.
 
-use crate::bim;
+use crate::answer::Answer;
+use crate::{bim, writer};
 
 /// The numbers that a reading can be answered with; 24 at the C boundary alone.
 #[rustfmt::skip]
@@ -14,6 +15,12 @@ pub const READER: [u32; 20] = [
 pub const WRITER: [u32; 14] = [
     bim::ACCEPTED, bim::TABLE, bim::ROOT, bim::DEPTH, bim::NOT_HELD, bim::NOT_UTF8, bim::CONTROL, bim::NO_READING, bim::BLANK,
     bim::OUTSIDE_ROW, bim::PAYLOAD_ROOM, bim::WRITE_MODE, bim::TEXT_BYTES, bim::AREA_SIZE,
+];
+/// Those of the short call: it is told no mode, so that 22 cannot arise.
+#[rustfmt::skip]
+pub const SHORT_WRITER: [u32; 12] = [
+    bim::ACCEPTED, bim::TABLE, bim::ROOT, bim::DEPTH, bim::NOT_HELD, bim::NOT_UTF8, bim::NO_READING, bim::BLANK,
+    bim::OUTSIDE_ROW, bim::PAYLOAD_ROOM, bim::TEXT_BYTES, bim::AREA_SIZE,
 ];
 
 /// Which call, with its input.
@@ -49,12 +56,23 @@ pub struct Write {
     pub table: Vec<u32>,
     /// Root name and type.
     pub root: (u32, u32),
-    /// The mode asked.
-    pub mode: u32,
+    /// The mode asked; none asks the short call.
+    pub mode: Option<u32>,
     /// The list's words.
     pub events: Vec<u32>,
     /// The texts.
     pub texts: Vec<u8>,
     /// Lent payload bytes.
     pub room: usize,
+}
+
+impl Write {
+    /// What the peer answers, into this buffer.
+    pub fn ask(&self, payload: &mut [u8]) -> Answer {
+        let Write { table, root, mode, events, texts, .. } = self;
+        match mode {
+            Some(mode) => writer::write(table, root.0, root.1, *mode, events, texts, payload),
+            None => writer::write_lengths(table, root.0, root.1, events, texts, payload),
+        }
+    }
 }

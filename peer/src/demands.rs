@@ -5,7 +5,7 @@
 
 use crate::answer::{refusal, Answer, Path};
 use crate::bim;
-use crate::call::{Call, Read, Write, READER, WRITER};
+use crate::call::{Call, Read, Write, READER, SHORT_WRITER, WRITER};
 use crate::cases::Case;
 use crate::model;
 use crate::padding::lengths_are_shortest;
@@ -32,6 +32,9 @@ pub const CASTS: [Numbers; 29] = [
     ("written element with codes", &[bim::NOT_HELD]), ("written element of another type", &[bim::NOT_HELD]),
     ("stray cast", &[bim::NO_READING]), ("substitute", &[bim::OUTSIDE_ROW]), ("effective type", &[bim::OUTSIDE_ROW]),
 ];
+
+/// Who answers where a list is to be written and no mode is asked.
+const SHORT: &str = "short writer";
 
 /// What the run has met so far.
 #[derive(Default)]
@@ -70,7 +73,8 @@ impl Tally {
         if !both {
             println!("NEVER MET: a part of demand 2");
         }
-        self.met.has_met(&[("reader", reader), ("writer", writer)]) && both
+        let [short @ .., _] = &SHORT_WRITER;
+        self.met.has_met(&[("reader", reader), ("writer", writer), (SHORT, short)]) && both
     }
 }
 
@@ -231,14 +235,15 @@ fn written_back(tally: &mut Tally, call: &Read, outcome: &Outcome) -> Result<(),
 pub fn write(tally: &mut Tally, call: &Write) -> Result<(Answer, Vec<u8>), String> {
     let mut payload = vec![0xdd; call.room];
     let (name, of_type) = call.root;
-    let answer = writer::write(&call.table, name, of_type, call.mode, &call.events, &call.texts, &mut payload);
-    tally.met.count("writer", answer.number);
+    let answer = call.ask(&mut payload);
+    tally.met.count(if call.mode.is_some() { "writer" } else { SHORT }, answer.number);
     demand(answer_has_its_shape(&answer) && answer.path.names().is_empty(), || {
         format!("demand 1: the answer's shape: {answer:?}")
     })?;
     let bytes = answer.bits.div_ceil(8);
     demand(payload[bytes..].iter().all(|&byte| byte == 0), || format!("demand 1: spare payload is not 0: {answer:?}"))?;
-    let (expected, item) = model::write(&call.table, name, of_type, call.mode, &call.events, &call.texts, call.room);
+    let mode = call.mode.unwrap_or(bim::MODE_ALWAYS);
+    let (expected, item) = model::write(&call.table, name, of_type, mode, &call.events, &call.texts, call.room);
     if !item.is_empty() {
         tally.casts.count(item, answer.number);
     }

@@ -342,7 +342,7 @@ impl Sample {
         Write {
             table: table.to_vec(),
             root: self.root,
-            mode: self.mode,
+            mode: Some(self.mode),
             events: self.events.concat(),
             texts: self.texts.clone(),
             room: self.bits.len().div_ceil(8) + over,

@@ -88,6 +88,19 @@ pub fn write(
     fill_area(&answer, area)
 }
 
+/// The short call: writes a list in mode 2, and not in 6 where the table has derivations.
+pub fn write_lengths(
+    table: &[u8],
+    root_name: u32,
+    root_type: u32,
+    events: &[u8],
+    texts: &[u8],
+    payload: &mut [u8],
+    area: &mut [u8],
+) -> u32 {
+    write(table, root_name, root_type, bim::MODE_ALWAYS, events, texts, payload, area)
+}
+
 /// A table's words. Bytes over a whole word, or too many, make the length wrong; the header stands before that.
 fn table_words(bytes: &[u8]) -> Result<Vec<u32>, Refusal> {
     let whole = bytes.len() / 4;

@@ -71,6 +71,11 @@ fn valid_list(tally: &mut Tally, rng: &mut Rng) -> Result<(), String> {
     if written != payload || answer.bits != sample.bits.len() {
         return Err(format!("{payload:02x?} should be written, not {written:02x?}"));
     }
+    // The short call gives the same exactly where the list is of mode 2: any other it refuses, or begins with another byte.
+    let short = demands::write(tally, &Write { mode: None, ..call.clone() })?;
+    if (short == (answer, written)) != (sample.mode == bim::MODE_ALWAYS) {
+        return Err(format!("of mode {}, and the short call gives {short:02x?}", sample.mode));
+    }
     let mut read_call = sample.reading(&table, call.events.len(), sample.texts.len());
     let outcome = demands::read(tally, &read_call)?;
     if outcome.list() != sample.events || outcome.text() != sample.texts {
@@ -103,7 +108,10 @@ fn deep_list(tally: &mut Tally, rng: &mut Rng) -> Result<(), String> {
     if !undamaged {
         gen::damage_list(rng, &mut sample.events, &mut sample.texts);
     }
-    demands::write(tally, &sample.writing(&table, 9))?;
+    let mut call = sample.writing(&table, 9);
+    demands::write(tally, &call)?;
+    call.mode = None;
+    demands::write(tally, &call)?;
     let first = gen::let_go(rng, &table, 12);
     let mut call = sample.reading(&table, 4 * sample.events.len() + 16, sample.texts.len());
     if undamaged && rng.one_in(3) {
@@ -202,8 +210,8 @@ fn damaged_list(tally: &mut Tally, rng: &mut Rng) -> Result<(), String> {
     if rng.one_in(30) {
         call.events.pop();
     }
-    if rng.below(10) == 0 {
-        call.mode = rng.below(9) as u32;
+    if rng.one_in(10) {
+        call.mode = any_mode(rng);
     }
     match rng.below(30) {
         0 => call.root.1 = gen::edge_word(rng),
@@ -215,7 +223,13 @@ fn damaged_list(tally: &mut Tally, rng: &mut Rng) -> Result<(), String> {
         1 => rng.below(call.room + 1),
         _ => call.room + rng.below(20),
     };
-    demands::write(tally, &call).map(drop)
+    demands::write(tally, &call)?;
+    demands::write(tally, &Write { mode: None, ..call }).map(drop)
+}
+
+/// Any mode, right or wrong; or none, for the short call.
+fn any_mode(rng: &mut Rng) -> Option<u32> {
+    (!rng.one_in(9)).then(|| rng.below(9) as u32)
 }
 
 /// A table damaged: the check against the model's, and all three calls give the same word.
@@ -235,7 +249,7 @@ fn damaged_table(tally: &mut Tally, rng: &mut Rng) -> Result<(), String> {
     let read = Read { table: table.clone(), root, payload: gen::noise(rng), event_words: 400, text_room: 100 };
     let read = demands::read(tally, &read)?.answer;
     let events = vec![bim::KIND_START, root.0, 0, 0, bim::KIND_END, 0, 0, 0];
-    let list = Write { table, root, mode: rng.below(8) as u32, events, texts: vec![], room: 40 };
+    let list = Write { table, root, mode: any_mode(rng), events, texts: vec![], room: 40 };
     let written = demands::write(tally, &list)?.0;
     for answer in [read, written] {
         let named = (answer.number == bim::TABLE).then_some(answer.place as usize);
@@ -257,7 +271,7 @@ fn noise(tally: &mut Tally, rng: &mut Rng) -> Result<(), String> {
     two_tables(tally, &first, &call)?;
     // The same bits as a list.
     let events: Vec<_> = (0..4 * rng.below(6)).map(|_| rng.below(9) as u32).collect();
-    let mode = rng.below(7) as u32;
+    let mode = any_mode(rng);
     demands::write(tally, &Write { table: call.table, root, mode, events, texts: vec![], room: 40 }).map(drop)
 }
 

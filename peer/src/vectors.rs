@@ -11,7 +11,7 @@ use crate::call::{Call, Read, Write};
 use crate::cases::Case;
 use crate::model::bytes_of;
 use crate::words::{hex, unhex};
-use crate::{bits, codes, reader, table, utf8, value, writer};
+use crate::{bits, codes, reader, table, utf8, value};
 
 /// The vectors of a file. Between them lines that begin with `#` are for the eye.
 pub fn vectors_of(file: &str) -> impl Iterator<Item = &str> {
@@ -117,7 +117,10 @@ pub fn case_of(block: &str) -> Option<Case> {
         let (event_words, text_room) = (event_words as usize, text_room as usize);
         Call::Read(Read { table, root: pair("root")?, payload, event_words, text_room })
     } else if let Some(room) = one("room") {
-        let mode = line("mode")?.parse().ok()?;
+        let mode = match line("mode") {
+            Some(mode) => Some(mode.parse().ok()?),
+            None => None,
+        };
         Call::Write(Write {
             table,
             root: pair("root")?,
@@ -160,9 +163,9 @@ fn answered(call: &Call) -> String {
             }
             lines
         }
-        Call::Write(Write { table, root, mode, events, texts, room }) => {
-            let mut payload = vec![0xdd; *room];
-            let answer = writer::write(table, root.0, root.1, *mode, events, texts, &mut payload);
+        Call::Write(call) => {
+            let mut payload = vec![0xdd; call.room];
+            let answer = call.ask(&mut payload);
             let mut lines = answer_lines(&answer);
             if answer.is_accepted() {
                 lines += &format!("payload {}\n", hex(&payload[..answer.bits.div_ceil(8)]));

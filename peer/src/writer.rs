@@ -28,6 +28,18 @@ pub fn write(
     answer(written, payload)
 }
 
+/// The short call: mode 2, and not 6 where the table has derivations.
+pub fn write_lengths(
+    table: &[u32],
+    root_name: u32,
+    root_type: u32,
+    events: &[u32],
+    texts: &[u8],
+    payload: &mut [u8],
+) -> Answer {
+    write(table, root_name, root_type, bim::MODE_ALWAYS, events, texts, payload)
+}
+
 /// The answer of a call that must be refused for a list of `bytes` bytes that are not whole events, or too many.
 pub fn refuse_shape(
     table: &[u32],

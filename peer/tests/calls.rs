@@ -77,6 +77,12 @@ faults! {
     LongListPlace,
     /// A type that is not derived is 18.
     NotDerived,
+    /// The short call has type codes where the table has derivations.
+    ShortCasts,
+    /// The short call takes its mode from the first Start.
+    ShortByFirstStart,
+    /// The short call gives a length to every Start.
+    ShortAddsLengths,
 }
 use Fault::*;
 
@@ -230,8 +236,8 @@ impl Calls for StandIn {
         number
     }
 
-    fn write(&self, lent: Writing<'_>) -> u32 {
-        let Writing { table, root: (name, of_type), mode, events, texts, payload, area } = lent;
+    fn write(&self, mode: u32, lent: Writing<'_>) -> u32 {
+        let Writing { table, root: (name, of_type), events, texts, payload, area } = lent;
         if self.0 == RoomOneShort {
             let most = payload.len().saturating_sub(1);
             payload[most..].fill(0);
@@ -279,6 +285,29 @@ impl Calls for StandIn {
             _ => {}
         }
         number
+    }
+
+    fn write_lengths(&self, lent: Writing<'_>) -> u32 {
+        let Writing { table, root: (name, of_type), events, texts, payload, area } = lent;
+        let mut given = events.to_vec();
+        let start = first_of(bim::KIND_START, &mut given).map(|event| event[11]);
+        let mut write = |mode, events: &[u8]| host::write(table, name, of_type, mode, events, texts, payload, area);
+        match self.0 {
+            ShortCasts => {
+                let number = write(bim::CASTING + bim::MODE_ALWAYS, events);
+                if number == bim::WRITE_MODE {
+                    return write(bim::MODE_ALWAYS, events);
+                }
+                number
+            }
+            ShortByFirstStart if start == Some(0) => write(bim::MODE_NEVER, events),
+            ShortAddsLengths => {
+                let starts = given.chunks_exact_mut(16).filter(|event| event[..4] == bim::KIND_START.to_be_bytes());
+                starts.for_each(|event| event[11] = 1);
+                write(bim::MODE_ALWAYS, &given)
+            }
+            _ => host::write_lengths(table, name, of_type, events, texts, payload, area),
+        }
     }
 }
 

@@ -32,6 +32,13 @@ fn the_payload_reads_as_its_list_and_back() {
 }
 
 #[test]
+fn the_short_call_has_no_casting() {
+    let mut payload = [0xdd; 8];
+    let answer = peer::writer::write_lengths(&CAST, 10, 0, &LIST.concat(), b"Hi", &mut payload);
+    assert_eq!((answer.number, answer.place, payload), (18, 2, [0; 8]));
+}
+
+#[test]
 fn a_type_that_is_not_held_is_blank_by_its_effective_type() {
     let mut table = CAST;
     table[4 + 7 * 2] = 0;

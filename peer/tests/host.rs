@@ -158,6 +158,30 @@ fn a_write_fills_payload_and_area() {
     assert_eq!(write(2, 0, &many[..16 * 2048], b"Hi", 10), refused(18, 0));
 }
 
+/// The table of the page on the short call: one boolean, and a root of it.
+const BOOLEAN: [u32; 11] = [1, 1, 0, 0, 1, 1, 0, 0, 0, 0, 0];
+
+#[test]
+fn the_short_call_writes_in_mode_2() {
+    let table = big_endian(&BOOLEAN);
+    let write = |list: &[[u32; 4]], room: usize, area: usize| {
+        let (mut payload, mut out) = (vec![0xdd; room], vec![0xdd; area]);
+        let number = host::write_lengths(&table, 1, 0, &big_endian(&list.concat()), b"", &mut payload, &mut out);
+        (number, out, payload)
+    };
+    let refused = |number, place, room| (number, area([place, 0, 0, 0, 0, 0], &[]), vec![0; room]);
+    let list = [[1, 1, 1, 0], [3, 1, 0, 0], [6, 0, 0, 0]];
+    assert_eq!(write(&list, 3, 152), (0, area([0, 2, 3, 0, 14, 0], &[]), vec![0x8f, 0x0c, 0]));
+    assert_eq!(write(&[[1, 1, 0, 0], list[1], list[2]], 3, 152), refused(18, 0, 3));
+    assert_eq!(write(&[[7, 1, 0, 0]], 3, 152), refused(19, 0, 3));
+    assert_eq!(write(&[], 3, 152), refused(18, 0, 3));
+    assert_eq!(write(&list, 1, 152), refused(21, 0, 1));
+    assert_eq!(write(&list, 3, 151), (24, vec![0; 151], vec![0; 3]));
+    let (mut payload, mut out) = (vec![0xdd; 3], vec![0xdd; 152]);
+    let number = host::write(&table, 1, 0, 0, &big_endian(&list.concat()), b"", &mut payload, &mut out);
+    assert_eq!((number, out, payload), refused(18, 0, 3));
+}
+
 #[test]
 fn places_stop_at_2_to_the_32_less_1() {
     assert_eq!(host::place_word(0), 0);

@@ -1,10 +1,10 @@
 //! The fast calls, which the proved ones are timed against, answer as the peer does on the seeded cases of the C calls.
 
 use peer::calls::run;
-use peer::speed::standard;
+use peer::speed::{standard, with_lengths};
 use peer::{calls_of, swift, table};
 
-calls_of!(Swift = swift::check_table, swift::read, swift::write);
+calls_of!(Swift = swift::check_table, swift::read, swift::write, swift::write_lengths);
 
 #[test]
 fn the_fast_calls_answer_as_the_peer() {
@@ -14,7 +14,7 @@ fn the_fast_calls_answer_as_the_peer() {
 
 #[test]
 fn what_is_timed_has_right_tables() {
-    for input in standard() {
+    for input in standard().into_iter().chain([with_lengths()]) {
         let [small, large] = input.tables().map(|words| table::check(&words).map(|()| words.len()));
         assert!(small < large && [Ok(8964), Ok(14_598)].contains(&large), "{}: {small:?}, {large:?}", input.name);
     }

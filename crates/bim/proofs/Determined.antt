@@ -5,6 +5,7 @@ use mathlib.Core.Path.{_≡_, refl, sym, ap, _∙_}
 use mathlib.Core.List.{List, [], _∷_}
 use native.Mathlib.Omega.{arith}
 use lib.ListN.{length}
+use Rattle.numbers.specs.Mode.{always}
 use Rattle.table.specs.First.{Verdict}
 use Rattle.table.specs.Valid.{verdict}
 use Rattle.table.specs.Views.{verdictIs}
@@ -73,6 +74,12 @@ pub write-call-determined : (t : List ℕ) (name type mode : ℕ) (e x : List �
     → back n A (P ∷ []) ≡ writeCall t name type mode e x room area → back n′ A′ (P′ ∷ []) ≡ writeCall t name type mode e x room area
     → SameBack n n′ A A′ (P ∷ []) (P′ ∷ [])
 write-call-determined t name type mode e x room area n n′ A A′ P P′ p q = same-back (writeCall t name type mode e x room area) n n′ A A′ (P ∷ []) (P′ ∷ []) p q
+
+-- bim_write_lengths
+pub lengths-call-determined : (t : List ℕ) (name type : ℕ) (e x : List ℕ) (room area n n′ : ℕ) (A A′ P P′ : List ℕ)
+    → back n A (P ∷ []) ≡ writeCall t name type always e x room area → back n′ A′ (P′ ∷ []) ≡ writeCall t name type always e x room area
+    → SameBack n n′ A A′ (P ∷ []) (P′ ∷ [])
+lengths-call-determined t name type e x room area n n′ A A′ P P′ p q = write-call-determined t name type always e x room area n n′ A A′ P P′ p q
 
 -- bim_bits_fixed, bim_bits_vlu5, bim_bits_vlu8
 pub bits-call-determined : (s : List ℕ) (at : ℕ) (c : Coding) (area n n′ : ℕ) (A A′ : List ℕ) → back n A [] ≡ bitsCall s at c area → back n′ A′ [] ≡ bitsCall s at c area → SameBack n n′ A A′ [] []

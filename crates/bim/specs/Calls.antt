@@ -82,7 +82,8 @@ writeList l name type mode e x room =
 unfoldable pub writeBytes : List ℕ → ℕ → ℕ → ℕ → List ℕ → List ℕ → ℕ → Made
 writeBytes t name type mode e x room = verdictMade (tableVerdict t) (writeList (wordsOf t) name type mode e x room)
 
--- bim_write: table, root name, root type, mode, events, texts; bytes of the payload and of the area
+-- bim_write: table, root name, root type, mode, events, texts; bytes of the payload and of the area. bim_write_lengths has
+-- no mode: it is this at `always`
 unfoldable pub writeCall : List ℕ → ℕ → ℕ → ℕ → List ℕ → List ℕ → ℕ → ℕ → Back
 writeCall t name type mode e x room area =
     let m = writeBytes t name type mode e x room in

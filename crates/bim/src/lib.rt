@@ -13,6 +13,7 @@ use answers::tell_written;
 use area::tell_place;
 use buffers::clear;
 use numbers::limit;
+use numbers::mode;
 use numbers::refusal;
 use reads::read_bytes;
 use table::Verdict;
@@ -21,8 +22,10 @@ use writes::write_bytes;
 ghost use mathlib.Core.Path.{_≡_};
 ghost use mathlib.Core.List.{[], _∷_};
 ghost use lib.ListN.{length};
+ghost use Rattle.numbers.specs.Mode.{always};
 ghost use Rattle.value.specs.Simple.{AllBytes};
 ghost use Rattle.bim.specs.Calls.{back, checkTable, readCall, writeCall};
+ghost use Rattle.bim.specs.Contracts.{WrittenAndTold};
 
 // Judges a table.
 #[no_mangle]
@@ -74,6 +77,30 @@ pub extern "C" fn bim_read(
     tell_answer(area, a)
 }
 
+// Writes events and texts as a payload in a mode, and tells the answer: what both calls that write are.
+fn write_and_tell(
+    table: &[u8],
+    root_name: u32,
+    root_type: u32,
+    mode: u32,
+    events: &[u8],
+    texts: &[u8],
+    payload: &mut [u8],
+    area: &mut [u8],
+) -> u32
+    ensures { λ r. ⌜
+        WrittenAndTold (now (table .entry)) «root_name» «root_type» mode (now (events .entry)) (now (texts .entry))
+        (now (payload .entry)) (now (area .entry)) r (now (payload .exit)) (now (area .exit)) ⌝ }
+{
+    if area.len() != limit::AREA {
+        clear(payload);
+        clear(area);
+        return refusal::AREA_SIZE;
+    }
+    let a = write_bytes(table, root_name, root_type, mode, events, texts, payload);
+    tell_written(area, a)
+}
+
 // Writes events and texts as a payload.
 #[no_mangle]
 pub extern "C" fn bim_write(
@@ -91,11 +118,42 @@ pub extern "C" fn bim_write(
         ≡ writeCall (now (table .entry)) «root_name» «root_type» mode (now (events .entry)) (now (texts .entry))
         (length (now (payload .entry))) (length (now (area .entry))) ⌝ }
 {
-    if area.len() != limit::AREA {
-        clear(payload);
-        clear(area);
-        return refusal::AREA_SIZE;
-    }
-    let a = write_bytes(table, root_name, root_type, mode, events, texts, payload);
-    tell_written(area, a)
+    write_and_tell(
+        table,
+        root_name,
+        root_type,
+        mode,
+        events,
+        texts,
+        payload,
+        area,
+    )
+}
+
+// The same for a host that names no mode: every element has a length, and none a type code, whatever the table has.
+#[no_mangle]
+pub extern "C" fn bim_write_lengths(
+    table: &[u8],
+    root_name: u32,
+    root_type: u32,
+    events: &[u8],
+    texts: &[u8],
+    payload: &mut [u8],
+    area: &mut [u8],
+) -> u32
+    ensures { λ r. ⌜
+        back r (now (area .exit)) (now (payload .exit) ∷ [])
+        ≡ writeCall (now (table .entry)) «root_name» «root_type» always (now (events .entry)) (now (texts .entry))
+        (length (now (payload .entry))) (length (now (area .entry))) ⌝ }
+{
+    write_and_tell(
+        table,
+        root_name,
+        root_type,
+        mode::ALWAYS,
+        events,
+        texts,
+        payload,
+        area,
+    )
 }

@@ -17,15 +17,17 @@ pub enum Call {
     Read,
     /// `bim_write`.
     Write,
+    /// `bim_write_lengths`.
+    WriteLengths,
 }
 
 impl Call {
-    /// All three.
-    pub const ALL: [Call; 3] = [Call::Check, Call::Read, Call::Write];
+    /// All four.
+    pub const ALL: [Call; 4] = [Call::Check, Call::Read, Call::Write, Call::WriteLengths];
 
     /// The call's C name.
     pub fn name(self) -> &'static str {
-        ["bim_check_table", "bim_read", "bim_write"][self as usize]
+        ["bim_check_table", "bim_read", "bim_write", "bim_write_lengths"][self as usize]
     }
 
     /// The numbers that it can answer.
@@ -34,6 +36,7 @@ impl Call {
             Call::Check => &[bim::ACCEPTED, bim::TABLE, bim::AREA_SIZE],
             Call::Read => &call::READER,
             Call::Write => &call::WRITER,
+            Call::WriteLengths => &call::SHORT_WRITER,
         }
     }
 
@@ -42,7 +45,7 @@ impl Call {
         match self {
             Call::Check => &["table"],
             Call::Read => &["table", "payload"],
-            Call::Write => &["table", "events", "texts"],
+            Call::Write | Call::WriteLengths => &["table", "events", "texts"],
         }
     }
 
@@ -51,7 +54,7 @@ impl Call {
         match self {
             Call::Check => &["area"],
             Call::Read => &["events", "texts", "area"],
-            Call::Write => &["payload", "area"],
+            Call::Write | Call::WriteLengths => &["payload", "area"],
         }
     }
 }
@@ -63,7 +66,7 @@ pub struct Case {
     pub call: Call,
     /// Root name and type.
     pub root: (u32, u32),
-    /// The mode to write.
+    /// The mode that `bim_write` is told; 0 for every other call.
     pub mode: u32,
     /// The bytes given, in the call's order.
     pub inputs: Vec<Vec<u8>>,
@@ -91,7 +94,12 @@ impl Case {
                 Case::read(table, *root, payload.clone(), 4 * event_words, *text_room)
             }
             call::Call::Write(Write { table, root, mode, events, texts, room }) => {
-                Case::write(table, *root, *mode, big_endian(events), texts.clone(), *room)
+                let case = Case::write(table, *root, mode.unwrap_or(0), big_endian(events), texts.clone(), *room);
+                if mode.is_some() {
+                    case
+                } else {
+                    case.without_mode()
+                }
             }
         }
     }
@@ -106,6 +114,19 @@ impl Case {
     pub fn write(table: &[u32], root: (u32, u32), mode: u32, list: Vec<u8>, texts: Vec<u8>, room: usize) -> Self {
         let inputs = vec![big_endian(table), list, texts];
         Case { call: Call::Write, root, mode, inputs, rooms: vec![room, bim::AREA] }
+    }
+
+    /// The same list to write by the short call.
+    pub fn without_mode(self) -> Self {
+        Case { call: Call::WriteLengths, mode: 0, ..self }
+    }
+
+    /// The mode that a list is written in.
+    pub fn mode_in_effect(&self) -> u32 {
+        match self.call {
+            Call::WriteLengths => bim::MODE_ALWAYS,
+            _ => self.mode,
+        }
     }
 
     /// A sample's list to write, with the room that its payload takes.
@@ -128,9 +149,14 @@ impl Case {
                 let (events, texts, area) = (events.as_mut(), texts.as_mut(), area.as_mut());
                 calls.read(Reading { table: given(0), root, payload: given(1), events, texts, area })
             }
-            (Call::Write, [payload, area]) => {
-                let (table, mode, payload, area) = (given(0), self.mode, payload.as_mut(), area.as_mut());
-                calls.write(Writing { table, root, mode, events: given(1), texts: given(2), payload, area })
+            (Call::Write | Call::WriteLengths, [payload, area]) => {
+                let (payload, area) = (payload.as_mut(), area.as_mut());
+                let lent = Writing { table: given(0), root, events: given(1), texts: given(2), payload, area };
+                if self.call == Call::Write {
+                    calls.write(self.mode, lent)
+                } else {
+                    calls.write_lengths(lent)
+                }
             }
             _ => panic!("{self:?} has not the buffers of its call"),
         }

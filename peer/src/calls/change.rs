@@ -15,7 +15,7 @@ use crate::words::{big_endian, words_of};
 /// Changes the case.
 pub fn change(rng: &mut Rng, case: &mut Case) {
     match rng.below(16) {
-        0 => case.mode = rng.below(8) as u32,
+        0 => other_mode(rng, case),
         1 => case.root = root(rng, case.root, case.inputs[0].get(7).map_or(1, |&types| u32::from(types).max(1))),
         2 => other_room(rng, case),
         3 => change_table(rng, case),
@@ -25,6 +25,16 @@ pub fn change(rng: &mut Rng, case: &mut Case) {
         12..=13 => pad_lengths(rng, case),
         14..=15 => put_control(rng, case),
         _ => change_content(rng, case),
+    }
+}
+
+/// Another mode; the other of the two calls that write.
+fn other_mode(rng: &mut Rng, case: &mut Case) {
+    case.mode = rng.below(8) as u32;
+    match case.call {
+        Call::Write if rng.one_in(3) => *case = case.clone().without_mode(),
+        Call::WriteLengths => case.call = Call::Write,
+        _ => {}
     }
 }
 
@@ -76,11 +86,16 @@ fn turn(rng: &mut Rng, case: &mut Case) {
             (Some(events), Some(texts)) if left.is_accepted() => {
                 let room = case.inputs[1].len() + rng.below(60);
                 let mode = if rng.one_in(2) { left.word(1) as u32 } else { rng.below(7) as u32 };
-                Case::write(&[], case.root, mode, events.to_vec(), texts.to_vec(), room)
+                let list = Case::write(&[], case.root, mode, events.to_vec(), texts.to_vec(), room);
+                if rng.one_in(4) {
+                    list.without_mode()
+                } else {
+                    list
+                }
             }
             _ => return change_content(rng, case),
         },
-        Call::Write => match left.outputs[0].get(..left.word(4).div_ceil(8)) {
+        Call::Write | Call::WriteLengths => match left.outputs[0].get(..left.word(4).div_ceil(8)) {
             Some(payload) if left.is_accepted() => {
                 Case::read(&[], case.root, payload.to_vec(), case.inputs[1].len(), case.inputs[2].len())
             }
@@ -129,9 +144,11 @@ fn put_control(rng: &mut Rng, case: &mut Case) {
 
 /// Lengths coded or not, element by element.
 fn other_flags(rng: &mut Rng, case: &mut Case) {
-    if case.call == Call::Write {
+    if matches!(case.call, Call::Write | Call::WriteLengths) {
         let (mode, among) = rng.pick(&[(0, 1), (1, 2), (1, 2), (2, 2)]);
-        case.mode = mode + (case.mode & bim::CASTING);
+        if case.call == Call::Write {
+            case.mode = mode + (case.mode & bim::CASTING);
+        }
         for event in
             case.inputs[1].chunks_exact_mut(bim::EVENT).filter(|event| event[..4] == bim::KIND_START.to_be_bytes())
         {
@@ -144,7 +161,7 @@ fn change_content(rng: &mut Rng, case: &mut Case) {
     match case.call {
         Call::Check => change_table(rng, case),
         Call::Read => damage_payload(rng, &mut case.inputs[1]),
-        Call::Write => {
+        Call::Write | Call::WriteLengths => {
             let mut events: Vec<_> = words_of(&case.inputs[1])
                 .chunks_exact(4)
                 .map(|event| [event[0], event[1], event[2], event[3]])

@@ -23,7 +23,7 @@ const ODD_AREA: usize = 240;
 /// The case that these bytes code.
 pub fn decode(bytes: &[u8]) -> Case {
     let mut rest = Rest(bytes);
-    let call = [Call::Check, Call::Read, Call::Write][usize::from(rest.byte()) % 3];
+    let call = Call::ALL[usize::from(rest.byte()) % Call::ALL.len()];
     let root = (rest.word(), rest.word());
     let mode = rest.word();
     let area = area(rest.word());
@@ -34,9 +34,10 @@ pub fn decode(bytes: &[u8]) -> Case {
         Call::Read => {
             Case { call, root, mode: 0, inputs: vec![table, rest.0.to_vec()], rooms: vec![first, second, area] }
         }
-        Call::Write => {
+        Call::Write | Call::WriteLengths => {
             let odd = rest.byte() % 16;
             let list = rest.words(odd);
+            let mode = if call == Call::Write { mode } else { 0 };
             Case { call, root, mode, inputs: vec![table, list, rest.0.to_vec()], rooms: vec![first, area] }
         }
     }
@@ -66,7 +67,7 @@ fn encode(case: &Case, named: Option<usize>) -> Vec<u8> {
     match case.call {
         Call::Check => {}
         Call::Read => bytes.extend(&case.inputs[1]),
-        Call::Write => {
+        Call::Write | Call::WriteLengths => {
             put_words(&mut bytes, &case.inputs[1]);
             bytes.extend(&case.inputs[2]);
         }

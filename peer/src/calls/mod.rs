@@ -37,14 +37,12 @@ pub struct Reading<'a> {
     pub area: &'a mut [u8],
 }
 
-/// What `bim_write` is given and lent.
+/// What `bim_write` and `bim_write_lengths` are given and lent, but for the mode.
 pub struct Writing<'a> {
     /// Given: the table's bytes.
     pub table: &'a [u8],
     /// Given: root name and type.
     pub root: (u32, u32),
-    /// Given: the mode.
-    pub mode: u32,
     /// Given: the list's bytes.
     pub events: &'a [u8],
     /// Given: the texts.
@@ -55,20 +53,22 @@ pub struct Writing<'a> {
     pub area: &'a mut [u8],
 }
 
-/// The three C calls.
+/// The four C calls.
 pub trait Calls {
     /// `bim_check_table`.
     fn check_table(&self, table: &[u8], area: &mut [u8]) -> u32;
     /// `bim_read`.
     fn read(&self, lent: Reading<'_>) -> u32;
     /// `bim_write`.
-    fn write(&self, lent: Writing<'_>) -> u32;
+    fn write(&self, mode: u32, lent: Writing<'_>) -> u32;
+    /// `bim_write_lengths`.
+    fn write_lengths(&self, lent: Writing<'_>) -> u32;
 }
 
-/// Makes a type of three functions that have the calls' arguments in their order.
+/// Makes a type of four functions that have the calls' arguments in their order.
 #[macro_export]
 macro_rules! calls_of {
-    ($(#[$meta:meta])* $name:ident = $check:path, $read:path, $write:path) => {
+    ($(#[$meta:meta])* $name:ident = $check:path, $read:path, $write:path, $write_lengths:path) => {
         $(#[$meta])*
         pub struct $name;
 
@@ -84,9 +84,15 @@ macro_rules! calls_of {
             }
 
             #[inline(always)]
-            fn write(&self, lent: $crate::calls::Writing<'_>) -> u32 {
-                let $crate::calls::Writing { table, root, mode, events, texts, payload, area } = lent;
+            fn write(&self, mode: u32, lent: $crate::calls::Writing<'_>) -> u32 {
+                let $crate::calls::Writing { table, root, events, texts, payload, area } = lent;
                 $write(table, root.0, root.1, mode, events, texts, payload, area)
+            }
+
+            #[inline(always)]
+            fn write_lengths(&self, lent: $crate::calls::Writing<'_>) -> u32 {
+                let $crate::calls::Writing { table, root, events, texts, payload, area } = lent;
+                $write_lengths(table, root.0, root.1, events, texts, payload, area)
             }
         }
     };
@@ -94,7 +100,7 @@ macro_rules! calls_of {
 
 calls_of! {
     /// The peer's own calls, which judge the others.
-    Judge = host::check_table, host::read, host::write
+    Judge = host::check_table, host::read, host::write, host::write_lengths
 }
 
 /// The named cases, then at least `cases` seeded calls to read and check, as many to write, and as many pairs of tables
@@ -139,7 +145,7 @@ pub fn ask(bench: &mut Bench<'_>, case: &Case) {
     match case.call {
         Call::Check => drop(bench.ask("tables", case)),
         Call::Read => drop(reading::ask(bench, "payloads", case)),
-        Call::Write => drop(writing::ask(bench, "lists", case)),
+        Call::Write | Call::WriteLengths => drop(writing::ask(bench, "lists", case)),
     }
 }
 

@@ -410,7 +410,7 @@ pub fn named(bench: &mut Bench<'_>) {
                 ask(bench, "named payloads, tables of odd length", &longer);
                 rooms_around(bench, &mut rng, &mut base.clone(), &left);
             }
-            Call::Write => {}
+            Call::Write | Call::WriteLengths => {}
         }
     }
 }

@@ -49,7 +49,10 @@ impl Tally {
             Call::Read => {
                 model::read(&table, name, of_type, &case.inputs[1], case.rooms[0] / bim::EVENT, case.rooms[1]).item
             }
-            Call::Write => model::write(&table, name, of_type, case.mode, &words(1), &case.inputs[2], case.rooms[0]).1,
+            Call::Write | Call::WriteLengths => {
+                let mode = case.mode_in_effect();
+                model::write(&table, name, of_type, mode, &words(1), &case.inputs[2], case.rooms[0]).1
+            }
         };
         if !item.is_empty() {
             self.casts.count(item, number);

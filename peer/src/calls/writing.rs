@@ -28,8 +28,20 @@ pub fn round(bench: &mut Bench<'_>, rng: &mut Rng) {
     }
 }
 
-/// Asks, and reads back what was written.
+/// Asks, and of some lists the short call too, which leaves the same where the mode is 2.
 pub fn ask(bench: &mut Bench<'_>, kind: &'static str, case: &Case) -> Left {
+    let left = ask_once(bench, kind, case);
+    if case.call == Call::Write && bench.cases().is_multiple_of(4) {
+        let short = ask_once(bench, "by the short call", &case.clone().without_mode());
+        bench.hold(case, case.mode != bim::MODE_ALWAYS || short == left, || {
+            format!("the short call leaves {short:02x?}")
+        });
+    }
+    left
+}
+
+/// Asks, and reads back what was written.
+fn ask_once(bench: &mut Bench<'_>, kind: &'static str, case: &Case) -> Left {
     let left = bench.ask(kind, case);
     if left.is_accepted() {
         read_back(bench, case, &left);
@@ -210,6 +222,10 @@ fn texts(bench: &mut Bench<'_>, rng: &mut Rng) {
     }
 }
 
+fn set_flags(events: &mut [[u32; 4]], flag: u32) {
+    events.iter_mut().filter(|event| event[0] == bim::KIND_START).for_each(|event| event[2] = flag);
+}
+
 fn modes(bench: &mut Bench<'_>, rng: &mut Rng) {
     let (table, mut sample) = table_and_sample(rng, 0);
     for mode in [0, 1, 2, 3, 4, 5, 6, 7, edge_word(rng)] {
@@ -219,7 +235,7 @@ fn modes(bench: &mut Bench<'_>, rng: &mut Rng) {
         ask(bench, "every mode", &case);
         // The same list as this mode has it.
         let flag = if rng.one_in(3) { rng.below(2) as u32 } else { (mode % bim::CASTING).min(2) / 2 };
-        sample.events.iter_mut().filter(|event| event[0] == bim::KIND_START).for_each(|event| event[2] = flag);
+        set_flags(&mut sample.events, flag);
         put_list(&mut case, &sample.events);
         ask(bench, "every mode", &case);
     }
@@ -303,6 +319,11 @@ fn deep(bench: &mut Bench<'_>, rng: &mut Rng) {
     };
     let mut case = Case::write_sample(&table, &sample);
     ask(bench, "deep lists", &case);
+    let mut short = case.clone().without_mode();
+    let mut sized = sample.events.clone();
+    set_flags(&mut sized, 1);
+    put_list(&mut short, &sized);
+    ask(bench, "deep lists, by the short call", &short);
     for _ in 0..2 {
         damage_list(rng, &mut sample.events, &mut sample.texts);
         put_list(&mut case, &sample.events);
@@ -326,11 +347,13 @@ fn large(bench: &mut Bench<'_>, rng: &mut Rng) {
 /// The named cases, and their neighbours.
 pub fn named(bench: &mut Bench<'_>) {
     let mut rng = Rng::new(0);
-    for base in super::named().into_iter().filter(|case| case.call == Call::Write) {
+    let writes = |case: &Case| matches!(case.call, Call::Write | Call::WriteLengths);
+    for base in super::named().into_iter().filter(writes) {
         let room = base.rooms[0];
         ask(bench, "named lists", &base);
+        ask(bench, "named lists, by the short call", &base.clone().without_mode());
         for mode in 0..8 {
-            ask(bench, "named lists, other modes", &Case { mode, ..base.clone() });
+            ask(bench, "named lists, other modes", &Case { call: Call::Write, mode, ..base.clone() });
         }
         for rooms in [
             [room, 0],

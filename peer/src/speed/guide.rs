@@ -119,6 +119,12 @@ pub fn guide(programmes: u32) -> Input {
     Input::new(&format!("guide of {programmes} programmes"), rows(), (GUIDE, 0), filled(list, programmes, false))
 }
 
+/// The same with a length for every element.
+pub fn guide_with_lengths(programmes: u32) -> Input {
+    let list = filled(List::new(bim::MODE_ALWAYS, |_| true), programmes, false);
+    Input::new(&format!("guide of {programmes} programmes, every length"), rows(), (GUIDE, 0), list)
+}
+
 /// A guide whose programmes, titles and synopses are cast and substituted in every way that there is.
 pub fn cast_guide(programmes: u32) -> Input {
     let list = filled(List::new(bim::CASTING + bim::MODE_ALWAYS, |_| true), programmes, true);

@@ -1,6 +1,6 @@
 //! The calls to be timed: a table, a root, and a list with its payload; or a payload and a list that are refused at their end.
 
-use super::guide::{cast_guide, guide};
+use super::guide::{cast_guide, guide, guide_with_lengths};
 use crate::bim;
 use crate::call::Write;
 use crate::calls::Case;
@@ -78,8 +78,8 @@ impl Input {
 }
 
 fn worked() -> Input {
-    let Write { table, root, mode, events, texts, .. } = cases::worked_list();
-    let mut list = List::new(*mode, |_| true);
+    let Write { table, root, events, texts, .. } = cases::worked_list();
+    let mut list = List::new(bim::MODE_ALWAYS, |_| true);
     list.events = events.as_chunks().0.to_vec();
     list.texts.clone_from(texts);
     Input::new("worked example", Rows::of(table), *root, list)
@@ -186,6 +186,11 @@ pub fn standard() -> Vec<Input> {
         cast_guide(50),
         chain("64 rows open", 64).padded(),
     ]
+}
+
+/// What the short call is timed on: a list that has every length.
+pub fn with_lengths() -> Input {
+    guide_with_lengths(50)
 }
 
 /// Inputs that grow in one measure.

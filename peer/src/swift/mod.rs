@@ -7,7 +7,7 @@ mod table;
 mod writing;
 
 pub use reading::read;
-pub use writing::write;
+pub use writing::{write, write_lengths};
 
 use crate::bim;
 

@@ -47,6 +47,19 @@ pub fn write(
     }
 }
 
+/// The short call: writes a list in mode 2, whatever the table has.
+pub fn write_lengths(
+    table: &[u8],
+    root_name: u32,
+    root_type: u32,
+    events: &[u8],
+    texts: &[u8],
+    payload: &mut [u8],
+    area: &mut [u8],
+) -> u32 {
+    write(table, root_name, root_type, bim::MODE_ALWAYS, events, texts, payload, area)
+}
+
 /// What comes before the list: 1, 2, 22.
 fn begin(table: &[u8], root_name: u32, root_type: u32, mode: u32) -> Result<Table<'_>, (u32, usize)> {
     let table = Table::new(table).map_err(|word| (bim::TABLE, word))?;

@@ -49,6 +49,20 @@ extern "C" {
         area: *mut u8,
         area_len: usize,
     ) -> u32;
+    fn bim_write_lengths(
+        table: *const u8,
+        table_len: usize,
+        root_name: u32,
+        root_type: u32,
+        events: *const u8,
+        events_len: usize,
+        texts: *const u8,
+        texts_len: usize,
+        payload: *mut u8,
+        payload_len: usize,
+        area: *mut u8,
+        area_len: usize,
+    ) -> u32;
 }
 
 /// The proved library.
@@ -99,8 +113,8 @@ impl Calls for Library {
         }
     }
 
-    fn write(&self, lent: Writing<'_>) -> u32 {
-        let Writing { table, root, mode, events, texts, payload, area } = lent;
+    fn write(&self, mode: u32, lent: Writing<'_>) -> u32 {
+        let Writing { table, root, events, texts, payload, area } = lent;
         unsafe {
             bim_write(
                 self.given(table),
@@ -108,6 +122,26 @@ impl Calls for Library {
                 root.0,
                 root.1,
                 mode,
+                self.given(events),
+                events.len(),
+                self.given(texts),
+                texts.len(),
+                self.lent(payload),
+                payload.len(),
+                self.lent(area),
+                area.len(),
+            )
+        }
+    }
+
+    fn write_lengths(&self, lent: Writing<'_>) -> u32 {
+        let Writing { table, root, events, texts, payload, area } = lent;
+        unsafe {
+            bim_write_lengths(
+                self.given(table),
+                table.len(),
+                root.0,
+                root.1,
                 self.given(events),
                 events.len(),
                 self.given(texts),

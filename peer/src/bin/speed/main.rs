@@ -9,7 +9,7 @@ mod sides;
 mod times;
 
 use peer::calls::{Call, Case};
-use peer::speed::{growing, standard};
+use peer::speed::{growing, standard, with_lengths, Input};
 
 /// A call to be measured, and where it stands on the page.
 pub struct Item {
@@ -37,14 +37,23 @@ pub enum Part {
 /// Everything that is measured, in order.
 fn items() -> Vec<Item> {
     let mut items = vec![];
-    for input in standard() {
+    let mut add = |input: &Input, words: usize, cases: [Case; 2]| {
         let (bytes, events) = input.sizes();
-        for table in input.tables() {
-            for case in [input.reading(&table), input.writing(&table)] {
-                let size = format!("{bytes}, {events}");
-                items.push(Item { name: input.name.clone(), size, words: table.len(), case, part: Part::Inputs });
-            }
+        for case in cases {
+            let size = format!("{bytes}, {events}");
+            items.push(Item { name: input.name.clone(), size, words, case, part: Part::Inputs });
         }
+    };
+    for input in standard() {
+        for table in input.tables() {
+            add(&input, table.len(), [input.reading(&table), input.writing(&table)]);
+        }
+    }
+    // The two calls that write, side by side.
+    let input = with_lengths();
+    for table in input.tables() {
+        let named = input.writing(&table);
+        add(&input, table.len(), [named.clone(), named.without_mode()]);
     }
     for growth in growing() {
         for call in [Call::Read, Call::Write] {

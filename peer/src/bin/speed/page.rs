@@ -114,9 +114,9 @@ fn machine() -> String {
 }
 
 fn verb(item: &Item) -> &'static str {
-    if item.case.call == Call::Read {
-        "read"
-    } else {
-        "write"
+    match item.case.call {
+        Call::Read => "read",
+        Call::WriteLengths => "write, short call",
+        _ => "write",
     }
 }

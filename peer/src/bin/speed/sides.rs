@@ -22,8 +22,11 @@ pub enum Side {
 pub const SIDES: [Side; 4] = [Side::Proved, Side::Peer, Side::Plain, Side::Judge];
 
 /// The functions whose instructions count.
-pub const FUNCTIONS: [&str; 7] =
-    ["bim_read", "bim_write", "swift_read", "swift_write", "plain_pass", "judge_read", "judge_write"];
+#[rustfmt::skip]
+pub const FUNCTIONS: [&str; 10] = [
+    "bim_read", "bim_write", "bim_write_lengths", "swift_read", "swift_write", "swift_write_lengths", "plain_pass",
+    "judge_read", "judge_write", "judge_write_lengths",
+];
 
 /// A case's buffers, the same for every side.
 pub struct Buffers {
@@ -98,7 +101,7 @@ fn convert(bytes: &[u8], words: &mut [u32]) {
 
 /// The calls of a module under names that callgrind can tell apart.
 macro_rules! counted {
-    ($name:ident of $module:ident: $read:ident, $write:ident) => {
+    ($name:ident of $module:ident: $read:ident, $write:ident, $write_lengths:ident) => {
         #[no_mangle]
         #[inline(never)]
         #[allow(clippy::too_many_arguments)] // the boundary's names and order are fixed
@@ -130,9 +133,23 @@ macro_rules! counted {
             $module::write(table, root_name, root_type, mode, events, texts, payload, area)
         }
 
-        calls_of!($name = $module::check_table, $read, $write);
+        #[no_mangle]
+        #[inline(never)]
+        fn $write_lengths(
+            table: &[u8],
+            root_name: u32,
+            root_type: u32,
+            events: &[u8],
+            texts: &[u8],
+            payload: &mut [u8],
+            area: &mut [u8],
+        ) -> u32 {
+            $module::write_lengths(table, root_name, root_type, events, texts, payload, area)
+        }
+
+        calls_of!($name = $module::check_table, $read, $write, $write_lengths);
     };
 }
 
-counted!(Swift of swift: swift_read, swift_write);
-counted!(Judge of host: judge_read, judge_write);
+counted!(Swift of swift: swift_read, swift_write, swift_write_lengths);
+counted!(Judge of host: judge_read, judge_write, judge_write_lengths);

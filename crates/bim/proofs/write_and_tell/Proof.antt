@@ -1,8 +1,8 @@
--- `bim_write`: areaSize, or the writing of bytes told in the area.
+-- `write_and_tell`: areaSize, or the writing of bytes told in the area.
 use Rattle.bim.proofs.Lists.{write-unlent, write-told}
 use borrow.Author.Needs.{needs}
-use Rattle.bim.proofs.bim_write.Statement.{statement}
-use Rattle.bim.proofs.bim_write.Tie as tie
+use Rattle.bim.proofs.write_and_tell.Statement.{statement}
+use Rattle.bim.proofs.write_and_tell.Tie as tie
 
 clear-requires : tie.Need-clear-requires
 clear-requires c κs = search needs
@@ -42,8 +42,8 @@ returns-2 c =
     let a = e .before .before .before .before .before .before .args in
     write-told _ _ _ _ _ _ (a .payload .now) (a .area .now) _ _ (d .write-bytes .result) _ (e .if1 .left) (d .write-bytes .ensures) (c .before .before .tell-written .ensures)
 
-pub bim-write-spec : {M : Type 1} → statement M
-bim-write-spec =
+pub write-and-tell-spec : {M : Type 1} → statement M
+write-and-tell-spec =
     tie.close
     (tie.spec
     clear-requires
