@@ -192,7 +192,12 @@ uint32_t bim_check_table(const uint8_t *table, size_t table_bytes,
  *
  * Refusals come in this order: 24, 1, 2, 3, 4, then 5 to 16 and 25 item by item, then 17. A text's bytes are judged for 16, then 25, then
  * its room (8, 7); a text in an element that is stepped over is not judged. An element's codes are judged (5, 14) before its type and the
- * room for its Start are (9, 7), without the element in the path. */
+ * room for its Start are (9, 7), without the element in the path.
+ *
+ * NO PAYLOAD BEGINS ANOTHER of the same table and root, so payloads that stand one behind the other come apart in one way, by this call.
+ * Bytes behind a payload, 8,192 with it at most, make its number BIM_LEFT_OVER and its place the bits that it has by itself: on
+ * BIM_LEFT_OVER at p the first payload is the first (p + 7) / 8 bytes. Read these again by themselves, as nothing of them was given and
+ * their padding has not been judged: where they are refused there was no payload. */
 uint32_t bim_read(const uint8_t *table, size_t table_bytes,
                   uint32_t root_name, uint32_t root_type,
                   const uint8_t *payload, size_t payload_bytes,

@@ -167,8 +167,24 @@ pub fn read(tally: &mut Tally, call: &Read) -> Result<Outcome, String> {
         } else {
             written_back(tally, call, &outcome)?;
         }
+        ends_by_itself(call, &outcome)?;
     }
     Ok(outcome)
+}
+
+/// No payload begins another: followed by itself it is refused where it ends, in the same room, and is what is cut there.
+fn ends_by_itself(call: &Read, outcome: &Outcome) -> Result<(), String> {
+    let butted = call.payload.repeat(2);
+    let used = outcome.answer.bits;
+    let mut events = vec![0; call.event_words];
+    let answer =
+        reader::read(&call.table, call.root.0, call.root.1, &butted, &mut events, &mut vec![0; call.text_room]);
+    let left = Answer::refused(refusal(bim::LEFT_OVER, used), Path::empty());
+    let long = Answer::refused(refusal(bim::PAYLOAD_SIZE, 0), Path::empty());
+    let expected = if butted.len() > bim::MOST_PAYLOAD { long } else { left };
+    demand(answer == expected && used.div_ceil(8) == call.payload.len(), || {
+        format!("{outcome:?}, and followed by itself {answer:?}")
+    })
 }
 
 /// A Blank's codes are the only bits of it that are looked at: with all others turned over, the reading is the same.

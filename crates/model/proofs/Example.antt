@@ -309,9 +309,34 @@ controlCases =
     ∷ (writesIn 0 labelled (event 1 10 0 0 ∷ event 2 20 1 0 ∷ event 3 1 0 0 ∷ event 6 0 0 0 ∷ []) (11 ∷ []) ⇒ refuses 25 2 [])
     ∷ []
 
+-- request 10's table: one type, a text that is not held; what a payload of it is read as
+unfoldable pub unspoken : List ℕ
+unspoken = 1 ∷ 1 ∷ 0 ∷ 0 ∷ 0 ∷ 1 ∷ 0 ∷ 0 ∷ 5 ∷ 0 ∷ 0 ∷ []
+
+unfoldable pub steppedOver : (last taken used : ℕ) → Case
+steppedOver last taken used = payload unspoken 1 (0x8F ∷ last ∷ []) ⇒ lists (mode Lengths.always false) (event 7 1 0 taken ∷ []) [] used
+
+unfoldable pub said : (last v : ℕ) → Case
+said last v = payload (simply 0) 1 (0x0F ∷ last ∷ []) ⇒ lists (mode Lengths.never false) (event 1 1 0 0 ∷ event 3 v 0 1 ∷ event 6 0 0 0 ∷ []) [] 9
+
+-- and its examples: what is butted is refused at the end of the first, also where what follows is no payload; eight payloads have one list with a
+-- Blank, and so have two of the worked example, which differ by a bit in it
+unfoldable pub buttedCases : List Case
+buttedCases =
+    said 0x00 0 ∷ said 0x80 1
+    ∷ (payload (simply 0) 1 (0x0F ∷ 0x80 ∷ 0x0F ∷ 0x00 ∷ []) ⇒ refuses 17 9 [])
+    ∷ (payload (simply 0) 1 (0x0F ∷ 0x81 ∷ []) ⇒ refuses 17 9 [])
+    ∷ steppedOver 0x18 8 16 ∷ steppedOver 0x19 8 16 ∷ steppedOver 0x1A 8 16 ∷ steppedOver 0x1B 8 16
+    ∷ steppedOver 0x1C 8 16 ∷ steppedOver 0x1D 8 16 ∷ steppedOver 0x1E 8 16 ∷ steppedOver 0x1F 8 16
+    ∷ steppedOver 0x00 5 13 ∷ steppedOver 0x10 7 15
+    ∷ (payload (words 1) 10 (worked 0xAA 0x20 ++ worked 0xAA 0x20) ⇒ refuses 17 68 [])
+    ∷ (payload (words 0) 10 (0x8F ∷ 0x8C ∷ 0xAA ∷ 0x15 ∷ 0x12 ∷ 0x42 ∷ 0x4E ∷ 0x0C ∷ 0x20 ∷ [])
+    ⇒ lists (mode Lengths.always false) (front ++ (blank ∷ back)) [] 68)
+    ∷ []
+
 unfoldable pub all : List Case
-all = proved ++ (beside ++ (castCases ++ (paddedCases ++ controlCases)))
+all = proved ++ (beside ++ (castCases ++ (paddedCases ++ (controlCases ++ buttedCases))))
 
 pub cases : map (λ (c : Case). shown (c .ask)) all ≡ map (λ (c : Case). c .comes) all
-unfolding all spoken labelled bell controlCases words hollow tangle worked front back list blank shownRes shownReply shownMade shown nest castRows cast casted castList castCases proved beside Model.chosen Model.defaultType Model.effectiveType Model.sends Model.codes Items.substituteCode Items.typeCode Items.codesAt Read.castAt Write.placeIn Write.standing Write.codesOut Write.casts Whole.lengthsNumber Whole.modesFor Whole.modeBy Simple.oneOf Valid.derivedWords Valid.substituteWords Valid.among Valid.once Valid.wordsFrom Valid.typePair Valid.rowPair Valid.derivedRow Valid.substituteRow Valid.typePairRow Valid.rowPairRow Valid.castWords Valid.formWords Valid.formSize Valid.countWords Valid.lengthRight Rows.substitutesFrom Rows.substitutesOf Rows.derivedFrom Rows.derivedOf Model.eventOf Model.value Model.maybe Model.attribute Model.attributes Model.contents Model.rows Model.within Model.due Model.plan Model._then_ Model.flagOf Model.events Model.texts Model.treeSlots Model.treeBytes Model.treeBits Items.formOf Items.formAt Items.itemAt Items.lengthAt Items.headAt Read.onto Read.after Read.code Read.kept Read.stored Read.met Read.ended Read.closed Read.entered Read.bare Read.sized Read.opened Read.elementAt Read.read Write.put Write.along Write.unlike Write.matched Write.taken Write.wordOf Write.flagIn Write.simpleOut Write.formOut Write.itemOut Write.coded Write.headOut Write.sealed Write.tooDeep Write.allowed Write.elementOut Write.write Pack.pack Whole.modeByte Whole.modeNumber Whole.modeOf Whole.zeros Whole.padding Whole.padded Whole.replied Whole.rootIn Whole.inMode Whole.payload Whole.asked Whole.afterAsked Whole.afterVerdict Whole.reading Whole.eventWords Whole.filled Whole.outcome Whole.eventsLeft Whole.textsLeft Whole.eventsFrom Whole.roomed Whole.spent Whole.modeAsked Whole.shaped Whole.written Whole.orUnmade Whole.verdictMade Whole.writing Whole.outcomeMade Whole.payloadLeft Code.HasCode Code.bitsOf Code.choiceAt Code.numberAt Code.signedOf Code.someOf Code.codeAt Code.fits Code.codeOut Code.sizeOut Simple.spanCode Simple.rangeCode Simple.unboundedCode Simple.boundedCode Simple.timesCode Simple.simpleOf Simple.bytes Simple.bytesAt Simple.unless Simple.textOf Simple.simpleAt First.first First._then_ First.judge Valid.given Valid.headerWords Valid.frontWords Valid.unusedWords Valid.rangeWords Valid.enumerationWords Valid.kindWords Valid.emptyWords Valid.simpleWords Valid.particlesWords Valid.contentWords Valid.attributeWords Valid.elementWords Valid.groupWords Valid.occursWords Valid.particleWords Valid.rows Valid.typeRow Valid.attributeRow Valid.particleRow Valid.rowWords Valid.verdictFrom Valid.verdict Valid.rightAt Rows.contentFrom Rows.rowFrom Rows.contentOf Rows.rowAt Rows.rowOf Rows.attributeOf Rows.attributesFrom Rows.firstOf Rows.countOf Rows.attributesOf Rows.tableOf Rows.heldOf Res._>>=_ Res._>>_ Res.guard Res.atMost Bits.bitAt Bits.num Bits.fixedAt Bits.digits Width.leastFrom Width.width Number.onesAt Number.isShort Number.groupsAt Number.number5 Number.second8At Number.number8 Number.strict Number.read5 Number.read8 Number.more Number.codeOf5 Number.code5 Number.code8 utf8.has utf8.lines utf8.begun utf8.open-lines utf8.goesOn utf8.isControl utf8.hasControl utf8.faultOf utf8.textFault signed.gapOf signed.signOf signed.magnitudeOf signed.wordOf signed.wrapped simply sized threeGroups twoGroups eightGroups innerPadded paddedCases shownBack
+unfolding all spoken labelled bell controlCases words hollow tangle worked front back list blank shownRes shownReply shownMade shown nest castRows cast casted castList castCases proved beside Model.chosen Model.defaultType Model.effectiveType Model.sends Model.codes Items.substituteCode Items.typeCode Items.codesAt Read.castAt Write.placeIn Write.standing Write.codesOut Write.casts Whole.lengthsNumber Whole.modesFor Whole.modeBy Simple.oneOf Valid.derivedWords Valid.substituteWords Valid.among Valid.once Valid.wordsFrom Valid.typePair Valid.rowPair Valid.derivedRow Valid.substituteRow Valid.typePairRow Valid.rowPairRow Valid.castWords Valid.formWords Valid.formSize Valid.countWords Valid.lengthRight Rows.substitutesFrom Rows.substitutesOf Rows.derivedFrom Rows.derivedOf Model.eventOf Model.value Model.maybe Model.attribute Model.attributes Model.contents Model.rows Model.within Model.due Model.plan Model._then_ Model.flagOf Model.events Model.texts Model.treeSlots Model.treeBytes Model.treeBits Items.formOf Items.formAt Items.itemAt Items.lengthAt Items.headAt Read.onto Read.after Read.code Read.kept Read.stored Read.met Read.ended Read.closed Read.entered Read.bare Read.sized Read.opened Read.elementAt Read.read Write.put Write.along Write.unlike Write.matched Write.taken Write.wordOf Write.flagIn Write.simpleOut Write.formOut Write.itemOut Write.coded Write.headOut Write.sealed Write.tooDeep Write.allowed Write.elementOut Write.write Pack.pack Whole.modeByte Whole.modeNumber Whole.modeOf Whole.zeros Whole.padding Whole.padded Whole.replied Whole.rootIn Whole.inMode Whole.payload Whole.asked Whole.afterAsked Whole.afterVerdict Whole.reading Whole.eventWords Whole.filled Whole.outcome Whole.eventsLeft Whole.textsLeft Whole.eventsFrom Whole.roomed Whole.spent Whole.modeAsked Whole.shaped Whole.written Whole.orUnmade Whole.verdictMade Whole.writing Whole.outcomeMade Whole.payloadLeft Code.HasCode Code.bitsOf Code.choiceAt Code.numberAt Code.signedOf Code.someOf Code.codeAt Code.fits Code.codeOut Code.sizeOut Simple.spanCode Simple.rangeCode Simple.unboundedCode Simple.boundedCode Simple.timesCode Simple.simpleOf Simple.bytes Simple.bytesAt Simple.unless Simple.textOf Simple.simpleAt First.first First._then_ First.judge Valid.given Valid.headerWords Valid.frontWords Valid.unusedWords Valid.rangeWords Valid.enumerationWords Valid.kindWords Valid.emptyWords Valid.simpleWords Valid.particlesWords Valid.contentWords Valid.attributeWords Valid.elementWords Valid.groupWords Valid.occursWords Valid.particleWords Valid.rows Valid.typeRow Valid.attributeRow Valid.particleRow Valid.rowWords Valid.verdictFrom Valid.verdict Valid.rightAt Rows.contentFrom Rows.rowFrom Rows.contentOf Rows.rowAt Rows.rowOf Rows.attributeOf Rows.attributesFrom Rows.firstOf Rows.countOf Rows.attributesOf Rows.tableOf Rows.heldOf Res._>>=_ Res._>>_ Res.guard Res.atMost Bits.bitAt Bits.num Bits.fixedAt Bits.digits Width.leastFrom Width.width Number.onesAt Number.isShort Number.groupsAt Number.number5 Number.second8At Number.number8 Number.strict Number.read5 Number.read8 Number.more Number.codeOf5 Number.code5 Number.code8 utf8.has utf8.lines utf8.begun utf8.open-lines utf8.goesOn utf8.isControl utf8.hasControl utf8.faultOf utf8.textFault signed.gapOf signed.signOf signed.magnitudeOf signed.wordOf signed.wrapped simply sized threeGroups twoGroups eightGroups innerPadded paddedCases shownBack unspoken steppedOver said buttedCases
 cases = refl

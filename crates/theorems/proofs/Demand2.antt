@@ -149,17 +149,17 @@ module _ (l : List ℕ) (name type : ℕ) where
       }
 
   -- what was read, as what can be written: its list's shape, its bits, and how long the payload is by them
-  record Had (s : List ℕ) (words bytes : ℕ) (mode : Mode) (ns : Nodes) (used : ℕ) : Type 0 where
-    enters : Entered l name type
-    payload : PayloadIs (heldOf l) (planOf l name type) (tableOf l .derivations) s (roomOf words bytes) mode ns used
-    shape : Shaped (eventWords (events ns))
-    size : length s ≡ bytesFor (payload .found .bits)
-    few : length s ≤ 8192
-    bits-used : used ≡ 8 + length (payload .found .bits)
-    words-fit : length (eventWords (events ns)) ≤ words
-    bytes-fit : length (texts ns) ≤ bytes
+  pub record Had (s : List ℕ) (words bytes : ℕ) (mode : Mode) (ns : Nodes) (used : ℕ) : Type 0 where
+    pub enters : Entered l name type
+    pub payload : PayloadIs (heldOf l) (planOf l name type) (tableOf l .derivations) s (roomOf words bytes) mode ns used
+    pub shape : Shaped (eventWords (events ns))
+    pub size : length s ≡ bytesFor (payload .found .bits)
+    pub few : length s ≤ 8192
+    pub bits-used : used ≡ 8 + length (payload .found .bits)
+    pub words-fit : length (eventWords (events ns)) ≤ words
+    pub bytes-fit : length (texts ns) ≤ bytes
 
-  had : (s : List ℕ) (words bytes : ℕ) (mode : Mode) (ns : Nodes) (used : ℕ) → reading l name type s words bytes ≡ accepted mode ns used → Had s words bytes mode ns used
+  pub had : (s : List ℕ) (words bytes : ℕ) (mode : Mode) (ns : Nodes) (used : ℕ) → reading l name type s words bytes ≡ accepted mode ns used → Had s words bytes mode ns used
   had s words bytes mode ns used e =
       let f = reading-found l name type s words bytes mode ns used e in
       let i = payload-found (heldOf l) (planOf l name type) (tableOf l .derivations) s (roomOf words bytes) mode ns used (f .reads) in

@@ -15,6 +15,7 @@ mod One
 mod Own
 mod Parts
 mod Payload
+pub mod Prefix
 pub mod Reader
 mod Shorter
 mod Shortest

@@ -20,7 +20,7 @@ use Rattle.theorems.specs.Unseen.{Unseen}
 use Rattle.theorems.proofs.Unseen.{unseen-within, blank-unseen}
 
 -- the first byte is its bits
-first-byte : (s : List ℕ) → AllBytes s → 1 ≤ length s → getD s 0 0 ≡ num (bitAt s) 0 8
+pub first-byte : (s : List ℕ) → AllBytes s → 1 ≤ length s → getD s 0 0 ≡ num (bitAt s) 0 8
 first-byte [] o h = absurd (omega arith)
 first-byte (x ∷ s) o h = sym (byte-num x s (o .0))
 

@@ -10,6 +10,7 @@ pub mod One
 pub mod Open
 pub mod Own
 pub mod Payload
+pub mod Prefix
 pub mod Reader
 pub mod Shortest
 pub mod Sound

@@ -33,13 +33,25 @@ pub fn round(bench: &mut Bench<'_>, rng: &mut Rng) {
     }
 }
 
-/// Asks, and has a reading without blanks written back.
+/// Asks; what is accepted is written back where it has no blanks, and asked once more followed by itself.
 pub fn ask(bench: &mut Bench<'_>, kind: &'static str, case: &Case) -> Left {
     let left = bench.ask(kind, case);
     if left.is_accepted() {
         written_back(bench, case, &left);
+        ends_by_itself(bench, case, &left);
     }
     left
+}
+
+/// No payload begins another: followed by itself it is refused where it ends, or with both is too long.
+fn ends_by_itself(bench: &mut Bench<'_>, case: &Case, left: &Left) {
+    let mut butted = case.clone();
+    butted.inputs[1] = case.inputs[1].repeat(2);
+    let long = butted.inputs[1].len() > bim::MOST_PAYLOAD;
+    let expected = if long { (bim::PAYLOAD_SIZE, 0) } else { (bim::LEFT_OVER, left.word(4)) };
+    let got = bench.ask_aside("followed by itself", &butted);
+    let ends = (got.number, got.word(0)) == expected && left.word(4).div_ceil(8) == case.inputs[1].len();
+    bench.hold(case, ends, || format!("followed by itself: {got:02x?}"));
 }
 
 /// Demand 2: bytes read without blanks are written back, identically where every TheLength is shortest. Else fewer bits are written, and
