@@ -24,7 +24,7 @@ pub const NOT_HELD: u32 = 9;
 pub const LENGTH: u32 = 10;
 // Content ends before its declared end.
 pub const CONTENT_SHORT: u32 = 11;
-// A number is not in shortest form.
+// A number is not in shortest form; a TheLength may be padded.
 pub const NOT_SHORTEST: u32 = 12;
 // A number is too large.
 pub const TOO_LARGE: u32 = 13;
