@@ -6,13 +6,13 @@ CFLAGS = -O2
 # What every C file here is compiled with, besides.
 STRICT = -std=c99 -pedantic -Wall -Wextra -Wconversion -Wsign-conversion -Werror -Iinclude -Itools
 ARCHIVE = target/staticlib/libbim.a
-PROGRAMS = host lengths explain holds pack
-TRIALS = refusals faults bits exact stack
+PROGRAMS = host lengths explain holds mark pack
+TRIALS = refusals faults bits exact threads stack
 # The programs whose C code runs under the sanitizers. Not stack: it brings a stack of its own, of which they know nothing.
-SANITIZED = $(PROGRAMS) refusals faults bits exact header
+SANITIZED = $(PROGRAMS) refusals faults bits exact threads header
 SANITIZERS = -O1 -g -fsanitize=$(SANITIZE) -fno-sanitize-recover=all
 export SANITIZE = address,undefined
-VERSION = 1.0
+VERSION = 2.0
 
 # The archive is for x86-64. On another processor what is linked with it is compiled for that, and run under an emulator, by tests/emulated/bin.
 ifneq ($(shell uname -m),x86_64)
@@ -42,6 +42,9 @@ target/c/%: %.c $(ARCHIVE) $(wildcard include/*.h tools/*.h tests/*.h)
 	@mkdir -p target/c
 	$(CC) $(STRICT) $(CFLAGS) $< $(ARCHIVE) -o $@
 
+# Two threads, by POSIX.
+target/c/threads target/sanitized/threads: STRICT += -pthread
+
 target/sanitized/%: %.c $(ARCHIVE) $(wildcard include/*.h tools/*.h tests/*.h)
 	@mkdir -p target/sanitized
 	$(CC) $(STRICT) $(SANITIZERS) $< $(ARCHIVE) -o $@
@@ -70,12 +73,12 @@ quotes: host $(TRIALS:%=target/c/%)
 	bash tests/quotes --write
 
 # The C side under AddressSanitizer and UndefinedBehaviorSanitizer, the C calls and a sample of the comparison under valgrind: a part of the gate.
-sanitized: peer/target/release/calls $(SANITIZED:%=target/sanitized/%) target/c/exact target/c/host
+sanitized: peer/target/release/calls $(SANITIZED:%=target/sanitized/%) target/c/exact target/c/threads target/c/host
 	bash tests/sanitized
 
 # The stack that each call needs, held to BIM_STACK.
 stack: target/c/stack
-	target/c/stack examples/tables.txt examples/payloads.txt examples/lists.txt
+	target/c/stack examples/tables.txt examples/payloads.txt examples/lists.txt examples/settings.txt
 	bash tests/frames $(ARCHIVE)
 
 # The proved C calls under libFuzzer, the peer judging: make fuzz SECONDS=600.

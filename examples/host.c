@@ -1,10 +1,10 @@
 /* A small receiver: reads a table file and payload files, and prints each listing as indented text.
  *
- *     host [-n NAMES] TABLE ROOT_NAME ROOT_TYPE PAYLOAD..
+ *     host [-n NAMES] [-p PARTY] TABLE ROOT_NAME ROOT_TYPE PAYLOAD..
  *
- * A names file has a number and a word on each line; without one, names are shown as numbers. An element whose type is not held is
- * shown as what it is, a hole: [not held: name, type, n bits]. Beside an element that is cast or substituted stands what is in effect:
- * [type 2], or [as name, type 2]. An enumeration is shown as #index.
+ * It reads as the party named, 0 where none is. A names file has a number and a word on each line; without one, names are shown as numbers.
+ * An element whose type the party does not hold is shown as what it is, a hole: [not held: name, type, n bits]. Beside an element that is cast
+ * or substituted stands what is in effect: [type 2], or [as name, type 2]. An enumeration is shown as #index.
  * Exit status: 0 all were read, 1 some were refused, 2 a file or the table is no good, 3 a list does not fit its table (never seen). */
 #include <stdio.h>
 #include <stdlib.h>
@@ -14,6 +14,7 @@
 
 static uint8_t table[BIM_MOST_TABLE + 4], payload[BIM_MOST_PAYLOAD + 1];
 static uint8_t events[BIM_MOST_EVENTS * BIM_EVENT], texts[BIM_MOST_PAYLOAD], area[BIM_AREA];
+static uint32_t party;     /* who reads */
 static uint32_t at;        /* the event that is next */
 static const uint8_t *text; /* the text that is next */
 
@@ -166,7 +167,7 @@ static void show_refusal(uint32_t number)
 {
     uint32_t i;
     printf("refused %lu, %s", (unsigned long)number, bim_refusal_name(number));
-    if (number >= BIM_PAST_END)
+    if (number >= BIM_PAST_END && number != BIM_PARTY)
         printf(", at bit %lu", (unsigned long)bim_area_place(area));
     for (i = 0; i < bim_area_names(area); i++)
         printf("%s%s", i == 0 ? ", in " : "/", name_of(bim_area_name(area, i)));
@@ -176,7 +177,7 @@ static void show_refusal(uint32_t number)
 /* Reads and shows one payload; answers whether it was read. */
 static int show(uint32_t root_name, uint32_t root_type, size_t table_bytes, size_t payload_bytes)
 {
-    const uint32_t number = bim_read(table, table_bytes, root_name, root_type, payload, payload_bytes,
+    const uint32_t number = bim_read(table, table_bytes, party, root_name, root_type, payload, payload_bytes,
                                      events, sizeof events, texts, sizeof texts, area, sizeof area);
     if (number != BIM_ACCEPTED) {
         show_refusal(number);
@@ -198,8 +199,10 @@ int main(int argc, char **argv)
     uint32_t root_name, root_type;
     int i, status = 0;
     argv = with_names(&argc, argv);
+    if (argv != NULL)
+        argv = with_party(&argc, argv, &party);
     if (argv == NULL || argc < 5 || !number_of(argv[2], &root_name) || !number_of(argv[3], &root_type)) {
-        fprintf(stderr, "host [-n NAMES] TABLE ROOT_NAME ROOT_TYPE PAYLOAD..\n");
+        fprintf(stderr, "host [-n NAMES] [-p PARTY] TABLE ROOT_NAME ROOT_TYPE PAYLOAD..\n");
         return 2;
     }
     if (!read_file(argv[1], table, sizeof table, &table_bytes))

@@ -1,8 +1,9 @@
 /* Gives every element of a payload its length, so that a receiver that holds less can step over what it does not hold:
  *
- *     lengths TABLE ROOT_NAME ROOT_TYPE PAYLOAD >WITH_LENGTHS
+ *     lengths [-p PARTY] TABLE ROOT_NAME ROOT_TYPE PAYLOAD >WITH_LENGTHS
  *
- * What is read is written again by the short call, with a 1 in every Start. Exit status: 0 written, 1 refused, 2 a file is no good. */
+ * What the party reads, 0 where none is named, is written again by the short call, with a 1 in every Start. Exit status: 0 written, 1
+ * refused, 2 a file is no good. */
 #include "bim.h"
 #include "../tools/files.h"
 
@@ -29,19 +30,20 @@ static int accepted(const char *what, uint32_t number)
 int main(int argc, char **argv)
 {
     size_t table_bytes, bytes;
-    uint32_t root_name, root_type, count;
-    if (argc != 5 || !number_of(argv[2], &root_name) || !number_of(argv[3], &root_type)) {
-        fprintf(stderr, "lengths TABLE ROOT_NAME ROOT_TYPE PAYLOAD\n");
+    uint32_t party, root_name, root_type, count;
+    argv = with_party(&argc, argv, &party);
+    if (argv == NULL || argc != 5 || !number_of(argv[2], &root_name) || !number_of(argv[3], &root_type)) {
+        fprintf(stderr, "lengths [-p PARTY] TABLE ROOT_NAME ROOT_TYPE PAYLOAD\n");
         return 2;
     }
     if (!read_file(argv[1], table, sizeof table, &table_bytes) || !read_file(argv[4], payload, sizeof payload, &bytes))
         return 2;
-    if (!accepted("read", bim_read(table, table_bytes, root_name, root_type, payload, bytes,
+    if (!accepted("read", bim_read(table, table_bytes, party, root_name, root_type, payload, bytes,
                                    events, sizeof events, texts, sizeof texts, area, sizeof area)))
         return 1;
     count = bim_area_events(area);
     give_lengths(count);
-    if (!accepted("written", bim_write_lengths(table, table_bytes, root_name, root_type, events, BIM_EVENT * count,
+    if (!accepted("written", bim_write_lengths(table, table_bytes, party, root_name, root_type, events, BIM_EVENT * count,
                                                texts, bim_area_text(area), payload, sizeof payload, area, sizeof area)))
         return 1;
     bytes = (bim_area_bits(area) + 7) / 8;

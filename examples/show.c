@@ -8,9 +8,9 @@ int main(int argc, char **argv) {
     FILE *a = argc == 3 ? fopen(argv[1], "rb") : NULL, *b = a ? fopen(argv[2], "rb") : NULL;
     if (!b) return 2;
     size_t table_bytes = fread(table, 1, sizeof table, a), payload_bytes = fread(payload, 1, sizeof payload, b);
-    uint32_t number = bim_read(table, table_bytes, 10, 0, payload, payload_bytes,   /* root: element 10 of type 0 */
+    uint32_t number = bim_read(table, table_bytes, 0, 10, 0, payload, payload_bytes, /* party 0; root: element 10 of type 0 */
                                events, sizeof events, texts, sizeof texts, area, sizeof area);
-    if (number != BIM_ACCEPTED) {                                                   /* events and texts are all 0 */
+    if (number != BIM_ACCEPTED) {                                                    /* events and texts are all 0 */
         printf("refused %u, %s, at %u\n", (unsigned)number, bim_refusal_name(number), (unsigned)bim_area_place(area));
         return 1;
     }
@@ -18,7 +18,7 @@ int main(int argc, char **argv) {
     for (uint32_t i = 0; i < bim_area_events(area); i++)
         if (bim_event_kind(events, i) == BIM_KIND_BLANK)
             printf("element %u was stepped over: type %u is not held\n", (unsigned)bim_event_p(events, i), (unsigned)bim_event_q(events, i));
-        else if (bim_event_kind(events, i) == BIM_KIND_CAST)                        /* of the element that the event before begins */
+        else if (bim_event_kind(events, i) == BIM_KIND_CAST)                         /* of the element that the event before begins */
             printf("element %u has type %u here\n", (unsigned)bim_event_p(events, i - 1), (unsigned)bim_event_p(events, i));
     return 0;
 }

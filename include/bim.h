@@ -1,12 +1,20 @@
 /* Table check, reader and writer of BiM fragment payloads (ISO/IEC 15938-1), for C99 and C++.
  * Link libbim.a (`make install PREFIX=..`, then `pkg-config --cflags --libs bim`). bim_table.h has the rows of a table.
  *
+ * SINCE 2.0 bim_read, bim_write and bim_write_lengths are told who asks, `party`, right after the table. A C linker does not see that a
+ * prototype changed: a host that was written against 1.0 has to be compiled anew, with 0 for its party where it is the only one, and its
+ * tables mean what they meant.
+ *
  * BYTES. A buffer is a pointer and then its length in bytes; a null pointer is fine where the length is 0. Words are 4 bytes, names in
  * the area 2, the most significant byte first. Every buffer is the caller's, before and after a call: nothing is kept, nothing is
  * allocated (a call takes at most BIM_STACK bytes of the stack), and no other byte is read or written, so calls may run in several threads
  * at once. Any bytes and any lengths are answered.
  *
- * THE CALLER'S ONE DUTY: a buffer that a call writes overlaps no other buffer of that call. Buffers that are only read may overlap.
+ * THE CALLER'S ONE DUTY: a buffer that a call writes overlaps no other buffer of that call, and no other call uses it meanwhile. Buffers that
+ * are only read may overlap, and be read by several calls at once.
+ *
+ * PARTIES. Up to BIM_PARTIES parties, numbered from 0, share a table, each with a mark of its own at every type: what it holds. A type is
+ * held, for a call, where the calling party's mark of it is set; nothing that the others set or clear changes what a call by it answers.
  *
  * THE ANSWER is the number that is returned, 0 or a refusal, and the area, which has exactly BIM_AREA bytes:
  *
@@ -19,7 +27,8 @@
  *             24..151    64 names of the open elements, the outermost first; unused names are 0
  *
  * On acceptance number, place and names are 0. On a refusal mode, events, text and bits are 0, and every output buffer is 0 throughout:
- * nothing of a refused fragment is left to be taken for a reading. An area of another size is refused BIM_AREA_SIZE before anything
+ * nothing of a refused fragment is left to be taken for a reading. (The table that bim_set_held changes is no output buffer: refused, it is
+ * as it was.) An area of another size is refused BIM_AREA_SIZE before anything
  * else is looked at: the area, whatever its size, and every output buffer are then 0 throughout. Under every other number the area is
  * filled. It is part of the answer and no output buffer.
  *
@@ -47,6 +56,8 @@ extern "C" {
 #define BIM_MOST_OPEN 64
 #define BIM_MOST_NAMES 64
 #define BIM_MOST_WORD 4294967295
+/* How many parties there are, numbered from 0. */
+#define BIM_PARTIES 8
 
 /* The stack, in bytes, that a call never needs more than. It has no arrays but of fixed length, and calls itself once for each row open, of
  * which there are at most 64. `make stack` measures it, and bounds it by the frames of the machine code (x86-64). */
@@ -77,7 +88,7 @@ enum {
     BIM_KIND_PICK = 4,      /* p the branch of a choice, from 0 */
     BIM_KIND_TIMES = 5,     /* p how often the row occurs that comes next */
     BIM_KIND_END = 6,       /* the element that was begun last ends */
-    BIM_KIND_BLANK = 7,     /* an element stepped over, as its type is not held: p its name, q its effective type; all bits of it */
+    BIM_KIND_BLANK = 7,     /* an element stepped over, as the party does not hold its type: p its name, q its effective type; all bits of it */
     BIM_KIND_CAST = 8       /* p the effective type of the element just begun, q its substitute from 1, or 0; bits of both codes */
 };
 
@@ -86,14 +97,14 @@ enum {
 enum {
     BIM_ACCEPTED = 0,
     BIM_TABLE = 1,          /* table malformed: the first word at fault; a wrong length is named at the number of words given */
-    BIM_ROOT = 2,           /* root type not in the table, or root name over 65,535: 0 */
+    BIM_ROOT = 2,           /* root type, or the type of a mark, not in the table, or root name over 65,535: 0 */
     BIM_PAYLOAD_SIZE = 3,   /* payload empty or over 8,192 bytes: 0 */
     BIM_MODE_BYTE = 4,      /* mode byte other than 0F, 4F, 8F and, with derivations in the table, 1F, 5F, 9F: 0 */
     BIM_PAST_END = 5,       /* item passes the innermost declared end, or the payload's: item */
     BIM_DEPTH = 6,          /* more than 64 elements and particle rows open: item */
     BIM_EVENT_ROOM = 7,     /* no room for the event: item */
     BIM_TEXT_ROOM = 8,      /* no room for the text: item */
-    BIM_NOT_HELD = 9,       /* effective type not held and no length; in the writer, not held: item, of the Start */
+    BIM_NOT_HELD = 9,       /* effective type not held by the party and no length; in the writer, not held: item, of the Start */
     BIM_LENGTH = 10,        /* TheLength passes the enclosing end: item */
     BIM_CONTENT_SHORT = 11, /* content ends before its declared end: the first bit after TheLength */
     BIM_NOT_SHORTEST = 12,  /* number not in shortest form, but not of a TheLength, which may be padded: item */
@@ -109,7 +120,8 @@ enum {
     BIM_WRITE_MODE = 22,    /* write mode other than 0, 1, 2 and, with derivations in the table, 4, 5, 6: 0 */
     BIM_TEXT_BYTES = 23,    /* text bytes short, or left over: event, or the event count */
     BIM_AREA_SIZE = 24,     /* the area has not BIM_AREA bytes: 0 */
-    BIM_CONTROL = 25        /* text with a control character, a byte below 32 other than 9, 10, 13: item */
+    BIM_CONTROL = 25,       /* text with a control character, a byte below 32 other than 9, 10, 13: item */
+    BIM_PARTY = 26          /* party over 7: 0 */
 };
 
 /* THE AREA, word by word; it has BIM_AREA bytes. */
@@ -168,6 +180,7 @@ static inline const char *bim_refusal_name(uint32_t number)
     case BIM_TEXT_BYTES: return "text bytes short, or left over";
     case BIM_AREA_SIZE: return "answer area not 152 bytes";
     case BIM_CONTROL: return "control character in a text";
+    case BIM_PARTY: return "party over 7";
     default: return "no number of this library";
     }
 }
@@ -182,6 +195,8 @@ uint32_t bim_check_table(const uint8_t *table, size_t table_bytes,
 /* Reads a payload.
  *
  *     table      the words of the schema table; it is judged on every call
+ *     party      who reads, 0 to 7: an element whose effective type it does not hold is stepped over, or refused where it has no length.
+ *                Attributes are read whatever the marks of their types
  *     root_name  the name of the root element, at most 65,535: it comes back in the first event and in the path
  *     root_type  the root's type row, below T
  *     payload    1 to 8,192 bytes, the mode byte first
@@ -190,7 +205,7 @@ uint32_t bim_check_table(const uint8_t *table, size_t table_bytes,
  *     texts      written: room for texts_bytes bytes. On acceptance the bytes of the texts one after another; what is left is 0
  *     area       written
  *
- * Refusals come in this order: 24, 1, 2, 3, 4, then 5 to 16 and 25 item by item, then 17. A text's bytes are judged for 16, then 25, then
+ * Refusals come in this order: 24, 1, 2, 26, 3, 4, then 5 to 16 and 25 item by item, then 17. A text's bytes are judged for 16, then 25, then
  * its room (8, 7); a text in an element that is stepped over is not judged. An element's codes are judged (5, 14) before its type and the
  * room for its Start are (9, 7), without the element in the path.
  *
@@ -199,6 +214,7 @@ uint32_t bim_check_table(const uint8_t *table, size_t table_bytes,
  * BIM_LEFT_OVER at p the first payload is the first (p + 7) / 8 bytes. Read these again by themselves, as nothing of them was given and
  * their padding has not been judged: where they are refused there was no payload. */
 uint32_t bim_read(const uint8_t *table, size_t table_bytes,
+                  uint32_t party,
                   uint32_t root_name, uint32_t root_type,
                   const uint8_t *payload, size_t payload_bytes,
                   uint8_t *events, size_t events_bytes,
@@ -207,7 +223,7 @@ uint32_t bim_read(const uint8_t *table, size_t table_bytes,
 
 /* Writes a list of events, as bim_read gives them, as a payload.
  *
- *     table, root_name, root_type    as for bim_read
+ *     table, party, root_name, root_type    as for bim_read; the party has to hold every type that the list uses
  *     mode       of length coding: 0 none, 1 where an event Start says so, 2 always; and BIM_CASTING more for type codes
  *     events     the list, of 16 bytes each, at most 2,048; the fourth word of an event is ignored: lengths are written in shortest form,
  *                also those that were read padded, so that a payload read without Blanks is never longer when it is written back
@@ -215,10 +231,11 @@ uint32_t bim_read(const uint8_t *table, size_t table_bytes,
  *     payload    written: on acceptance its first (bits + 7) / 8 bytes are the payload; what is left is 0
  *     area       written: on acceptance mode, events and text are those given, bits those of the payload before its padding
  *
- * Refusals come in this order: 24, 1, 2, 22, 18 at events_bytes / 16 for bytes that are no whole list of at most 2,048 events, then 6, 9,
+ * Refusals come in this order: 24, 1, 2, 26, 22, 18 at events_bytes / 16 for bytes that are no whole list of at most 2,048 events, then 6, 9,
  * 16, 18, 19, 20, 23 and 25 event by event, 18 or 19 for events and 23 for text bytes that are left over, then 21. Of a text 20 comes
  * first, then 23, 16, 25. 9 is judged after the Start's Cast, by whose type it goes. */
 uint32_t bim_write(const uint8_t *table, size_t table_bytes,
+                   uint32_t party,
                    uint32_t root_name, uint32_t root_type,
                    uint32_t mode,
                    const uint8_t *events, size_t events_bytes,
@@ -231,11 +248,26 @@ uint32_t bim_write(const uint8_t *table, size_t table_bytes,
  * all. There are no type codes, also where the table has derivations: a list read in mode 6 is 18 at its first Cast that type codes alone
  * sent, or 20 at one before it that casts. 22 cannot arise. Whoever wants another mode names it to bim_write. */
 uint32_t bim_write_lengths(const uint8_t *table, size_t table_bytes,
+                           uint32_t party,
                            uint32_t root_name, uint32_t root_type,
                            const uint8_t *events, size_t events_bytes,
                            const uint8_t *texts, size_t texts_bytes,
                            uint8_t *payload, size_t payload_bytes,
                            uint8_t *area, size_t area_bytes);
+
+/* Sets or clears a party's mark of a type, in the table where it lies.
+ *
+ *     table      changed: on acceptance one bit of one byte, the lowest of the type's held word; refused, it is as it was. It overlaps no other
+ *                buffer, and no other call uses it meanwhile: several threads that read while one sets have a table each, or take turns
+ *     party      whose mark, 0 to 7
+ *     type       the type row, below T
+ *     mark       0 clears the mark, any other sets it
+ *     area       written: 0 throughout on acceptance
+ *
+ * Refusals come in this order: 24, 1, 2 for a type that there is not, 26. */
+uint32_t bim_set_held(uint8_t *table, size_t table_bytes,
+                      uint32_t party, uint32_t type, uint32_t mark,
+                      uint8_t *area, size_t area_bytes);
 
 /* THE LENT BIT READER, for the host's own small parsers: one code of any bytes, from a place on. A place is a bit, counted from the most
  * significant bit of byte 0. What lies past the bytes' end is never read; nor is bit 2^32 - 1 or any past it, as places stop there.

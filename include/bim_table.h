@@ -55,7 +55,8 @@ enum {
 #define BIM_MOST_FIXED 65535
 #define BIM_MOST_TEXT 4095
 
-/* a, b and c: of simple content its kind and parameters; of particles a is their row. */
+/* held has a bit for each party, bit p party p's (bim_is_held). a, b and c: of simple content its kind and parameters; of particles a is their
+ * row. */
 struct bim_type {
     uint32_t held, content, first_attribute, attributes, a, b, c;
 };
@@ -103,6 +104,12 @@ static inline struct bim_type bim_type_row(const uint8_t *table, uint32_t row)
     type.b = bim_table_word(table, at + 5);
     type.c = bim_table_word(table, at + 6);
     return type;
+}
+
+/* Whether a party, one of BIM_PARTIES, holds a type. bim_set_held changes it. */
+static inline int bim_is_held(const uint8_t *table, uint32_t party, uint32_t type)
+{
+    return (bim_table_word(table, bim_type_at(type)) >> party & 1) == 1;
 }
 
 static inline struct bim_attribute bim_attribute_row(const uint8_t *table, uint32_t row)

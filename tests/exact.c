@@ -105,7 +105,7 @@ static uint32_t read_once(const struct trial *it, enum place place, uint8_t *are
     const struct vector *vector = it->vector;
     uint8_t *table = lend(place, 0, it->table_bytes, vector->table.at), *payload = lend(place, 1, it->payload_bytes, vector->payload.at);
     uint8_t *events = lend(place, 2, it->event_room, NULL), *texts = lend(place, 3, it->text_room, NULL);
-    const uint32_t number = bim_read(table, it->table_bytes, vector->root_name, vector->root_type, payload, it->payload_bytes,
+    const uint32_t number = bim_read(table, it->table_bytes, vector->party, vector->root_name, vector->root_type, payload, it->payload_bytes,
                                      events, it->event_room, texts, it->text_room, area, it->area_room);
     if (number != BIM_ACCEPTED && !(all_zero(events, it->event_room) && all_zero(texts, it->text_room)))
         wrong("a refusal left bytes");
@@ -127,9 +127,9 @@ static uint32_t write_once(const struct trial *it, enum place place, uint8_t *ar
     uint8_t *payload = lend(place, 3, it->payload_room, NULL);
     const uint32_t number =
         vector->asked == WRITE
-            ? bim_write(table, it->table_bytes, vector->root_name, vector->root_type, vector->mode, events, vector->events.length, texts,
-                        vector->texts.length, payload, it->payload_room, area, it->area_room)
-            : bim_write_lengths(table, it->table_bytes, vector->root_name, vector->root_type, events, vector->events.length, texts,
+            ? bim_write(table, it->table_bytes, vector->party, vector->root_name, vector->root_type, vector->mode, events,
+                        vector->events.length, texts, vector->texts.length, payload, it->payload_room, area, it->area_room)
+            : bim_write_lengths(table, it->table_bytes, vector->party, vector->root_name, vector->root_type, events, vector->events.length, texts,
                                 vector->texts.length, payload, it->payload_room, area, it->area_room);
     if (number != BIM_ACCEPTED && !all_zero(payload, it->payload_room))
         wrong("a refusal left bytes");
@@ -142,15 +142,32 @@ static uint32_t write_once(const struct trial *it, enum place place, uint8_t *ar
     return number;
 }
 
+/* The table is changed where it lies, so that it is lent for writing; what it holds before is the vector's. */
+static uint32_t set_once(const struct trial *it, enum place place, uint8_t *area)
+{
+    const struct vector *vector = it->vector;
+    uint8_t *table = lend(place, 0, it->table_bytes, NULL);
+    uint32_t number;
+    if (it->table_bytes > 0)
+        memcpy(table, vector->table.at, it->table_bytes);
+    number = bim_set_held(table, it->table_bytes, vector->party, vector->type, vector->mark, area, it->area_room);
+    if (number != BIM_ACCEPTED && it->table_bytes > 0 && memcmp(table, vector->table.at, it->table_bytes) != 0)
+        wrong("a refusal changed the table");
+    if (number == BIM_ACCEPTED && it->number == BIM_ACCEPTED && !is(table, it->table_bytes, &vector->now))
+        wrong("another table");
+    give_back(place, 0, table);
+    return number;
+}
+
 static void ask(const struct trial *it)
 {
-    uint32_t (*const once[])(const struct trial *, enum place, uint8_t *) = {check_once, read_once, write_once, write_once};
+    uint32_t (*const once[])(const struct trial *, enum place, uint8_t *) = {check_once, read_once, write_once, write_once, set_once};
     int place;
     for (place = 0; place < places; place++) {
         uint8_t *area = lend((enum place)place, 4, it->area_room, NULL);
         const uint32_t number = once[it->vector->asked](it, (enum place)place, area);
         calls++;
-        if (number > BIM_CONTROL || (it->number >= 0 && number != (uint32_t)it->number))
+        if (number > BIM_PARTY || (it->number >= 0 && number != (uint32_t)it->number))
             wrong("another number");
         if (it->area_too && memcmp(area, it->vector->area, BIM_AREA) != 0)
             wrong("another area");
@@ -254,7 +271,7 @@ int main(int argc, char **argv)
             asking = vector.name;
             vectors++;
             ask(&it);
-            if (vector.number == BIM_ACCEPTED && vector.asked != CHECK)
+            if (vector.number == BIM_ACCEPTED && vector.asked != CHECK && vector.asked != SET_HELD)
                 ask_rooms(&vector);
             ask_others(&vector);
         }

@@ -60,6 +60,10 @@ static void try_rows(void)
     same("particles", bim_particles(table), 2);
     same("words", bim_particle_at(table, 2), 29);
     same("held", bim_type_row(table, 1).held, 11);
+    same("held by party 0", bim_is_held(table, 0, 1), 1);
+    same("not held by party 2", bim_is_held(table, 2, 1), 0);
+    same("held by party 3", bim_is_held(table, 3, 1), 1);
+    same("not held by party 7", bim_is_held(table, 7, 1), 0);
     same("content", bim_type_row(table, 1).content, 12);
     same("first attribute", bim_type_row(table, 1).first_attribute, 13);
     same("attribute count", bim_type_row(table, 1).attributes, 14);
@@ -145,21 +149,22 @@ static void try_no_past_rows(void)
 static void try_names(void)
 {
     uint32_t one, other;
-    for (one = 0; one <= BIM_CONTROL + 1; one++)
+    for (one = 0; one <= BIM_PARTY + 1; one++)
         for (other = 0; other < one; other++)
             if (strcmp(bim_refusal_name(one), bim_refusal_name(other)) == 0)
                 same("numbers of one name", one, other);
-    same("past the numbers", strcmp(bim_refusal_name(BIM_CONTROL + 1), bim_refusal_name(0xffffffffu)), 0);
+    same("past the numbers", strcmp(bim_refusal_name(BIM_PARTY + 1), bim_refusal_name(0xffffffffu)), 0);
 }
 
-/* The four calls link, and take null pointers with lengths of 0. */
+/* The five calls link, and take null pointers with lengths of 0. */
 static void try_calls(void)
 {
     uint8_t area[BIM_AREA];
     same("check", bim_check_table(NULL, 0, area, sizeof area), BIM_TABLE);
-    same("read", bim_read(NULL, 0, 0, 0, NULL, 0, NULL, 0, NULL, 0, area, sizeof area), BIM_TABLE);
-    same("write", bim_write(NULL, 0, 0, 0, 0, NULL, 0, NULL, 0, NULL, 0, area, sizeof area), BIM_TABLE);
-    same("write with lengths", bim_write_lengths(NULL, 0, 0, 0, NULL, 0, NULL, 0, NULL, 0, area, sizeof area), BIM_TABLE);
+    same("read", bim_read(NULL, 0, 0, 0, 0, NULL, 0, NULL, 0, NULL, 0, area, sizeof area), BIM_TABLE);
+    same("write", bim_write(NULL, 0, 0, 0, 0, 0, NULL, 0, NULL, 0, NULL, 0, area, sizeof area), BIM_TABLE);
+    same("write with lengths", bim_write_lengths(NULL, 0, 0, 0, 0, NULL, 0, NULL, 0, NULL, 0, area, sizeof area), BIM_TABLE);
+    same("set", bim_set_held(NULL, 0, 0, 0, 0, area, sizeof area), BIM_TABLE);
     same("no area", bim_check_table(NULL, 0, NULL, 0), BIM_AREA_SIZE);
 }
 

@@ -2,18 +2,18 @@
 #include <stdlib.h>
 #include "bim.h"
 
-uint32_t right_read(const uint8_t *table, size_t table_bytes, uint32_t root_name, uint32_t root_type, const uint8_t *payload,
+uint32_t right_read(const uint8_t *table, size_t table_bytes, uint32_t party, uint32_t root_name, uint32_t root_type, const uint8_t *payload,
                     size_t payload_bytes, uint8_t *events, size_t events_bytes, uint8_t *texts, size_t texts_bytes, uint8_t *area,
                     size_t area_bytes);
 
-uint32_t bim_read(const uint8_t *table, size_t table_bytes, uint32_t root_name, uint32_t root_type, const uint8_t *payload,
+uint32_t bim_read(const uint8_t *table, size_t table_bytes, uint32_t party, uint32_t root_name, uint32_t root_type, const uint8_t *payload,
                   size_t payload_bytes, uint8_t *events, size_t events_bytes, uint8_t *texts, size_t texts_bytes, uint8_t *area,
                   size_t area_bytes)
 {
     volatile uint8_t deep[FAULT == 6 ? BIM_STACK : 1], *never_written = (volatile uint8_t *)malloc(1);
     uint32_t number;
     deep[0] = never_written == NULL;
-    number = right_read(table, table_bytes, root_name, root_type, payload, payload_bytes, events, events_bytes, texts, texts_bytes, area,
+    number = right_read(table, table_bytes, party, root_name, root_type, payload, payload_bytes, events, events_bytes, texts, texts_bytes, area,
                         area_bytes);
     if (FAULT == 1) /* writes past a buffer */
         *(volatile uint8_t *)(events + events_bytes) = 0xdd;

@@ -1,6 +1,7 @@
-/* Asks the library for every case of examples/refusals.txt: the number, the place, the path, and that what was lent is 0 throughout.
+/* Asks the library for every case of examples/refusals.txt: the number, the place, the path, and that what was lent is 0 throughout; of a
+ * setting, that the table is as it was.
  *
- *     refusals FILE          says how many hold; exit status 1 where one does not, or a number from 1 to 25 is not shown
+ *     refusals FILE          says how many hold; exit status 1 where one does not, or a number from 1 to 26 is not shown
  *     refusals --rows FILE   prints the tables and the rows of docs/REFUSALS.md as the library answers them */
 #include <inttypes.h>
 #include <stdio.h>
@@ -8,7 +9,7 @@
 #include <string.h>
 #include "bim_table.h"
 
-#define NAMES 16
+#define NAMES 20
 
 struct table {
     char name[32], words[512];
@@ -24,7 +25,7 @@ static int rows;
 
 /* The case as it is gathered. */
 static struct {
-    uint32_t number, root_name, root_type;
+    uint32_t number, party, root_name, root_type;
     char why[128], asked[256];
     const struct table *table;
     unsigned long events, texts, payload, area;
@@ -120,6 +121,19 @@ static int all_zero(const uint8_t *bytes, size_t length)
     return 1;
 }
 
+/* Sets a mark in a copy of the table; *same tells whether it is as it was. */
+static uint32_t set_mark(char *rest, int *same)
+{
+    static uint8_t copy[sizeof now.table->bytes];
+    uint32_t number, type, mark;
+    if (sscanf(rest, "%" SCNu32 " %" SCNu32, &type, &mark) != 2)
+        stop("no setting");
+    memcpy(copy, now.table->bytes, sizeof copy);
+    number = bim_set_held(copy, now.table->length, now.party, type, mark, area, now.area);
+    *same = memcmp(copy, now.table->bytes, sizeof copy) == 0;
+    return number;
+}
+
 /* Makes the call that was gathered; *zero tells whether every output buffer came back 0 throughout. (The area is judged below.) */
 static uint32_t call(int *zero)
 {
@@ -138,9 +152,11 @@ static uint32_t call(int *zero)
     if (rest == NULL)
         stop("nothing is asked");
     *rest++ = '\0';
+    if (strcmp(copy, "set") == 0)
+        return set_mark(rest, zero);
     if (strcmp(copy, "read") == 0) {
         one = put_hex(payload, sizeof payload, rest);
-        number = bim_read(now.table->bytes, now.table->length, now.root_name, now.root_type, payload, one, events, now.events,
+        number = bim_read(now.table->bytes, now.table->length, now.party, now.root_name, now.root_type, payload, one, events, now.events,
                           texts, now.texts, area, now.area);
         *zero = all_zero(events, now.events) && all_zero(texts, now.texts);
         return number;
@@ -149,11 +165,11 @@ static uint32_t call(int *zero)
         mode = (uint32_t)strtoul(rest, &rest, 10);
     take_list(rest, &one, &other);
     if (strcmp(copy, "write") == 0)
-        number = bim_write(now.table->bytes, now.table->length, now.root_name, now.root_type, mode, events, one, texts, other, payload,
-                           now.payload, area, now.area);
+        number = bim_write(now.table->bytes, now.table->length, now.party, now.root_name, now.root_type, mode, events, one, texts, other,
+                           payload, now.payload, area, now.area);
     else
-        number = bim_write_lengths(now.table->bytes, now.table->length, now.root_name, now.root_type, events, one, texts, other, payload,
-                                   now.payload, area, now.area);
+        number = bim_write_lengths(now.table->bytes, now.table->length, now.party, now.root_name, now.root_type, events, one, texts, other,
+                                   payload, now.payload, area, now.area);
     *zero = all_zero(payload, now.payload);
     return number;
 }
@@ -176,9 +192,11 @@ static void print_row(uint32_t number)
     const char *unit = number == BIM_TABLE ? "word" : strncmp(now.asked, "write", 5) == 0 ? "event" : "bit";
     uint32_t i;
     printf("| %lu | %s | %s | %s", (unsigned long)number, bim_refusal_name(number), now.why, now.table->name);
-    if (strcmp(now.asked, "check") != 0)
+    if (strcmp(now.asked, "check") != 0 && strncmp(now.asked, "set ", 4) != 0)
         printf(", %lu, %lu", (unsigned long)now.root_name, (unsigned long)now.root_type);
     printf(" | `%s`", now.asked);
+    if (now.party > 0)
+        printf(" by party %lu", (unsigned long)now.party);
     if (now.events != sizeof events)
         printf(", %lu bytes for events", now.events);
     if (now.texts != sizeof texts)
@@ -210,7 +228,7 @@ static void try_case(const char *expected)
     answer_of(number, got, sizeof got);
     cases++;
     if (strcmp(got, expected) != 0 || number != now.number || !zero) {
-        printf("line %lu: %s where %s is expected%s\n", line_number, got, expected, zero ? "" : ", and what was lent is not 0");
+        printf("line %lu: %s where %s is expected%s\n", line_number, got, expected, zero ? "" : ", and what was lent is not 0, or a table changed");
         failed++;
     }
     if (now.number != before && now.number != before + 1) {
@@ -267,10 +285,12 @@ int main(int argc, char **argv)
             now.area = sizeof area;
         } else if (sscanf(line, "root %" SCNu32 " %" SCNu32, &now.root_name, &now.root_type) == 2) {
             continue;
+        } else if (sscanf(line, "party %" SCNu32, &now.party) == 1) {
+            continue;
         } else if (strncmp(line, "lent ", 5) == 0) {
             take_lent(rest);
         } else if (strncmp(line, "check", 5) == 0 || strncmp(line, "read ", 5) == 0 || strncmp(line, "write ", 6) == 0 ||
-                   strncmp(line, "write_lengths ", 14) == 0) {
+                   strncmp(line, "write_lengths ", 14) == 0 || strncmp(line, "set ", 4) == 0) {
             keep(now.asked, sizeof now.asked, line);
         } else if (strncmp(line, "answer ", 7) == 0 && now.table != NULL) {
             try_case(rest + 1);
@@ -279,8 +299,8 @@ int main(int argc, char **argv)
         }
     }
     fclose(file);
-    if (now.number != BIM_CONTROL) {
-        printf("25 is not shown\n");
+    if (now.number != BIM_PARTY) {
+        printf("26 is not shown\n");
         failed++;
     }
     if (!rows || failed > 0)

@@ -28,13 +28,15 @@ static void call(void)
     if (asked.asked == CHECK)
         number = bim_check_table(asked.table.at, asked.table.length, area, sizeof area);
     else if (asked.asked == READ)
-        number = bim_read(asked.table.at, asked.table.length, asked.root_name, asked.root_type, asked.payload.at, asked.payload.length,
+        number = bim_read(asked.table.at, asked.table.length, asked.party, asked.root_name, asked.root_type, asked.payload.at, asked.payload.length,
                           events, sizeof events, texts, sizeof texts, area, sizeof area);
     else if (asked.asked == WRITE)
-        number = bim_write(asked.table.at, asked.table.length, asked.root_name, asked.root_type, asked.mode, asked.events.at,
+        number = bim_write(asked.table.at, asked.table.length, asked.party, asked.root_name, asked.root_type, asked.mode, asked.events.at,
                            asked.events.length, asked.texts.at, asked.texts.length, payload, sizeof payload, area, sizeof area);
+    else if (asked.asked == SET_HELD)
+        number = bim_set_held(asked.table.at, asked.table.length, asked.party, asked.type, asked.mark, area, sizeof area);
     else
-        number = bim_write_lengths(asked.table.at, asked.table.length, asked.root_name, asked.root_type, asked.events.at,
+        number = bim_write_lengths(asked.table.at, asked.table.length, asked.party, asked.root_name, asked.root_type, asked.events.at,
                                    asked.events.length, asked.texts.at, asked.texts.length, payload, sizeof payload, area, sizeof area);
 }
 
@@ -130,7 +132,9 @@ static void chain_table(uint32_t pattern, uint32_t length, uint32_t rows, uint32
     if (codes)
         chain_codes(pattern, length, rows);
     asked.root_name = 1;
-    asked.root_type = rows + 2;
+    asked.root_type = asked.type = rows + 2;
+    asked.party = 0;
+    asked.mark = 1;
 }
 
 static void add_event(uint32_t kind, uint32_t p, uint32_t q)
@@ -186,6 +190,8 @@ static int measure_chain(uint32_t pattern, uint32_t length, uint32_t rows, uint3
     chain_table(pattern, length, rows, codes);
     snprintf(asked.name, sizeof asked.name, "the table of %lu rows, form %d", (unsigned long)rows, codes ? 2 : 1);
     asked.asked = CHECK;
+    measure();
+    asked.asked = SET_HELD;
     measure();
     for (mode = codes; mode < codes + 3; mode++) {
         int at = snprintf(asked.name, sizeof asked.name, "%lu rows, ", (unsigned long)rows);

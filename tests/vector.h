@@ -1,4 +1,4 @@
-/* The vectors of examples/tables.txt, payloads.txt and lists.txt, one at a time; examples/README.md has their form. */
+/* The vectors of examples/tables.txt, payloads.txt, lists.txt and settings.txt, one at a time; examples/README.md has their form. */
 #ifndef VECTOR_H
 #define VECTOR_H
 
@@ -7,20 +7,21 @@
 #include <string.h>
 #include "bim.h"
 
-enum asked { CHECK, READ, WRITE, WRITE_LENGTHS, CALLS };
-static const char *const call_names[] = {"bim_check_table", "bim_read", "bim_write", "bim_write_lengths"};
+enum asked { CHECK, READ, WRITE, WRITE_LENGTHS, SET_HELD, CALLS };
+static const char *const call_names[] = {"bim_check_table", "bim_read", "bim_write", "bim_write_lengths", "bim_set_held"};
 
 struct bytes {
     uint8_t at[65536];
     size_t length;
 };
 
-/* What is given and what is expected: of a reading, events and texts are the answer's; of a writing, payload is. */
+/* What is given and what is expected: of a reading, events and texts are the answer's; of a writing, payload is; of a setting, now is the table
+ * behind it. */
 struct vector {
     char name[256];
     enum asked asked;
-    uint32_t root_name, root_type, mode, number;
-    struct bytes table, payload, events, texts;
+    uint32_t party, root_name, root_type, mode, type, mark, number;
+    struct bytes table, payload, events, texts, now;
     size_t event_room, text_room, payload_room;
     uint8_t area[BIM_AREA];
 };
@@ -105,6 +106,12 @@ static inline int next_vector(FILE *file, struct vector *vector)
         else if (strncmp(line, "root ", 5) == 0) {
             vector->root_name = (uint32_t)strtoul(rest, &rest, 10);
             vector->root_type = (uint32_t)strtoul(rest, NULL, 10);
+        } else if (strncmp(line, "party ", 6) == 0)
+            vector->party = (uint32_t)strtoul(rest, NULL, 10);
+        else if (strncmp(line, "set ", 4) == 0) {
+            vector->asked = SET_HELD;
+            vector->type = (uint32_t)strtoul(rest, &rest, 10);
+            vector->mark = (uint32_t)strtoul(rest, NULL, 10);
         } else if (strncmp(line, "rooms ", 6) == 0) {
             vector->asked = READ;
             vector->event_room = 4 * strtoul(rest, &rest, 10);
@@ -119,6 +126,8 @@ static inline int next_vector(FILE *file, struct vector *vector)
             vector->payload_room = strtoul(rest, NULL, 10);
         } else if (strncmp(line, "words ", 6) == 0 || strncmp(line, "event ", 6) == 0)
             add_words(&vector->events, rest);
+        else if (strncmp(line, "now ", 4) == 0)
+            add_words(&vector->now, rest);
         else if (strncmp(line, "texts ", 6) == 0)
             set_hex(vector, &vector->texts, rest);
         else if (strncmp(line, "payload ", 8) == 0)

@@ -45,10 +45,28 @@ static void print_content(struct bim_type type)
         printf("%s", simple_name(type.a));
 }
 
+/* Who holds a type. */
+static void print_holders(uint32_t held)
+{
+    uint32_t party, count = 0, said = 0;
+    for (party = 0; party < BIM_PARTIES; party++)
+        count += held >> party & 1;
+    if (count == 0 || count == BIM_PARTIES) {
+        fputs(count == 0 ? "NOT HELD" : "held by every party", stdout);
+        return;
+    }
+    fputs(count == 1 ? "held by party" : "held by parties", stdout);
+    for (party = 0; party < BIM_PARTIES; party++)
+        if (held >> party & 1)
+            printf("%s%lu", ++said == 1 ? " " : said == count ? " and " : ", ", (unsigned long)party);
+}
+
 static void print_type(uint32_t row)
 {
     const struct bim_type type = bim_type_row(table, row);
-    printf("word %-4lu type %lu: %s, ", (unsigned long)bim_type_at(row), (unsigned long)row, type.held ? "held" : "NOT HELD");
+    printf("word %-4lu type %lu: ", (unsigned long)bim_type_at(row), (unsigned long)row);
+    print_holders(type.held);
+    printf(", ");
     print_content(type);
     if (type.attributes > 0) {
         printf(", ");

@@ -34,7 +34,7 @@ static inline const char *simple_name(uint32_t kind)
 }
 
 /* Each of these says what its word has to be where it is not, and answers whether it said so. */
-static int fault_mark(struct sentence *s, uint32_t word)
+static int fault_flag(struct sentence *s, uint32_t word)
 {
     if (word <= 1)
         return 0;
@@ -163,11 +163,11 @@ static int fault_content(struct sentence *s, const uint8_t *table, struct bim_ty
 
 static int fault_type(struct sentence *s, const uint8_t *table, uint32_t row, uint32_t i)
 {
-    static const char *const words[] = {"held mark", "content", "first attribute row", "attribute count", "a", "b", "c"};
+    static const char *const words[] = {"held marks", "content", "first attribute row", "attribute count", "a", "b", "c"};
     const struct bim_type type = bim_type_row(table, row);
     say(s, "type row %lu, %s: ", (unsigned long)row, words[i]);
     switch (i) {
-    case 0: return fault_mark(s, type.held);
+    case 0: return fault_most(s, type.held, (1 << BIM_PARTIES) - 1);
     case 1:
         if (type.content <= BIM_PARTICLES)
             return 0;
@@ -188,7 +188,7 @@ static int fault_attribute(struct sentence *s, const uint8_t *table, uint32_t ro
     if (i == 0)
         return fault_most(s, attribute.name, BIM_MOST_NAME);
     if (i == 1)
-        return fault_mark(s, attribute.required);
+        return fault_flag(s, attribute.required);
     if (fault_below(s, "type", attribute.type, bim_types(table)))
         return 1;
     type = bim_type_row(table, attribute.type);

@@ -1,4 +1,4 @@
-/* What the programs here share: a file into a buffer, a number of an argument, and names by number. */
+/* What the programs here share: a file into a buffer, a number of an argument, names by number, and who asks. */
 #ifndef FILES_H
 #define FILES_H
 
@@ -80,6 +80,20 @@ static inline char **with_names(int *argc, char **argv)
     if (*argc < 2 || strcmp(argv[1], "-n") != 0)
         return argv;
     if (*argc < 3 || !read_names(argv[2]))
+        return NULL;
+    argv[2] = argv[0];
+    *argc -= 2;
+    return argv + 2;
+}
+
+/* Takes -p PARTY from the front of the arguments, any number: the library says whether there is such a party. Party 0 where there is none; null
+ * where it is no number. */
+static inline char **with_party(int *argc, char **argv, uint32_t *party)
+{
+    *party = 0;
+    if (*argc < 2 || strcmp(argv[1], "-p") != 0)
+        return argv;
+    if (*argc < 3 || !number_of(argv[2], party))
         return NULL;
     argv[2] = argv[0];
     *argc -= 2;

@@ -1,8 +1,9 @@
-/* Compares two table files by their held marks. A mark bears on every element whose effective type it is: those of the type, substitutes
- * among them, and those that may be cast to it.
+/* Compares two table files by their held marks, party by party. A mark bears on every element whose effective type it is: those of the
+ * type, substitutes among them, and those that may be cast to it.
  *
  *     holds [-n NAMES] ONE OTHER
  *
+ * What differs for a party is said of that party; where nothing does for any, one line says so.
  * Exit status: 0 the same marks, 1 the marks differ and nothing else does, 2 a table is wrong or could not be read, 3 more than
  * the marks differs, so that the two are not tables of one schema. */
 #include "faults.h"
@@ -24,7 +25,7 @@ static int take_table(const char *path, int which)
     return 0;
 }
 
-/* Whether word i is a type row's held mark; both tables have the same header by then. */
+/* Whether word i is a type row's held marks; both tables have the same header by then. */
 static int is_mark(uint32_t i)
 {
     return i >= 4 && i < bim_attribute_at(tables[0], 0) && (i - 4) % 7 == 0;
@@ -58,13 +59,13 @@ static void print_elements(uint32_t type, int cast)
     }
 }
 
-/* The types that one table holds and the other does not; answers how many. */
-static uint32_t print_held(char **paths, int holder)
+/* The types that a party holds by one table and not by the other; answers how many. */
+static uint32_t print_held(char **paths, uint32_t party, int holder)
 {
     uint32_t type, count = 0;
     for (type = 0; type < bim_types(tables[0]); type++)
-        if (bim_type_row(tables[holder], type).held && !bim_type_row(tables[1 - holder], type).held) {
-            printf("type %lu, held in %s alone", (unsigned long)type, paths[holder]);
+        if (bim_is_held(tables[holder], party, type) && !bim_is_held(tables[1 - holder], party, type)) {
+            printf("party %lu: type %lu, held in %s alone", (unsigned long)party, (unsigned long)type, paths[holder]);
             print_elements(type, 0);
             print_elements(type, 1);
             putchar('\n');
@@ -73,9 +74,22 @@ static uint32_t print_held(char **paths, int holder)
     return count;
 }
 
+/* What differs for a party; answers whether anything does. */
+static int compare_marks(char **paths, uint32_t party)
+{
+    const uint32_t more = print_held(paths, party, 0), less = print_held(paths, party, 1);
+    if (more > 0 && less > 0)
+        printf("party %lu: neither holds all that the other holds\n", (unsigned long)party);
+    else if (more + less > 0)
+        printf("party %lu: %s holds all that %s holds, and %lu more\n", (unsigned long)party, paths[more > 0 ? 0 : 1],
+               paths[more > 0 ? 1 : 0], (unsigned long)(more + less));
+    return more + less > 0;
+}
+
 int main(int argc, char **argv)
 {
-    uint32_t i, words, more, less;
+    uint32_t i, words, party;
+    int differ = 0;
     argv = with_names(&argc, argv);
     if (argv == NULL || argc != 3) {
         fprintf(stderr, "holds [-n NAMES] ONE OTHER\n");
@@ -90,14 +104,9 @@ int main(int argc, char **argv)
                    (unsigned long)bim_table_word(tables[0], i), argv[1], (unsigned long)bim_table_word(tables[1], i), argv[2]);
             return 3;
         }
-    more = print_held(argv + 1, 0);
-    less = print_held(argv + 1, 1);
-    if (more == 0 && less == 0)
-        printf("both hold the same types\n");
-    else if (more > 0 && less > 0)
-        printf("neither holds all that the other holds\n");
-    else
-        printf("%s holds all that %s holds, and %lu more\n", argv[more > 0 ? 1 : 2], argv[more > 0 ? 2 : 1],
-               (unsigned long)(more + less));
-    return more + less > 0;
+    for (party = 0; party < BIM_PARTIES; party++)
+        differ |= compare_marks(argv + 1, party);
+    if (!differ)
+        printf("every party holds the same types by both\n");
+    return differ;
 }

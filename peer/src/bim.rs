@@ -55,6 +55,8 @@ pub const TEXT_BYTES: u32 = 23;
 pub const AREA_SIZE: u32 = 24;
 /// A text has a control character: a byte below 32 other than 9, 10, 13.
 pub const CONTROL: u32 = 25;
+/// The party is over 7.
+pub const PARTY: u32 = 26;
 
 // The kinds of an event, its first word.
 
@@ -132,6 +134,8 @@ pub const MOST_TABLE: usize = 58_392;
 pub const MOST_NAMES: usize = 64;
 /// The greatest word: places stop there.
 pub const MOST_WORD: u32 = 4_294_967_295;
+/// How many parties have marks in a table, counted from 0.
+pub const PARTIES: u32 = 8;
 
 // What the headers have no name for.
 
@@ -174,6 +178,8 @@ pub const TYPE_ROW: usize = 7;
 pub const ATTRIBUTE_ROW: usize = 3;
 /// The words of a particle row.
 pub const PARTICLE_ROW: usize = 4;
+/// The greatest held word: every party's bit is set.
+pub const MOST_HELD: u32 = (1 << PARTIES) - 1;
 /// The most type rows.
 pub const MOST_TYPES: usize = 256;
 /// The most attribute rows.

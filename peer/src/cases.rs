@@ -1,4 +1,4 @@
-//! The named cases: the calls of examples/tables.txt, payloads.txt and lists.txt, at every limit and in every order that the
+//! The named cases: the calls of examples/tables.txt, payloads.txt, lists.txt and settings.txt, at every limit and in every order that the
 //! papers fix, each with the answer worked out by hand there. They are tests, a part of every property run and of every
 //! comparison, and the fuzzer's first inputs.
 
@@ -23,12 +23,13 @@ static ALL: LazyLock<Vec<Case>> = LazyLock::new(|| {
         include_str!("../../examples/tables.txt"),
         include_str!("../../examples/payloads.txt"),
         include_str!("../../examples/lists.txt"),
+        include_str!("../../examples/settings.txt"),
     ];
     let case = |block: &str| case_of(block).unwrap_or_else(|| panic!("not understood: {block}"));
     files.into_iter().flat_map(vectors_of).map(case).collect()
 });
 
-/// All of them: tables, then payloads, then lists.
+/// All of them: tables, then payloads, lists and settings.
 pub fn all() -> &'static [Case] {
     &ALL
 }

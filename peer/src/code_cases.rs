@@ -3,7 +3,7 @@
 //!
 //! A code case is a byte that says what is asked, the number of its bytes, five words, the highest byte first, and the bytes.
 //! A reading has its wall and its place in the first two words, a writing its value in the first; parameters follow.
-//! A payload case is the byte 32, a byte 0, six words (table words, payload bytes, root name, root type, event words and text
+//! A payload case is the byte 32, the party in a byte, six words (table words, payload bytes, root name, root type, event words and text
 //! bytes lent), the table, and the payload.
 
 use crate::call::{Call, Read};
@@ -58,11 +58,14 @@ pub fn code_case(vector: &str) -> Option<CodeCase> {
     }
 }
 
-/// The case of one block of payloads.txt: its answer's lines, and none of the lent bytes past list and texts that is not 0.
+/// The case of one block of payloads.txt: its answer's lines, and none of the lent bytes past list and texts that is not 0. `None` for a party
+/// over a byte.
 pub fn payload_case(vector: &str) -> Option<CodeCase> {
-    let Call::Read(Read { table, root, payload, event_words, text_room }) = case_of(vector)?.call else { return None };
+    let Call::Read(Read { table, party, root, payload, event_words, text_room }) = case_of(vector)?.call else {
+        return None;
+    };
     let sizes = [table.len() as u32, payload.len() as u32, root.0, root.1, event_words as u32, text_room as u32];
-    let input = [vec![32, 0], big_endian(&sizes), big_endian(&table), payload].concat();
+    let input = [vec![32, u8::try_from(party).ok()?], big_endian(&sizes), big_endian(&table), payload].concat();
     let (_, answer) = vector.split_once("\nanswer ")?;
     Some(CodeCase { input, line: format!("answer {}left 0 0", answer.strip_suffix("end\n")?) })
 }

@@ -5,11 +5,11 @@
 
 use crate::answer::{refusal, Answer, Path};
 use crate::bim;
-use crate::call::{Call, Read, Write, READER, SHORT_WRITER, WRITER};
+use crate::call::{Call, Read, Set, Write, READER, SETTER, SHORT_WRITER, WRITER};
 use crate::cases::Case;
 use crate::model;
 use crate::padding::lengths_are_shortest;
-use crate::rows::held_word;
+use crate::rows::{held, held_word};
 use crate::tally::Numbers;
 use crate::{reader, table, tally, writer};
 
@@ -55,6 +55,10 @@ pub struct Tally {
     pub shorter: u64,
     /// What the pairs of tables showed.
     pub pairs: Pairs,
+    /// Readings and writings that settings by others left the same.
+    pub others: u64,
+    /// Pairs of settings that gave the same in both orders.
+    pub commuted: u64,
 }
 
 impl Tally {
@@ -63,7 +67,16 @@ impl Tally {
         self.casts.has_met(&CASTS)
     }
 
-    /// Whether reader and writer were met with every number that they can answer, and both parts of demand 2 were tried; tells what
+    /// Whether the promises that parties have among them were tried; tells where one was not.
+    pub fn parties_are_whole(&self) -> bool {
+        let whole = self.others > 0 && self.commuted > 0;
+        if !whole {
+            println!("NEVER MET: settings by others, or in both orders");
+        }
+        whole
+    }
+
+    /// Whether reader, writer and setter were met with every number that they can answer, and both parts of demand 2 were tried; tells what
     /// was not.
     pub fn is_whole(&self) -> bool {
         // 24 is the C boundary's.
@@ -74,7 +87,8 @@ impl Tally {
             println!("NEVER MET: a part of demand 2");
         }
         let [short @ .., _] = &SHORT_WRITER;
-        self.met.has_met(&[("reader", reader), ("writer", writer), (SHORT, short)]) && both
+        let [setter @ .., _] = &SETTER;
+        self.met.has_met(&[("reader", reader), ("writer", writer), (SHORT, short), ("setter", setter)]) && both
     }
 }
 
@@ -140,7 +154,7 @@ pub fn read(tally: &mut Tally, call: &Read) -> Result<Outcome, String> {
     let mut events = vec![0xdddd_dddd; call.event_words];
     let mut texts = vec![0xdd; call.text_room];
     let (name, of_type) = call.root;
-    let answer = reader::read(&call.table, name, of_type, &call.payload, &mut events, &mut texts);
+    let answer = reader::read(&call.table, call.party, name, of_type, &call.payload, &mut events, &mut texts);
     tally.met.count("reader", answer.number);
     demand(answer_has_its_shape(&answer), || format!("demand 1: the answer's shape: {answer:?}"))?;
     // On refusal both counts are 0, so this is "every output buffer all zeros".
@@ -150,7 +164,7 @@ pub fn read(tally: &mut Tally, call: &Read) -> Result<Outcome, String> {
     let outcome = Outcome { answer, events, texts };
     let room = call.event_words / 4;
     let model::Told { reading: expected, item, unseen } =
-        model::read(&call.table, name, of_type, &call.payload, room, call.text_room);
+        model::read(&call.table, call.party, name, of_type, &call.payload, room, call.text_room);
     let got = reading_of(&outcome);
     demand(got == expected, || format!("demand 2: the reader gives {got:?}, the model {expected:?}"))?;
     if !item.is_empty() {
@@ -178,7 +192,7 @@ fn ends_by_itself(call: &Read, outcome: &Outcome) -> Result<(), String> {
     let used = outcome.answer.bits;
     let mut events = vec![0; call.event_words];
     let answer =
-        reader::read(&call.table, call.root.0, call.root.1, &butted, &mut events, &mut vec![0; call.text_room]);
+        reader::read(&call.table, call.party, call.root.0, call.root.1, &butted, &mut events, &mut vec![0; call.text_room]);
     let left = Answer::refused(refusal(bim::LEFT_OVER, used), Path::empty());
     let long = Answer::refused(refusal(bim::PAYLOAD_SIZE, 0), Path::empty());
     let expected = if butted.len() > bim::MOST_PAYLOAD { long } else { left };
@@ -193,7 +207,7 @@ fn blanks_unseen(call: &Read, outcome: &Outcome, unseen: &[std::ops::Range<usize
     unseen.iter().cloned().flatten().for_each(|bit| payload[bit / 8] ^= 0x80 >> (bit % 8));
     let mut events = vec![0xdddd_dddd; call.event_words];
     let mut texts = vec![0xdd; call.text_room];
-    let answer = reader::read(&call.table, call.root.0, call.root.1, &payload, &mut events, &mut texts);
+    let answer = reader::read(&call.table, call.party, call.root.0, call.root.1, &payload, &mut events, &mut texts);
     let turned = Outcome { answer, events, texts };
     demand(turned == *outcome, || format!("a Blank is looked into: {outcome:?} turns into {turned:?}"))
 }
@@ -223,8 +237,9 @@ fn written_back(tally: &mut Tally, call: &Read, outcome: &Outcome) -> Result<(),
     let (read_as, list) = (&outcome.answer, outcome.list());
     let mut payload = vec![0xdd; call.payload.len()];
     let events = &outcome.events[..4 * read_as.events];
+    let (name, of_type) = call.root;
     let answer =
-        writer::write(&call.table, call.root.0, call.root.1, read_as.mode, events, outcome.text(), &mut payload);
+        writer::write(&call.table, call.party, name, of_type, read_as.mode, events, outcome.text(), &mut payload);
     if lengths_are_shortest(read_as.mode, &list) {
         demand(answer == *read_as, || format!("demand 2: read as {read_as:?}, written back as {answer:?}"))?;
         demand(payload == call.payload, || {
@@ -259,7 +274,8 @@ pub fn write(tally: &mut Tally, call: &Write) -> Result<(Answer, Vec<u8>), Strin
     let bytes = answer.bits.div_ceil(8);
     demand(payload[bytes..].iter().all(|&byte| byte == 0), || format!("demand 1: spare payload is not 0: {answer:?}"))?;
     let mode = call.mode.unwrap_or(bim::MODE_ALWAYS);
-    let (expected, item) = model::write(&call.table, name, of_type, mode, &call.events, &call.texts, call.room);
+    let (expected, item) =
+        model::write(&call.table, call.party, name, of_type, mode, &call.events, &call.texts, call.room);
     if !item.is_empty() {
         tally.casts.count(item, answer.number);
     }
@@ -279,13 +295,67 @@ pub fn write(tally: &mut Tally, call: &Write) -> Result<(Answer, Vec<u8>), Strin
 fn read_back(call: &Write, answer: &Answer, payload: &[u8]) -> Result<(), String> {
     let mut events = vec![0xdddd_dddd; call.events.len()];
     let mut texts = vec![0xdd; call.texts.len()];
-    let back = reader::read(&call.table, call.root.0, call.root.1, payload, &mut events, &mut texts);
+    let back = reader::read(&call.table, call.party, call.root.0, call.root.1, payload, &mut events, &mut texts);
     demand(back == *answer, || format!("demand 2: written as {answer:?}, read back as {back:?}"))?;
     let same_words =
         events.chunks_exact(4).zip(call.events.chunks_exact(4)).all(|(read, given)| read[..3] == given[..3]);
     demand(same_words && texts == call.texts, || format!("demand 2: the list reads back as {events:?} {texts:02x?}"))?;
     let sum: usize = events.chunks_exact(4).map(|event| event[3] as usize).sum();
     demand(sum + 8 == answer.bits, || "demand 2: the bit counts are not true".to_string())
+}
+
+/// Sets or clears a mark: demand 1's shape, the model's answer, and *own*.
+pub fn set(tally: &mut Tally, call: &Set) -> Result<(Answer, Vec<u32>), String> {
+    let (answer, words) = call.ask();
+    tally.met.count("setter", answer.number);
+    demand(answer_has_its_shape(&answer) && answer.path.names().is_empty(), || {
+        format!("demand 1: the answer's shape: {answer:?}")
+    })?;
+    let got = if answer.is_accepted() { Ok(words.clone()) } else { Err((answer.number, answer.place as usize)) };
+    let expected = model::set_held(&call.table, call.party, call.of_type, call.mark);
+    demand(got == expected, || format!("the setter gives {got:?}, the model {expected:?}"))?;
+    if answer.is_accepted() {
+        own(call, &words)?;
+    } else {
+        demand(words == call.table, || format!("a refused setting leaves {words:?}"))?;
+    }
+    Ok((answer, words))
+}
+
+/// *Own*: after an accepted setting the mark is as set; every other mark of anybody, and every other word, is as it was.
+fn own(call: &Set, words: &[u32]) -> Result<(), String> {
+    let (at, bit) = (held_word(call.of_type as usize), 1 << call.party);
+    let is_set = held(words, call.party, call.of_type as usize) == (call.mark != 0);
+    let mut others = words.to_vec();
+    others[at] = (others[at] & !bit) | (call.table[at] & bit);
+    demand(is_set && others == call.table, || format!("{call:?} gives {words:?}"))
+}
+
+/// The table after these settings, one after the other, each refused or not.
+pub fn set_all(tally: &mut Tally, table: &[u32], settings: &[[u32; 3]]) -> Result<Vec<u32>, String> {
+    let one = |table, &[party, of_type, mark]: &[u32; 3]| {
+        set(tally, &Set { table, party, of_type, mark }).map(|(_, table)| table)
+    };
+    settings.iter().try_fold(table.to_vec(), one)
+}
+
+/// *Others*: with the table as settings by others have left it, a reading and a writing give what they gave.
+pub fn others(tally: &mut Tally, after: &[u32], call: &Read, list: &Write) -> Result<(), String> {
+    let before = (read(tally, call)?, write(tally, list)?);
+    let table = || after.to_vec();
+    let then = (
+        read(tally, &Read { table: table(), ..call.clone() })?,
+        write(tally, &Write { table: table(), ..list.clone() })?,
+    );
+    tally.others += 1;
+    demand(before == then, || format!("settings by others turn {before:02x?} into {then:02x?}"))
+}
+
+/// Settings of different marks give the same in both orders.
+pub fn commute(tally: &mut Tally, table: &[u32], one: [u32; 3], other: [u32; 3]) -> Result<(), String> {
+    let (there, back) = (set_all(tally, table, &[one, other])?, set_all(tally, table, &[other, one])?);
+    tally.commuted += 1;
+    demand(one[..2] == other[..2] || there == back, || format!("{one:?} and {other:?} do not commute"))
 }
 
 /// An element of an accepted list, with where it stands.
@@ -466,26 +536,26 @@ impl std::fmt::Display for Pairs {
     }
 }
 
-/// Demand 3, for one payload, root and room under two valid tables alike but for held marks, where the second holds
-/// all that the first holds.
+/// Demand 3, for one party, payload, root and room under two valid tables alike but for held words, where the party holds
+/// by the second all that it holds by the first.
 pub fn two_tables(tally: &mut Tally, first_table: &[u32], second_call: &Read) -> Result<(), String> {
     let first_call = Read { table: first_table.to_vec(), ..second_call.clone() };
     let first = read(tally, &first_call)?;
     let second = read(tally, second_call)?;
-    let pair = judge_pair(first_table, &second_call.table, second_call.root, &first, &second)?;
+    let pair = judge_pair([first_table, &second_call.table], second_call.party, second_call.root, &first, &second)?;
     tally.pairs.count(pair);
     Ok(())
 }
 
-/// Demand 3 of two readings of one payload, whoever made them.
+/// Demand 3 of two readings of one payload by one party, whoever made them.
 pub fn judge_pair(
-    first_table: &[u32],
-    second_table: &[u32],
+    [first_table, second_table]: [&[u32]; 2],
+    party: u32,
     root: (u32, u32),
     first: &Outcome,
     second: &Outcome,
 ) -> Result<Pair, String> {
-    let held = |words: &[u32], of_type: usize| words[held_word(of_type)] == 1;
+    let held = |words: &[u32], of_type: usize| held(words, party, of_type);
     match (first.answer.is_accepted(), second.answer.is_accepted()) {
         (_, true) => {
             let all = spans(second_table, root, &second.list());
@@ -563,6 +633,7 @@ pub fn named(tally: &mut Tally, case: &Case) -> Result<(), String> {
         },
         Call::Read(call) => read(tally, call)?.answer,
         Call::Write(call) => write(tally, call)?.0,
+        Call::Set(call) => set(tally, call)?.0,
     };
     demand(answer == case.answer, || format!("\"{}\" gives {answer:?}, and should {:?}", case.name, case.answer))
 }

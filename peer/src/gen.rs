@@ -74,8 +74,32 @@ fn parameters(rng: &mut Rng, kind: u32) -> (u32, u32) {
     }
 }
 
-/// A right table, all of it held; every other one has derived types and substitutes, or at least room for them.
-pub fn table(rng: &mut Rng) -> Vec<u32> {
+/// One of the eight parties.
+pub fn any_party(rng: &mut Rng) -> u32 {
+    rng.below(bim::PARTIES as usize) as u32
+}
+
+/// A party, right or wrong: those that a number modulo 8 would take for a right one among them.
+pub fn edge_party(rng: &mut Rng) -> u32 {
+    match rng.below(3) {
+        0 => any_party(rng),
+        1 => bim::PARTIES + any_party(rng),
+        _ => edge_word(rng),
+    }
+}
+
+/// A held word with this party's mark, and any of the others'.
+fn marked(rng: &mut Rng, party: u32) -> u32 {
+    let others = match rng.below(4) {
+        0 => 0,
+        1 => bim::MOST_HELD,
+        _ => rng.word() & bim::MOST_HELD,
+    };
+    others | 1 << party
+}
+
+/// A right table, all of it held by this party; every other one has derived types and substitutes, or at least room for them.
+pub fn table(rng: &mut Rng, party: u32) -> Vec<u32> {
     let types = rng.within(1, 9);
     let particles = if rng.one_in(6) { 0 } else { rng.within(1, 14) };
     let mut rows = vec![];
@@ -85,7 +109,7 @@ pub fn table(rng: &mut Rng) -> Vec<u32> {
             1..=4 if particles > 0 => bim::PARTICLES,
             _ => bim::SIMPLE,
         };
-        let mut row = [1, content, 0, 0, 0, 0, 0];
+        let mut row = [marked(rng, party), content, 0, 0, 0, 0, 0];
         if content == bim::PARTICLES {
             row[4] = rng.below(particles) as u32;
         }
@@ -224,12 +248,17 @@ pub fn damage_table(rng: &mut Rng, words: &mut Vec<u32>) {
     }
 }
 
-/// The table with some of its held marks cleared, each with one chance in `times`.
-pub fn let_go(rng: &mut Rng, words: &[u32], times: usize) -> Vec<u32> {
+/// The table with some of a party's marks cleared, each with one chance in `times`; at times with others of the other parties.
+pub fn let_go(rng: &mut Rng, party: u32, words: &[u32], times: usize) -> Vec<u32> {
     let mut words = words.to_vec();
+    let others = rng.one_in(4);
     for of_type in 0..words[1] as usize {
+        let word = &mut words[held_word(of_type)];
+        if others {
+            *word ^= rng.word() & bim::MOST_HELD & !(1 << party);
+        }
         if rng.one_in(times) {
-            words[held_word(of_type)] = 0;
+            *word &= !(1 << party);
         }
     }
     words
@@ -281,9 +310,11 @@ impl Costs {
     }
 }
 
-/// A valid list under an all-held table, with its texts and a payload.
+/// A valid list under a table of which one party holds all, with its texts and a payload.
 #[derive(Clone, Debug)]
 pub struct Sample {
+    /// That party.
+    pub party: u32,
     /// Root name and type.
     pub root: (u32, u32),
     /// Mode.
@@ -334,13 +365,15 @@ impl Sample {
 
     /// Its reading, with so much room.
     pub fn reading(&self, table: &[u32], event_words: usize, text_room: usize) -> Read {
-        Read { table: table.to_vec(), root: self.root, payload: self.payload(), event_words, text_room }
+        let (party, root, payload) = (self.party, self.root, self.payload());
+        Read { table: table.to_vec(), party, root, payload, event_words, text_room }
     }
 
     /// Its writing, with so much room over what its payload takes.
     pub fn writing(&self, table: &[u32], over: usize) -> Write {
         Write {
             table: table.to_vec(),
+            party: self.party,
             root: self.root,
             mode: Some(self.mode),
             events: self.events.concat(),
@@ -350,8 +383,8 @@ impl Sample {
     }
 }
 
-/// A right table whose root, type 0, nests about as many rows as may be open, of every kind that nests.
-pub fn deep_table(rng: &mut Rng) -> Vec<u32> {
+/// A right table, all of it held by this party, whose root, type 0, nests about as many rows as may be open, of every kind that nests.
+pub fn deep_table(rng: &mut Rng, party: u32) -> Vec<u32> {
     let depth = rng.within(58, 70);
     let plain = rng.pick(&[NOTHING, simple(bim::BOOLEAN, 0, 0)]);
     let mut rows = Rows { types: vec![complex(0, 0, 0), plain], ..Rows::default() };
@@ -371,6 +404,7 @@ pub fn deep_table(rng: &mut Rng) -> Vec<u32> {
     }
     // Two elements end the chain, since its last row may be a choice.
     rows.particles.extend([element(2, 1), element(3, 1)]);
+    rows.types.iter_mut().for_each(|row| row[0] = marked(rng, party));
     rows.casts = rng.one_in(4).then(|| casts(rng, rows.types.len(), &rows.particles));
     rows.words()
 }
@@ -378,9 +412,10 @@ pub fn deep_table(rng: &mut Rng) -> Vec<u32> {
 /// A table that has lists, and a sample of them; every third one is sought among those with codes.
 pub fn table_and_sample(rng: &mut Rng, quirk: usize) -> (Vec<u32>, Sample) {
     let mut tries = if rng.one_in(3) { 6 } else { 0 };
+    let party = any_party(rng);
     loop {
-        let table = table(rng);
-        if let Some(sample) = sample(rng, &table, quirk) {
+        let table = table(rng, party);
+        if let Some(sample) = sample(rng, &table, party, quirk) {
             if tries == 0 || sample.events.iter().any(|event| event[0] == bim::KIND_CAST) {
                 return (table, sample);
             }
@@ -454,14 +489,14 @@ pub fn padded_groups(rng: &mut Rng, value: u64) -> usize {
 }
 
 /// A sample under a deep table, which may open more rows than are allowed.
-pub fn deep_sample(rng: &mut Rng, words: &[u32]) -> Option<Sample> {
+pub fn deep_sample(rng: &mut Rng, words: &[u32], party: u32) -> Option<Sample> {
     let root = (name(rng), 0);
-    sample_of(rng, words, root, 0, 80)
+    sample_of(rng, words, party, root, 0, 80)
 }
 
 /// A sample under a right table, with a quirk about once in `quirk` codes (0 for none). `None` where the table has no
 /// list that is short and shallow enough.
-pub fn sample(rng: &mut Rng, words: &[u32], quirk: usize) -> Option<Sample> {
+fn sample(rng: &mut Rng, words: &[u32], party: u32, quirk: usize) -> Option<Sample> {
     let table = Table::new(words).ok()?;
     let costs = Costs::of(&table);
     let able: Vec<_> = (0..table.types()).filter(|&of_type| costs.types[of_type] < 400).collect();
@@ -469,11 +504,11 @@ pub fn sample(rng: &mut Rng, words: &[u32], quirk: usize) -> Option<Sample> {
         return None;
     }
     let root = (name(rng), rng.pick(&able) as u32);
-    sample_of(rng, words, root, quirk, 64)
+    sample_of(rng, words, party, root, quirk, 64)
 }
 
 /// A sample of one root, opening at most `open` rows.
-fn sample_of(rng: &mut Rng, words: &[u32], root: (u32, u32), quirk: usize, open: usize) -> Option<Sample> {
+fn sample_of(rng: &mut Rng, words: &[u32], party: u32, root: (u32, u32), quirk: usize, open: usize) -> Option<Sample> {
     let table = Table::new(words).ok()?;
     let costs = Costs::of(&table);
     let mut mode = rng.below(3) as u32;
@@ -485,7 +520,7 @@ fn sample_of(rng: &mut Rng, words: &[u32], root: (u32, u32), quirk: usize, open:
     let body = maker.element(None, root.0, root.1 as usize, open)?;
     let mut bits = bits_of(mode_byte(mode).into(), 8);
     bits.extend(body);
-    Some(Sample { root, mode, events: maker.events, texts: maker.texts, bits })
+    Some(Sample { party, root, mode, events: maker.events, texts: maker.texts, bits })
 }
 
 /// The byte of a mode that there is.

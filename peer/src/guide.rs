@@ -1,4 +1,5 @@
-//! The example guide under examples/guide: one table, with its rating type held and not held, and programmes as payloads.
+//! The example guide under examples/guide: one table, with its rating type held, not held, and held by one of two parties; and programmes as
+//! payloads.
 
 use crate::bim;
 use crate::cases;
@@ -27,27 +28,35 @@ mod name {
     pub const ZONE: u32 = 33;
 }
 
+/// The row of the rating's type.
+const RATING_TYPE: usize = 3;
+
 /// The root of every programme.
 const ROOT: (u32, u32) = (name::PROGRAMME, 0);
 
-/// The guide's table, the rating's type held or not.
+/// The guide's table, the rating's type held by party 0 or not.
 fn guide_table(rating_held: bool) -> Vec<u32> {
-    let rows = Rows {
+    marked_table(1, rating_held.into())
+}
+
+/// The guide's table with these held marks, of the rating's type and of all others.
+fn marked_table(others: u32, rating: u32) -> Vec<u32> {
+    let mut rows = Rows {
         types: vec![
-            complex(0, 2, 0),                                            // 0 programme
-            simple(bim::TEXT, 0, 0),                                     // 1 title
-            [1, bim::SIMPLE, 1, 1, bim::TEXT, 0, 0],                     // 2 synopsis, with a language
-            [rating_held.into(), bim::SIMPLE, 2, 1, bim::RANGED, 0, 21], // 3 rating: an age, with a scheme
-            complex(3, 1, 11),                                           // 4 showing
-            simple(bim::UNSIGNED, 0, 0),                                 // 5 seconds since 1970, and identifiers
-            simple(bim::RANGED, 1, 1440),                                // 6 minutes of a day
-            simple(bim::BOOLEAN, 0, 0),                                  // 7
-            simple(bim::ENUMERATION, 32, 0),                             // 8 language
-            simple(bim::ENUMERATION, 5, 0),                              // 9 rating scheme
-            NOTHING,                                                     // 10 live
-            simple(bim::RANGED, 1900, 2155),                             // 11 a year
-            simple(bim::SIGNED, 0, 0),                                   // 12 minutes from universal time
-            simple(bim::FLOAT, 0, 0),                                    // 13 degrees east
+            complex(0, 2, 0),                           // 0 programme
+            simple(bim::TEXT, 0, 0),                    // 1 title
+            [1, bim::SIMPLE, 1, 1, bim::TEXT, 0, 0],    // 2 synopsis, with a language
+            [1, bim::SIMPLE, 2, 1, bim::RANGED, 0, 21], // 3 rating: an age, with a scheme
+            complex(3, 1, 11),                          // 4 showing
+            simple(bim::UNSIGNED, 0, 0),                // 5 seconds since 1970, and identifiers
+            simple(bim::RANGED, 1, 1440),               // 6 minutes of a day
+            simple(bim::BOOLEAN, 0, 0),                 // 7
+            simple(bim::ENUMERATION, 32, 0),            // 8 language
+            simple(bim::ENUMERATION, 5, 0),             // 9 rating scheme
+            NOTHING,                                    // 10 live
+            simple(bim::RANGED, 1900, 2155),            // 11 a year
+            simple(bim::SIGNED, 0, 0),                  // 12 minutes from universal time
+            simple(bim::FLOAT, 0, 0),                   // 13 degrees east
         ],
         attributes: vec![[name::ID, 1, 5], [name::LANGUAGE, 0, 8], [name::SCHEME, 1, 9], [name::ZONE, 0, 12]],
         particles: vec![
@@ -71,6 +80,8 @@ fn guide_table(rating_held: bool) -> Vec<u32> {
         ],
         casts: None,
     };
+    rows.types.iter_mut().for_each(|row| row[0] = others);
+    rows.types[RATING_TYPE][0] = rating;
     rows.words()
 }
 
@@ -128,12 +139,14 @@ pub fn files() -> Vec<(&'static str, Vec<u8>)> {
     control[15] = 0x07;
     // As a head end writes it that leaves two groups for a length and fills them later.
     let film_padded =
-        padded(&guide_table(true), ROOT, &film_always, |length| groups(length).max(2)).unwrap_or_default();
+        padded(&guide_table(true), 0, ROOT, &film_always, |length| groups(length).max(2)).unwrap_or_default();
     vec![
         ("worked/worked.table", big_endian(&cases::worked().table)),
         ("worked/worked.bim", cases::worked().payload.clone()),
         ("guide/held.table", big_endian(&guide_table(true))),
         ("guide/not-held.table", big_endian(&guide_table(false))),
+        // Party 0 shows the guide, party 1 is the family lock, which alone holds the rating's type.
+        ("guide/parties.table", big_endian(&marked_table(0b11, 0b10))),
         ("guide/film.bim", film_always),
         ("guide/film-padded.bim", film_padded),
         ("guide/film-no-lengths.bim", film(bim::MODE_NEVER)),

@@ -24,8 +24,10 @@ pub fn check_table(table: &[u8], area: &mut [u8]) -> u32 {
 }
 
 /// Reads a payload; `events`, `texts` and `area` are written.
+#[allow(clippy::too_many_arguments)] // the boundary's names and order are fixed
 pub fn read(
     table: &[u8],
+    party: u32,
     root_name: u32,
     root_type: u32,
     payload: &[u8],
@@ -41,7 +43,7 @@ pub fn read(
     }
     let mut words = vec![0; bim::EVENT_WORDS * (events.len() / bim::EVENT).min(bim::MOST_EVENTS)];
     let answer = match table_words(table) {
-        Ok(table) => reader::read(&table, root_name, root_type, payload, &mut words, texts),
+        Ok(table) => reader::read(&table, party, root_name, root_type, payload, &mut words, texts),
         Err(refusal) => {
             texts.fill(0);
             Answer::refused(refusal, Path::empty())
@@ -58,6 +60,7 @@ pub fn read(
 #[allow(clippy::too_many_arguments)] // the boundary's names and order are fixed
 pub fn write(
     table: &[u8],
+    party: u32,
     root_name: u32,
     root_type: u32,
     mode: u32,
@@ -74,10 +77,10 @@ pub fn write(
     let answer = match table_words(table) {
         Ok(table) => {
             if writer::check_shape(events.len(), bim::EVENT).is_err() {
-                writer::refuse_shape(&table, root_name, root_type, mode, events.len(), payload)
+                writer::refuse_shape(&table, party, root_name, root_type, mode, events.len(), payload)
             } else {
                 let words = words_of(events);
-                writer::write(&table, root_name, root_type, mode, &words, texts, payload)
+                writer::write(&table, party, root_name, root_type, mode, &words, texts, payload)
             }
         }
         Err(refusal) => {
@@ -89,8 +92,10 @@ pub fn write(
 }
 
 /// The short call: writes a list in mode 2, and not in 6 where the table has derivations.
+#[allow(clippy::too_many_arguments)] // the boundary's names and order are fixed
 pub fn write_lengths(
     table: &[u8],
+    party: u32,
     root_name: u32,
     root_type: u32,
     events: &[u8],
@@ -98,7 +103,29 @@ pub fn write_lengths(
     payload: &mut [u8],
     area: &mut [u8],
 ) -> u32 {
-    write(table, root_name, root_type, bim::MODE_ALWAYS, events, texts, payload, area)
+    write(table, party, root_name, root_type, bim::MODE_ALWAYS, events, texts, payload, area)
+}
+
+/// Sets or clears a party's mark of a type in `table`; `area` is written. A table that is refused stays as it is.
+pub fn set_held(table: &mut [u8], party: u32, of_type: u32, mark: u32, area: &mut [u8]) -> u32 {
+    if area.len() != bim::AREA {
+        area.fill(0);
+        return bim::AREA_SIZE;
+    }
+    let set = table_words(table).and_then(|mut words| {
+        table::set_held(&mut words, party, of_type, mark)?;
+        Ok(words)
+    });
+    let answer = match set {
+        Ok(words) => {
+            for (bytes, word) in table.chunks_exact_mut(4).zip(words) {
+                bytes.copy_from_slice(&word.to_be_bytes());
+            }
+            Answer::accepted(0, 0, 0, 0)
+        }
+        Err(refusal) => Answer::refused(refusal, Path::empty()),
+    };
+    fill_area(&answer, area)
 }
 
 /// A table's words. Bytes over a whole word, or too many, make the length wrong; the header stands before that.

@@ -84,10 +84,11 @@ impl List {
         self.start(name).text(text).end()
     }
 
-    /// The payload that the peer writes, or the number of its refusal.
+    /// The payload that the peer writes for party 0, or the number of its refusal.
     pub fn payload(&self, table: &[u32], root: (u32, u32)) -> Result<Vec<u8>, u32> {
         let mut payload = vec![0; bim::MOST_PAYLOAD];
-        let answer = writer::write(table, root.0, root.1, self.mode, &self.events.concat(), &self.texts, &mut payload);
+        let answer =
+            writer::write(table, 0, root.0, root.1, self.mode, &self.events.concat(), &self.texts, &mut payload);
         payload.truncate(answer.bits.div_ceil(8));
         if answer.is_accepted() {
             Ok(payload)

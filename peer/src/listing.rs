@@ -1,4 +1,4 @@
-//! The listing program: its input bytes as its output text.
+//! The listing program: its input bytes as its output text. It reads as party 0.
 
 use crate::bim;
 use crate::reader;
@@ -18,7 +18,7 @@ pub fn listing(input: &[u8]) -> String {
     };
     let mut events = [0; bim::EVENT_WORDS * bim::MOST_EVENTS];
     let mut texts = [0; bim::MOST_PAYLOAD];
-    let answer = reader::read(&table, root_name, root_type, payload, &mut events, &mut texts);
+    let answer = reader::read(&table, 0, root_name, root_type, payload, &mut events, &mut texts);
     if !answer.is_accepted() {
         return format!("refused {} {}\n", answer.number, answer.place);
     }

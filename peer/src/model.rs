@@ -156,6 +156,10 @@ impl Rows<'_> {
     fn has_codes(&self, row: i64, casting: bool) -> bool {
         !self.substitutes(row).is_empty() || casting && !self.derived(self.of_particle(row, 2)).is_empty()
     }
+    /// Whether a party's mark is in the held word, which is a sum of powers of two.
+    fn is_held(&self, party: u32, row: i64) -> bool {
+        self.of_type(row, 0) / (1 << party) % 2 == 1
+    }
     fn of_type(&self, row: i64, column: i64) -> i64 {
         self.at(HEADER + TYPE_ROW * row + column)
     }
@@ -177,7 +181,8 @@ impl Rows<'_> {
             let content = self.of_type(row, 1) as u32;
             let simple = self.of_type(row, 4) as u32;
             return match ((index - HEADER) % TYPE_ROW, content) {
-                (0, _) => word < 2,
+                // A mark for each party, and no more.
+                (0, _) => word < 1 << bim::PARTIES,
                 (1, _) => word <= bim::PARTICLES.into(),
                 (2, _) => word <= self.a(),
                 (3, _) => self.of_type(row, 2) + word <= self.a(),
@@ -472,9 +477,32 @@ pub fn text_fault(text: &[u8]) -> Result<(), u32> {
     }
 }
 
+/// The table with a party's mark of a type as told; or number and place.
+pub fn set_held(table: &[u32], party: u32, of_type: u32, mark: u32) -> Result<Vec<u32>, (u32, usize)> {
+    if let Some(word) = check_table(table) {
+        return Err((bim::TABLE, word));
+    }
+    let rows = Rows { words: table };
+    if i64::from(of_type) >= rows.t() {
+        return Err((bim::ROOT, 0));
+    }
+    if party >= bim::PARTIES {
+        return Err((bim::PARTY, 0));
+    }
+    let mut words = table.to_vec();
+    let at = (HEADER + TYPE_ROW * i64::from(of_type)) as usize;
+    match (rows.is_held(party, of_type.into()), mark != 0) {
+        (false, true) => words[at] += 1 << party,
+        (true, false) => words[at] -= 1 << party,
+        _ => {}
+    }
+    Ok(words)
+}
+
 /// Reads, with room for `event_room` events and `text_room` text bytes.
 pub fn read(
     table: &[u32],
+    party: u32,
     root_name: u32,
     root_type: u32,
     payload: &[u8],
@@ -489,6 +517,9 @@ pub fn read(
     if i64::from(root_type) >= rows.t() || root_name > bim::MOST_NAME {
         return refused(bim::ROOT, 0);
     }
+    if party >= bim::PARTIES {
+        return refused(bim::PARTY, 0);
+    }
     if payload.is_empty() || payload.len() > bim::MOST_PAYLOAD {
         return refused(bim::PAYLOAD_SIZE, 0);
     }
@@ -500,6 +531,7 @@ pub fn read(
     }
     let mut agenda = Agenda {
         rows,
+        party,
         lengths: mode & 3,
         casting: mode & 4 != 0,
         item: "",
@@ -569,6 +601,7 @@ impl From<u32> for Fault {
 
 struct Agenda<'a> {
     rows: Rows<'a>,
+    party: u32,
     lengths: u32,
     casting: bool,
     /// What is looked at, where it has to do with codes.
@@ -632,7 +665,7 @@ impl Agenda<'_> {
                     self.item = if of_type == own { "element with codes" } else { "element of another type" };
                 }
                 let codes_end = fetch.at;
-                if rows.of_type(of_type, 0) == 0 {
+                if !rows.is_held(self.party, of_type) {
                     let (_, end) = declared.ok_or(bim::NOT_HELD)?;
                     self.unseen.push(codes_end..end);
                     self.store(bim::KIND_BLANK, name, of_type, end)?;
@@ -786,8 +819,10 @@ pub fn count_bits(least: i64, most: i64, count: u32) -> Option<Vec<bool>> {
 }
 
 /// Writes into `room` bytes. Besides, the item that was refused, of those that have to do with substitution and casting.
+#[allow(clippy::too_many_arguments)] // what a call is given, in its order
 pub fn write(
     table: &[u32],
+    party: u32,
     root_name: u32,
     root_type: u32,
     mode: u32,
@@ -802,6 +837,9 @@ pub fn write(
     if i64::from(root_type) >= rows.t() || root_name > bim::MOST_NAME {
         return (Err((bim::ROOT, 0)), "");
     }
+    if party >= bim::PARTIES {
+        return (Err((bim::PARTY, 0)), "");
+    }
     let Some(&(_, byte)) = bim::MODES.iter().find(|(number, _)| *number == mode) else {
         return (Err((bim::WRITE_MODE, 0)), if mode == 3 { "mode 3" } else { "mode over 6" });
     };
@@ -815,6 +853,7 @@ pub fn write(
     let root = Task::Element { row: None, name: root_name.into(), of_type: root_type.into(), wall: 0, depth: 1 };
     let mut walk = Walk {
         rows,
+        party,
         lengths: mode & 3,
         casting: mode & 4 != 0,
         item: "",
@@ -848,6 +887,7 @@ pub fn write(
 
 struct Walk<'a> {
     rows: Rows<'a>,
+    party: u32,
     lengths: u32,
     casting: bool,
     /// What is looked at, where it has to do with codes.
@@ -940,7 +980,7 @@ impl Walk<'_> {
                 if let Some(row) = row.filter(|&row| rows.has_codes(row, self.casting)) {
                     of_type = self.cast(row, of_type)?;
                 }
-                if rows.of_type(of_type, 0) == 0 {
+                if !rows.is_held(self.party, of_type) {
                     self.next = start;
                     return Err(bim::NOT_HELD);
                 }

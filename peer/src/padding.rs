@@ -61,10 +61,16 @@ pub fn pad(mode: u32, list: &mut [[u32; 4]], payload: &[bool], mut groups_of: im
     all
 }
 
-/// The payload with each TheLength in as many groups as `groups_of` says; `None` where it is refused.
-pub fn padded(table: &[u32], root: (u32, u32), payload: &[u8], groups_of: impl FnMut(u64) -> usize) -> Option<Vec<u8>> {
+/// The payload with each TheLength in as many groups as `groups_of` says; `None` where this party is refused it.
+pub fn padded(
+    table: &[u32],
+    party: u32,
+    root: (u32, u32),
+    payload: &[u8],
+    groups_of: impl FnMut(u64) -> usize,
+) -> Option<Vec<u8>> {
     let mut events = vec![0; bim::EVENT_WORDS * bim::MOST_EVENTS];
-    let answer = reader::read(table, root.0, root.1, payload, &mut events, &mut [0; bim::MOST_PAYLOAD]);
+    let answer = reader::read(table, party, root.0, root.1, payload, &mut events, &mut [0; bim::MOST_PAYLOAD]);
     let list = &mut events.as_chunks_mut().0[..answer.events];
     let bits: Vec<_> = payload.iter().flat_map(|&byte| bits_of(byte.into(), 8)).collect();
     answer.is_accepted().then(|| bytes_of(&pad(answer.mode, list, &bits, groups_of)))

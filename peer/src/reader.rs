@@ -13,13 +13,14 @@ use crate::value;
 /// Reads `payload` into `events` (four words each) and `texts`. Spare words and bytes become 0; on refusal all do.
 pub fn read(
     table: &[u32],
+    party: u32,
     root_name: u32,
     root_type: u32,
     payload: &[u8],
     events: &mut [u32],
     texts: &mut [u8],
 ) -> Answer {
-    let answer = read_into(table, root_name, root_type, payload, events, texts);
+    let answer = read_into(table, party, root_name, root_type, payload, events, texts);
     // A refused answer counts 0 events and 0 text bytes, so this clears the whole of both.
     events[bim::EVENT_WORDS * answer.events..].fill(0);
     texts[answer.text..].fill(0);
@@ -42,23 +43,25 @@ pub fn mode_of(byte: u8, derivations: usize) -> Option<u32> {
     }
 }
 
-/// The table, if it and the root are right (1, then 2).
-pub fn check_root(table: &[u32], root_name: u32, root_type: u32) -> Result<Table<'_>, Refusal> {
+/// The table, if it, the root and the party are right (1, then 2, then 26).
+pub fn check_root(table: &[u32], party: u32, root_name: u32, root_type: u32) -> Result<Table<'_>, Refusal> {
     let table = Table::new(table).map_err(|word| refusal(bim::TABLE, word))?;
-    if root_type as usize >= table.types() || root_name > bim::MOST_NAME {
+    if root_name > bim::MOST_NAME {
         return Err(refusal(bim::ROOT, 0));
     }
+    table.check_type_and_party(root_type, party)?;
     Ok(table)
 }
 
-/// What can be refused before the first item: 1, 2, 3, 4.
+/// What can be refused before the first item: 1, 2, 26, 3, 4.
 fn check_call<'a>(
     table: &'a [u32],
+    party: u32,
     root_name: u32,
     root_type: u32,
     payload: &[u8],
 ) -> Result<(Table<'a>, u32), Refusal> {
-    let table = check_root(table, root_name, root_type)?;
+    let table = check_root(table, party, root_name, root_type)?;
     if payload.is_empty() || payload.len() > bim::MOST_PAYLOAD {
         return Err(refusal(bim::PAYLOAD_SIZE, 0));
     }
@@ -68,19 +71,20 @@ fn check_call<'a>(
 
 fn read_into(
     table: &[u32],
+    party: u32,
     root_name: u32,
     root_type: u32,
     payload: &[u8],
     events: &mut [u32],
     texts: &mut [u8],
 ) -> Answer {
-    let (table, mode) = match check_call(table, root_name, root_type, payload) {
+    let (table, mode) = match check_call(table, party, root_name, root_type, payload) {
         Ok(checked) => checked,
         Err(refusal) => return Answer::refused(refusal, Path::empty()),
     };
     let room = (events.len() / bim::EVENT_WORDS).min(bim::MOST_EVENTS);
     let mut reader =
-        Reader { table, payload, mode, at: 8, events, room, stored: 0, texts, used: 0, path: Path::empty() };
+        Reader { table, party, payload, mode, at: 8, events, room, stored: 0, texts, used: 0, path: Path::empty() };
     let end = 8 * payload.len();
     let read =
         reader.element(None, root_name, root_type as usize, end, bim::MOST_OPEN).and_then(|()| reader.padding(end));
@@ -92,6 +96,8 @@ fn read_into(
 
 struct Reader<'a> {
     table: Table<'a>,
+    /// Whose marks count.
+    party: u32,
     payload: &'a [u8],
     mode: u32,
     /// The next bit.
@@ -144,7 +150,7 @@ impl Reader<'_> {
         };
         let of_type = codes.of_type;
         let row = self.table.type_row(of_type);
-        if !row.held {
+        if !row.held_by(self.party) {
             if !head.has_length {
                 return Err(refusal(bim::NOT_HELD, first));
             }

@@ -29,9 +29,14 @@ pub struct Casts {
     pub of_rows: Vec<[u32; 2]>,
 }
 
-/// Where the held mark of a type stands.
+/// Where the held marks of a type stand.
 pub const fn held_word(of_type: usize) -> usize {
     bim::HEADER + bim::TYPE_ROW * of_type
+}
+
+/// Whether a party holds a type. The party is one of the eight.
+pub fn held(words: &[u32], party: u32, of_type: usize) -> bool {
+    words[held_word(of_type)] >> party & 1 == 1
 }
 
 /// A type of no content and no attributes.

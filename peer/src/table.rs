@@ -1,5 +1,6 @@
 //! The schema table: its check, and its rows.
 
+use crate::answer::{refusal, Refusal};
 use crate::bim;
 
 /// A table that was checked.
@@ -16,8 +17,8 @@ pub struct Table<'a> {
 /// A type row.
 #[derive(Clone, Copy, Debug, PartialEq, Eq)]
 pub struct Type {
-    /// Whether elements of this type are looked into.
-    pub held: bool,
+    /// Who holds it: bit p is party p's mark.
+    pub held: u32,
     /// One of `content`.
     pub content: u32,
     /// First attribute row.
@@ -30,6 +31,14 @@ pub struct Type {
     pub b: u32,
     /// Second parameter of the simple kind.
     pub c: u32,
+}
+
+impl Type {
+    /// Whether this party looks into elements of this type. The party is one of the eight.
+    #[inline]
+    pub fn held_by(&self, party: u32) -> bool {
+        self.held >> party & 1 == 1
+    }
 }
 
 /// An attribute row.
@@ -81,6 +90,16 @@ pub enum Particle {
 /// The first word at fault, or the number of words given where their number is wrong.
 pub fn check(words: &[u32]) -> Result<(), usize> {
     Table::new(words).map(|_| ())
+}
+
+/// Sets the party's mark of a type, or clears it where `mark` is 0: 1, 2, 26. A table that is refused stays as it is.
+pub fn set_held(words: &mut [u32], party: u32, of_type: u32, mark: u32) -> Result<(), Refusal> {
+    let table = Table::new(words).map_err(|word| refusal(bim::TABLE, word))?;
+    table.check_type_and_party(of_type, party)?;
+    let at = table.type_word(of_type as usize);
+    let bit = 1 << party;
+    words[at] = if mark == 0 { words[at] & !bit } else { words[at] | bit };
+    Ok(())
 }
 
 /// Judges the header words that are there; `Err` is the first at fault.
@@ -175,10 +194,21 @@ impl<'a> Table<'a> {
         demand(count <= most - first, at + 1)
     }
 
+    /// Passes where there is such a type, and then where there is such a party: 2, 26.
+    pub fn check_type_and_party(&self, of_type: u32, party: u32) -> Result<(), Refusal> {
+        if of_type as usize >= self.types {
+            return Err(refusal(bim::ROOT, 0));
+        }
+        if party >= bim::PARTIES {
+            return Err(refusal(bim::PARTY, 0));
+        }
+        Ok(())
+    }
+
     fn check_type(&self, row: usize) -> Result<(), usize> {
         let at = self.type_word(row);
         let word = |index: usize| self.words[at + index];
-        demand(word(0) <= 1, at)?;
+        demand(word(0) <= bim::MOST_HELD, at)?;
         demand(word(1) <= bim::PARTICLES, at + 1)?;
         demand(word(2) as usize <= self.attributes, at + 2)?;
         demand(word(3) as usize <= self.attributes - word(2) as usize, at + 3)?;
@@ -324,7 +354,7 @@ impl<'a> Table<'a> {
         let at = self.type_word(row);
         let words = &self.words[at..at + bim::TYPE_ROW];
         Type {
-            held: words[0] == 1,
+            held: words[0],
             content: words[1],
             first_attribute: words[2] as usize,
             attributes: words[3] as usize,

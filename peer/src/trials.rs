@@ -2,21 +2,22 @@
 
 use crate::answer::{refusal, Answer, Path};
 use crate::bim;
-use crate::call::{Read, Write};
+use crate::call::{Read, Set, Write};
 use crate::demands::{self, check_table, two_tables, Tally};
 use crate::gen::{self, table_and_control, table_and_padded, table_and_sample};
 use crate::rng::Rng;
+use crate::rows::held_word;
 use crate::words::{big_endian, words_of};
 use crate::{bits, codes, host, model, reader, utf8, value, writer};
 
 /// The kinds of trial, by name.
-pub const KINDS: [&str; 12] = [
+pub const KINDS: [&str; 13] = [
     "valid lists", "odd codes", "damaged payloads", "two tables", "damaged lists", "damaged tables", "noise",
-    "codes alone", "C boundary", "deep lists", "padded lengths", "control characters",
+    "codes alone", "C boundary", "deep lists", "padded lengths", "control characters", "settings",
 ];
 
-/// How often each kind comes up among 25.
-const SHARES: [usize; 25] = [0, 0, 0, 1, 1, 1, 2, 2, 2, 3, 3, 3, 4, 4, 4, 5, 6, 7, 7, 8, 9, 10, 10, 11, 11];
+/// How often each kind comes up among 27.
+const SHARES: [usize; 27] = [0, 0, 0, 1, 1, 1, 2, 2, 2, 3, 3, 3, 4, 4, 4, 5, 6, 7, 7, 8, 9, 10, 10, 11, 11, 12, 12];
 
 /// Runs the trial of this seed; gives its kind, and `Err` with what was violated.
 pub fn trial(tally: &mut Tally, seed: u64) -> (usize, Result<(), String>) {
@@ -34,7 +35,8 @@ pub fn trial(tally: &mut Tally, seed: u64) -> (usize, Result<(), String>) {
         8 => boundary(&mut rng),
         9 => deep_list(tally, &mut rng),
         10 => padded_lengths(tally, &mut rng),
-        _ => control_characters(tally, &mut rng),
+        11 => control_characters(tally, &mut rng),
+        _ => settings(tally, &mut rng),
     };
     (kind, result)
 }
@@ -100,8 +102,9 @@ fn valid_list(tally: &mut Tally, rng: &mut Rng) -> Result<(), String> {
 
 /// A list that opens about as many rows as may be, some too many: written, read, and under two tables.
 fn deep_list(tally: &mut Tally, rng: &mut Rng) -> Result<(), String> {
-    let table = gen::deep_table(rng);
-    let Some(mut sample) = gen::deep_sample(rng, &table) else {
+    let party = gen::any_party(rng);
+    let table = gen::deep_table(rng, party);
+    let Some(mut sample) = gen::deep_sample(rng, &table, party) else {
         return Ok(());
     };
     let undamaged = !rng.one_in(3);
@@ -112,7 +115,7 @@ fn deep_list(tally: &mut Tally, rng: &mut Rng) -> Result<(), String> {
     demands::write(tally, &call)?;
     call.mode = None;
     demands::write(tally, &call)?;
-    let first = gen::let_go(rng, &table, 12);
+    let first = gen::let_go(rng, party, &table, 12);
     let mut call = sample.reading(&table, 4 * sample.events.len() + 16, sample.texts.len());
     if undamaged && rng.one_in(3) {
         sample.pad(rng);
@@ -130,7 +133,7 @@ fn padded_lengths(tally: &mut Tally, rng: &mut Rng) -> Result<(), String> {
     if fits && (outcome.list() != sample.events || outcome.text() != sample.texts) {
         return Err(format!("padded, {:?} reads as {:?}", sample.events, outcome.list()));
     }
-    let first = gen::let_go(rng, &table, 4);
+    let first = gen::let_go(rng, sample.party, &table, 4);
     two_tables(tally, &first, &call)?;
     gen::damage_payload(rng, &mut call.payload);
     (call.event_words, call.text_room) = rooms(rng, sample.events.len() + 3, sample.texts.len() + 8);
@@ -141,11 +144,56 @@ fn padded_lengths(tally: &mut Tally, rng: &mut Rng) -> Result<(), String> {
 fn control_characters(tally: &mut Tally, rng: &mut Rng) -> Result<(), String> {
     let (table, sample) = table_and_control(rng);
     let mut call = sample.reading(&table, 4 * sample.events.len(), sample.texts.len());
-    let first = gen::let_go(rng, &table, 4);
+    let first = gen::let_go(rng, sample.party, &table, 4);
     two_tables(tally, &first, &call)?;
     (call.event_words, call.text_room) = rooms(rng, sample.events.len(), sample.texts.len());
     demands::read(tally, &call)?;
     demands::write(tally, &sample.writing(&table, 0)).map(drop)
+}
+
+/// Settings by others between a party's readings and writings, on tables that may be damaged; then its own, and two in both orders.
+fn settings(tally: &mut Tally, rng: &mut Rng) -> Result<(), String> {
+    let (whole, sample) = match rng.below(4) {
+        0 => table_and_padded(rng),
+        1 => table_and_control(rng),
+        _ => table_and_sample(rng, 0),
+    };
+    let (party, types) = (sample.party, whole[1]);
+    let mut table = gen::let_go(rng, party, &whole, 4);
+    if rng.one_in(8) {
+        gen::damage_table(rng, &mut table);
+    }
+    let call = Read { table: table.clone(), ..sample.reading(&whole, 4 * sample.events.len(), sample.texts.len()) };
+    let list = Write { table: table.clone(), ..sample.writing(&whole, 0) };
+    let by_others: Vec<_> =
+        (0..rng.within(1, 6)).map(|_| any_setting(rng, types)).filter(|set| set[0] != party).collect();
+    let after = demands::set_all(tally, &table, &by_others)?;
+    demands::others(tally, &after, &call, &list)?;
+    // By one bit: any marks of the others at once.
+    let mut after = table.clone();
+    if check_table(tally, &table)?.is_none() {
+        let others = bim::MOST_HELD & !(1 << party);
+        (0..types as usize).for_each(|of_type| after[held_word(of_type)] ^= rng.word() & others);
+    }
+    demands::others(tally, &after, &call, &list)?;
+    let own: Vec<_> =
+        (0..rng.within(1, 3)).map(|_| [party, rng.below(types as usize) as u32, rng.below(2) as u32]).collect();
+    let after = demands::set_all(tally, &table, &own)?;
+    demands::read(tally, &Read { table: after, ..call })?;
+    let (one, other) = (any_setting(rng, types), any_setting(rng, types));
+    demands::commute(tally, &table, one, other)
+}
+
+/// Party, type and mark of a setting, mostly one that is accepted.
+pub fn any_setting(rng: &mut Rng, types: u32) -> [u32; 3] {
+    let party = if rng.one_in(8) { gen::edge_party(rng) } else { gen::any_party(rng) };
+    let of_type = match rng.below(10) {
+        0 => types,
+        1 => gen::edge_word(rng),
+        _ => rng.below(types as usize) as u32,
+    };
+    let mark = if rng.one_in(3) { gen::edge_word(rng) } else { rng.below(2) as u32 };
+    [party, of_type, mark]
 }
 
 /// A payload with codes that no writer of ours makes.
@@ -153,7 +201,7 @@ fn odd_codes(tally: &mut Tally, rng: &mut Rng) -> Result<(), String> {
     let quirk = rng.pick(&[3, 8, 25]);
     let (table, sample) = table_and_sample(rng, quirk);
     let (event_words, text_room) = rooms(rng, sample.events.len(), sample.texts.len());
-    let table = gen::let_go(rng, &table, 5);
+    let table = gen::let_go(rng, sample.party, &table, 5);
     demands::read(tally, &sample.reading(&table, event_words, text_room)).map(drop)
 }
 
@@ -163,8 +211,9 @@ fn damaged_payload(tally: &mut Tally, rng: &mut Rng) -> Result<(), String> {
     let mut call = sample.reading(&table, 0, 0);
     gen::damage_payload(rng, &mut call.payload);
     (call.event_words, call.text_room) = rooms(rng, sample.events.len() + 3, sample.texts.len() + 8);
-    call.table = gen::let_go(rng, &table, 5);
+    call.table = gen::let_go(rng, sample.party, &table, 5);
     match rng.below(40) {
+        3 => call.party = gen::edge_party(rng),
         0 => call.root.1 = table[1] + rng.below(2) as u32,
         1 => call.root.0 = gen::edge_word(rng),
         2 => call.root.1 = gen::edge_word(rng),
@@ -181,8 +230,8 @@ fn two_table_trial(tally: &mut Tally, rng: &mut Rng) -> Result<(), String> {
     if rng.one_in(4) {
         gen::damage_payload(rng, &mut call.payload);
     }
-    let second = gen::let_go(rng, &table, 8);
-    let first = gen::let_go(rng, &second, 3);
+    let second = gen::let_go(rng, sample.party, &table, 8);
+    let first = gen::let_go(rng, sample.party, &second, 3);
     // Room for the first, and not always for the second: the last part of demand 3.
     call.table.clone_from(&first);
     let least = demands::read(tally, &call)?.answer;
@@ -205,7 +254,7 @@ fn damaged_list(tally: &mut Tally, rng: &mut Rng) -> Result<(), String> {
     }
     let mut call = sample.writing(&table, 0);
     if rng.one_in(5) {
-        call.table = gen::let_go(rng, &table, 4);
+        call.table = gen::let_go(rng, sample.party, &table, 4);
     }
     if rng.one_in(30) {
         call.events.pop();
@@ -216,6 +265,7 @@ fn damaged_list(tally: &mut Tally, rng: &mut Rng) -> Result<(), String> {
     match rng.below(30) {
         0 => call.root.1 = gen::edge_word(rng),
         1 => call.root.0 = gen::edge_word(rng),
+        2 => call.party = gen::edge_party(rng),
         _ => {}
     }
     call.room = match rng.below(8) {
@@ -232,9 +282,10 @@ fn any_mode(rng: &mut Rng) -> Option<u32> {
     (!rng.one_in(9)).then(|| rng.below(9) as u32)
 }
 
-/// A table damaged: the check against the model's, and all three calls give the same word.
+/// A table damaged: the check against the model's, and all calls give the same word.
 fn damaged_table(tally: &mut Tally, rng: &mut Rng) -> Result<(), String> {
-    let mut table = gen::table(rng);
+    let party = gen::any_party(rng);
+    let mut table = gen::table(rng, party);
     for _ in 0..rng.within(0, 2) {
         gen::damage_table(rng, &mut table);
         if table.is_empty() {
@@ -246,12 +297,14 @@ fn damaged_table(tally: &mut Tally, rng: &mut Rng) -> Result<(), String> {
     }
     let fault = check_table(tally, &table)?;
     let root = (rng.below(9) as u32, rng.below(3) as u32);
-    let read = Read { table: table.clone(), root, payload: gen::noise(rng), event_words: 400, text_room: 100 };
+    let read = Read { table: table.clone(), party, root, payload: gen::noise(rng), event_words: 400, text_room: 100 };
     let read = demands::read(tally, &read)?.answer;
     let events = vec![bim::KIND_START, root.0, 0, 0, bim::KIND_END, 0, 0, 0];
-    let list = Write { table, root, mode: any_mode(rng), events, texts: vec![], room: 40 };
+    let of_type = rng.below(3) as u32;
+    let set = demands::set(tally, &Set { table: table.clone(), party, of_type, mark: rng.below(3) as u32 })?.0;
+    let list = Write { table, party, root, mode: any_mode(rng), events, texts: vec![], room: 40 };
     let written = demands::write(tally, &list)?.0;
-    for answer in [read, written] {
+    for answer in [read, written, set] {
         let named = (answer.number == bim::TABLE).then_some(answer.place as usize);
         if named != fault {
             return Err(format!("the check names {fault:?}, a call {answer:?}"));
@@ -262,17 +315,18 @@ fn damaged_table(tally: &mut Tally, rng: &mut Rng) -> Result<(), String> {
 
 /// Any root, any bits.
 fn noise(tally: &mut Tally, rng: &mut Rng) -> Result<(), String> {
-    let table = gen::table(rng);
-    let first = gen::let_go(rng, &table, 4);
+    let party = gen::any_party(rng);
+    let table = gen::table(rng, party);
+    let first = gen::let_go(rng, party, &table, 4);
     let payload = gen::noise(rng);
     let (event_words, text_room) = rooms(rng, 100, 40);
     let root = (rng.below(50) as u32, rng.below(table[1] as usize) as u32);
-    let call = Read { table, root, payload, event_words, text_room };
+    let call = Read { table, party, root, payload, event_words, text_room };
     two_tables(tally, &first, &call)?;
     // The same bits as a list.
     let events: Vec<_> = (0..4 * rng.below(6)).map(|_| rng.below(9) as u32).collect();
     let mode = any_mode(rng);
-    demands::write(tally, &Write { table: call.table, root, mode, events, texts: vec![], room: 40 }).map(drop)
+    demands::write(tally, &Write { table: call.table, party, root, mode, events, texts: vec![], room: 40 }).map(drop)
 }
 
 /// Every code by itself, from any bit up to any wall, against the model's; then written and read back.
@@ -433,7 +487,8 @@ fn boundary(rng: &mut Rng) -> Result<(), String> {
     let mut texts = vec![0xdd; rng.below(sample.texts.len() + 9)];
     let mut area = vec![0xdd; area_bytes];
     let (name, of_type) = sample.root;
-    let number = host::read(&table_bytes, name, of_type, &payload, &mut events, &mut texts, &mut area);
+    let party = if rng.one_in(9) { gen::edge_party(rng) } else { sample.party };
+    let number = host::read(&table_bytes, party, name, of_type, &payload, &mut events, &mut texts, &mut area);
     let mut out = events.clone();
     out.extend(&texts);
     let expected = if area_bytes != bim::AREA {
@@ -443,7 +498,7 @@ fn boundary(rng: &mut Rng) -> Result<(), String> {
     } else {
         let mut words = vec![0; 4 * (events.len() / 16)];
         let mut text = vec![0; texts.len()];
-        let answer = reader::read(&table, name, of_type, &payload, &mut words, &mut text);
+        let answer = reader::read(&table, party, name, of_type, &payload, &mut words, &mut text);
         let mut out = big_endian(&words);
         out.resize(events.len(), 0);
         out.extend(text);
@@ -459,7 +514,7 @@ fn boundary(rng: &mut Rng) -> Result<(), String> {
     let mode = rng.pick(&[sample.mode, sample.mode, sample.mode, 3]);
     let mut out = vec![0xdd; sample.bits.len().div_ceil(8) + rng.below(4)];
     let mut area = vec![0xdd; area_bytes];
-    let number = host::write(&table_bytes, name, of_type, mode, &list, &sample.texts, &mut out, &mut area);
+    let number = host::write(&table_bytes, party, name, of_type, mode, &list, &sample.texts, &mut out, &mut area);
     let expected = if area_bytes != bim::AREA {
         (bim::AREA_SIZE, zeros(&area), zeros(&out))
     } else if let Some(word) = fault {
@@ -473,8 +528,22 @@ fn boundary(rng: &mut Rng) -> Result<(), String> {
             words.pop();
         }
         let mut bytes = vec![0; out.len()];
-        let answer = writer::write(&table, name, of_type, mode, &words, &sample.texts, &mut bytes);
+        let answer = writer::write(&table, party, name, of_type, mode, &words, &sample.texts, &mut bytes);
         (answer.number, area_of(&answer), bytes)
     };
-    agree("bim_write", (number, area, out), expected)
+    agree("bim_write", (number, area, out), expected)?;
+
+    let [party, of_type, mark] = any_setting(rng, 5);
+    let mut area = vec![0xdd; area_bytes];
+    let mut set = table_bytes.clone();
+    let number = host::set_held(&mut set, party, of_type, mark, &mut area);
+    let expected = if area_bytes != bim::AREA {
+        (bim::AREA_SIZE, zeros(&area), table_bytes)
+    } else if let Some(word) = fault {
+        (bim::TABLE, area_of(&refused(word)), table_bytes)
+    } else {
+        let (answer, words) = Set { table, party, of_type, mark }.ask();
+        (answer.number, area_of(&answer), big_endian(&words))
+    };
+    agree("bim_set_held", (number, area, set), expected)
 }

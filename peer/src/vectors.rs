@@ -7,7 +7,7 @@
 use crate::answer::{refusal, Answer, Path};
 use crate::bim;
 use crate::bits::Code;
-use crate::call::{Call, Read, Write};
+use crate::call::{Call, Read, Set, Write};
 use crate::cases::Case;
 use crate::model::bytes_of;
 use crate::words::{hex, unhex};
@@ -109,13 +109,18 @@ pub fn case_of(block: &str) -> Option<Case> {
     let pair = |key: &str| <[u32; 2]>::try_from(words(key)?).ok().map(|[one, two]| (one, two));
     let one = |key: &str| line(key)?.parse().ok();
     let table = words("table")?;
+    // Where no party is named, party 0 asks.
+    let party = match line("party") {
+        Some(party) => party.parse().ok()?,
+        None => 0,
+    };
     let call = if let Some((event_words, text_room)) = pair("rooms") {
         let payload = match line("bits") {
             Some(bits) => bytes_of_bits(bits)?,
             None => unhex(line("payload")?)?,
         };
         let (event_words, text_room) = (event_words as usize, text_room as usize);
-        Call::Read(Read { table, root: pair("root")?, payload, event_words, text_room })
+        Call::Read(Read { table, party, root: pair("root")?, payload, event_words, text_room })
     } else if let Some(room) = one("room") {
         let mode = match line("mode") {
             Some(mode) => Some(mode.parse().ok()?),
@@ -123,12 +128,15 @@ pub fn case_of(block: &str) -> Option<Case> {
         };
         Call::Write(Write {
             table,
+            party,
             root: pair("root")?,
             mode,
             events: words("words")?,
             texts: unhex(line("texts")?)?,
             room,
         })
+    } else if let Some((of_type, mark)) = pair("set") {
+        Call::Set(Set { table, party, of_type, mark })
     } else {
         Call::Table(table)
     };
@@ -150,10 +158,10 @@ fn answered(call: &Call) -> String {
             Ok(()) => "answer 0 0\n".to_string(),
             Err(word) => format!("answer {} {word}\n", bim::TABLE),
         },
-        Call::Read(Read { table, root, payload, event_words, text_room }) => {
+        Call::Read(Read { table, party, root, payload, event_words, text_room }) => {
             let mut events = vec![0xdddd_dddd; *event_words];
             let mut texts = vec![0xdd; *text_room];
-            let answer = reader::read(table, root.0, root.1, payload, &mut events, &mut texts);
+            let answer = reader::read(table, *party, root.0, root.1, payload, &mut events, &mut texts);
             let mut lines = answer_lines(&answer);
             for event in events.chunks_exact(bim::EVENT_WORDS).take(answer.events) {
                 lines += &format!("event {}\n", decimal(event));
@@ -169,6 +177,14 @@ fn answered(call: &Call) -> String {
             let mut lines = answer_lines(&answer);
             if answer.is_accepted() {
                 lines += &format!("payload {}\n", hex(&payload[..answer.bits.div_ceil(8)]));
+            }
+            lines
+        }
+        Call::Set(call) => {
+            let (answer, words) = call.ask();
+            let mut lines = format!("answer {} {}\n", answer.number, answer.place);
+            if answer.is_accepted() {
+                lines += &format!("now {}\n", decimal(&words));
             }
             lines
         }

@@ -12,8 +12,10 @@ use crate::utf8;
 use crate::value;
 
 /// Writes `events` with `texts` into `payload`. Bytes past the payload become 0; on refusal all do.
+#[allow(clippy::too_many_arguments)] // what a call is given, in its order
 pub fn write(
     table: &[u32],
+    party: u32,
     root_name: u32,
     root_type: u32,
     mode: u32,
@@ -21,9 +23,9 @@ pub fn write(
     texts: &[u8],
     payload: &mut [u8],
 ) -> Answer {
-    let written = check_call(table, root_name, root_type, mode).and_then(|table| {
+    let written = check_call(table, party, root_name, root_type, mode).and_then(|table| {
         check_shape(events.len(), bim::EVENT_WORDS)?;
-        write_into(table, root_name, root_type, mode, events, texts, payload)
+        write_into(table, party, root_name, root_type, mode, events, texts, payload)
     });
     answer(written, payload)
 }
@@ -31,25 +33,28 @@ pub fn write(
 /// The short call: mode 2, and not 6 where the table has derivations.
 pub fn write_lengths(
     table: &[u32],
+    party: u32,
     root_name: u32,
     root_type: u32,
     events: &[u32],
     texts: &[u8],
     payload: &mut [u8],
 ) -> Answer {
-    write(table, root_name, root_type, bim::MODE_ALWAYS, events, texts, payload)
+    write(table, party, root_name, root_type, bim::MODE_ALWAYS, events, texts, payload)
 }
 
 /// The answer of a call that must be refused for a list of `bytes` bytes that are not whole events, or too many.
 pub fn refuse_shape(
     table: &[u32],
+    party: u32,
     root_name: u32,
     root_type: u32,
     mode: u32,
     bytes: usize,
     payload: &mut [u8],
 ) -> Answer {
-    let refused = check_call(table, root_name, root_type, mode).and(Err(refusal(bim::NO_READING, bytes / bim::EVENT)));
+    let refused =
+        check_call(table, party, root_name, root_type, mode).and(Err(refusal(bim::NO_READING, bytes / bim::EVENT)));
     answer(refused, payload)
 }
 
@@ -60,9 +65,9 @@ fn answer(written: Result<Answer, Refusal>, payload: &mut [u8]) -> Answer {
     answer
 }
 
-/// What can be refused before the list is looked at: 1, 2, 22.
-fn check_call(table: &[u32], root_name: u32, root_type: u32, mode: u32) -> Result<Table<'_>, Refusal> {
-    let table = check_root(table, root_name, root_type)?;
+/// What can be refused before the list is looked at: 1, 2, 26, 22.
+fn check_call(table: &[u32], party: u32, root_name: u32, root_type: u32, mode: u32) -> Result<Table<'_>, Refusal> {
+    let table = check_root(table, party, root_name, root_type)?;
     if mode >= 2 * bim::CASTING
         || mode % bim::CASTING > bim::MODE_ALWAYS
         || mode >= bim::CASTING && table.derivations() == 0
@@ -80,8 +85,10 @@ pub fn check_shape(units: usize, event: usize) -> Result<(), Refusal> {
     Ok(())
 }
 
+#[allow(clippy::too_many_arguments)] // the same
 fn write_into(
     table: Table<'_>,
+    party: u32,
     root_name: u32,
     root_type: u32,
     mode: u32,
@@ -90,7 +97,8 @@ fn write_into(
     payload: &mut [u8],
 ) -> Result<Answer, Refusal> {
     let count = events.len() / bim::EVENT_WORDS;
-    let mut walk = Walk { table, mode, events, texts, next: 0, used: 0, bits: 8, pieces: Vec::with_capacity(count) };
+    let mut walk =
+        Walk { table, party, mode, events, texts, next: 0, used: 0, bits: 8, pieces: Vec::with_capacity(count) };
     walk.element(None, root_name, root_type as usize, bim::MOST_OPEN)?;
     if walk.next < count {
         let number = if walk.event()?.kind == bim::KIND_BLANK { bim::BLANK } else { bim::NO_READING };
@@ -136,6 +144,8 @@ struct Event {
 
 struct Walk<'a> {
     table: Table<'a>,
+    /// Whose marks count.
+    party: u32,
     mode: u32,
     events: &'a [u32],
     texts: &'a [u8],
@@ -169,7 +179,7 @@ impl Walk<'_> {
             None => of_type,
         };
         let row = self.table.type_row(of_type);
-        if !row.held {
+        if !row.held_by(self.party) {
             return Err(refusal(bim::NOT_HELD, index));
         }
         self.attributes(&row)?;

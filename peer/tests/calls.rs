@@ -4,12 +4,13 @@
 mod common;
 
 use peer::bim;
-use peer::calls::{run, Calls, Reading, Writing};
+use peer::calls::{run, Calls, Reading, Setting, Writing};
 use peer::codes::read5;
 use peer::host;
 use peer::model::{bits5, bits_of, bytes_of, groups};
 use peer::padding::lengths_are_shortest;
-use peer::words::words_of;
+use peer::rows::{held_word, Rows};
+use peer::words::{big_endian, words_of};
 use std::hint::black_box;
 
 faults! {
@@ -83,6 +84,48 @@ faults! {
     ShortByFirstStart,
     /// The short call gives a length to every Start.
     ShortAddsLengths,
+    /// Any held word but 0 is held by everybody.
+    AnyMark,
+    /// Party p's mark is bit 7 - p.
+    MarksTurned,
+    /// The party is taken modulo 8.
+    PartyModulo8,
+    /// 26 stands before 2.
+    PartyBeforeRoot,
+    /// 26 stands after 3.
+    PartyAfterSize,
+    /// 26 stands after 4.
+    PartyAfterModeByte,
+    /// 26 stands after 22.
+    PartyAfterMode,
+    /// 26 stands after 18 for a list that is not whole.
+    PartyAfterShape,
+    /// The writer asks party 0.
+    WriterAsksParty0,
+    /// So does the short call.
+    ShortAsksParty0,
+    /// The type that is cast to is judged by party 0, that of a row by the party that asks.
+    CastsByParty0,
+    /// Of a held word only the lowest byte is looked at.
+    WideMarks,
+    /// A setting stores 2^p or 0.
+    SettingStores,
+    /// A setting takes a mark's lowest bit.
+    MarkLowestBit,
+    /// A setting turns the mark over.
+    MarkTurned,
+    /// A refused setting clears the table.
+    RefusedSettingClears,
+    /// A setting with an area of another size clears the table.
+    SizeRefusedClears,
+    /// A setting clears the rest of the held word's bytes in the next type.
+    NextTypeToo,
+    /// A setting leaves a byte of the area.
+    SettingAreaLeft,
+    /// A setting judges the party before the type.
+    SettingPartyFirst,
+    /// A setting is told nothing of a wrong table whose marks are right.
+    SettingTakesWrongTable,
 }
 use Fault::*;
 
@@ -125,6 +168,59 @@ fn padded_root(payload: &[u8]) -> Option<(usize, u32, usize)> {
     (!length.shortest).then_some((flag, length.value, length.bits))
 }
 
+/// A right table with each held word as `change` has it, which is told the type; a wrong one as it is.
+fn with_marks(table: &[u8], change: impl Fn(usize, u32) -> u32) -> Vec<u8> {
+    let mut words = words_of(table);
+    if host::check_table(table, &mut [0; bim::AREA]) != bim::ACCEPTED {
+        return table.to_vec();
+    }
+    (0..words[1] as usize).for_each(|of_type| words[held_word(of_type)] = change(of_type, words[held_word(of_type)]));
+    big_endian(&words)
+}
+
+/// The table as a fault of the marks has it for a party.
+fn misread(fault: Fault, table: &[u8], party: u32) -> Vec<u8> {
+    let own = 1_u32.checked_shl(party).unwrap_or(0) & bim::MOST_HELD;
+    match fault {
+        AnyMark => with_marks(table, |_, word| if word == 0 { 0 } else { bim::MOST_HELD }),
+        MarksTurned => with_marks(table, |_, word| u32::from((word as u8).reverse_bits())),
+        CastsByParty0 if host::check_table(table, &mut [0; bim::AREA]) == bim::ACCEPTED => {
+            let casts = Rows::of(&words_of(table)).casts.unwrap_or_default();
+            let by_party_0 = |of_type| {
+                casts.entries.contains(&of_type) || casts.substitutes.iter().any(|substitute| substitute[1] == of_type)
+            };
+            with_marks(table, |of_type, word| match by_party_0(of_type as u32) {
+                true => (word & !own) | if word & 1 == 1 { own } else { 0 },
+                false => word,
+            })
+        }
+        WideMarks if table.len() >= 20 => {
+            let mut words = words_of(table);
+            let types = (words[1] as usize).min(words.len() / 7);
+            for of_type in 0..types {
+                if let Some(word) = words.get_mut(held_word(of_type)) {
+                    *word &= bim::MOST_HELD;
+                }
+            }
+            [big_endian(&words), table[4 * words.len()..].to_vec()].concat()
+        }
+        _ => table.to_vec(),
+    }
+}
+
+/// The number with 26 where a fault has it: the call answered `asked` with its party, and `as_0` as party 0.
+fn misplaced(fault: Fault, party: u32, asked: u32, as_0: u32, events: &[u8]) -> u32 {
+    let shape = !events.len().is_multiple_of(16) || events.len() / 16 > bim::MOST_EVENTS;
+    match fault {
+        PartyBeforeRoot if party >= bim::PARTIES && asked == bim::ROOT => bim::PARTY,
+        PartyAfterSize if asked == bim::PARTY && as_0 == bim::PAYLOAD_SIZE => as_0,
+        PartyAfterModeByte if asked == bim::PARTY && as_0 == bim::MODE_BYTE => as_0,
+        PartyAfterMode if asked == bim::PARTY && as_0 == bim::WRITE_MODE => as_0,
+        PartyAfterShape if asked == bim::PARTY && as_0 == bim::NO_READING && shape => as_0,
+        _ => asked,
+    }
+}
+
 /// Reads where a faulty library would. The bench lends every buffer between guards, so that the byte is there.
 fn byte_at(place: *const u8) -> u8 {
     unsafe { black_box(place).read_volatile() }
@@ -153,7 +249,11 @@ impl Calls for StandIn {
     }
 
     fn read(&self, lent: Reading<'_>) -> u32 {
-        let Reading { table, root: (mut name, of_type), payload, events, texts, area } = lent;
+        let Reading { table, mut party, root: (mut name, of_type), payload, events, texts, area } = lent;
+        let table = &misread(self.0, table, party)[..];
+        if self.0 == PartyModulo8 {
+            party %= bim::PARTIES;
+        }
         if self.0 == RootWraps {
             name &= 0xffff;
         }
@@ -165,7 +265,12 @@ impl Calls for StandIn {
             longer.push(byte_at(payload.as_ptr().wrapping_add(payload.len())));
             given = &longer;
         }
-        let number = host::read(table, name, of_type, given, events, texts, area);
+        let asked = host::read(table, party, name, of_type, given, events, texts, area);
+        let as_0 = match asked {
+            bim::PARTY => host::read(table, 0, name, of_type, given, &mut [], &mut [], &mut [0; bim::AREA]),
+            _ => asked,
+        };
+        let number = misplaced(self.0, party, asked, as_0, &[]);
         let whole = old_events.len() / 16 * 16;
         match self.0 {
             EventsLeft if number == bim::CONTENT_SHORT => events.copy_from_slice(&old_events),
@@ -237,17 +342,28 @@ impl Calls for StandIn {
     }
 
     fn write(&self, mode: u32, lent: Writing<'_>) -> u32 {
-        let Writing { table, root: (name, of_type), events, texts, payload, area } = lent;
+        let Writing { table, party, root: (name, of_type), events, texts, payload, area } = lent;
+        let table = &misread(self.0, table, party)[..];
+        let party = match self.0 {
+            PartyModulo8 => party % bim::PARTIES,
+            WriterAsksParty0 if party < bim::PARTIES => 0,
+            _ => party,
+        };
         if self.0 == RoomOneShort {
             let most = payload.len().saturating_sub(1);
             payload[most..].fill(0);
-            return host::write(table, name, of_type, mode, events, texts, &mut payload[..most], area);
+            return host::write(table, party, name, of_type, mode, events, texts, &mut payload[..most], area);
         }
         let mut letters = texts.to_vec();
         if self.0 == ControlWritten {
             letters.iter_mut().filter(|byte| **byte < 32).for_each(|byte| *byte = b'a');
         }
-        let mut number = host::write(table, name, of_type, mode, events, &letters, payload, area);
+        let asked = host::write(table, party, name, of_type, mode, events, &letters, payload, area);
+        let as_0 = match asked {
+            bim::PARTY => host::write(table, 0, name, of_type, mode, events, &letters, &mut [], &mut [0; bim::AREA]),
+            _ => asked,
+        };
+        let mut number = misplaced(self.0, party, asked, as_0, events);
         match self.0 {
             PayloadByteLeft if number == bim::TEXT_BYTES && !payload.is_empty() => payload[0] = 0x0f,
             FourthWord if number == bim::ACCEPTED && events.chunks_exact(16).any(|event| event[12] != 0) => {
@@ -288,10 +404,13 @@ impl Calls for StandIn {
     }
 
     fn write_lengths(&self, lent: Writing<'_>) -> u32 {
-        let Writing { table, root: (name, of_type), events, texts, payload, area } = lent;
+        let Writing { table, party, root: (name, of_type), events, texts, payload, area } = lent;
+        let table = &misread(self.0, table, party)[..];
+        let party = if self.0 == ShortAsksParty0 && party < bim::PARTIES { 0 } else { party };
         let mut given = events.to_vec();
         let start = first_of(bim::KIND_START, &mut given).map(|event| event[11]);
-        let mut write = |mode, events: &[u8]| host::write(table, name, of_type, mode, events, texts, payload, area);
+        let mut write =
+            |mode, events: &[u8]| host::write(table, party, name, of_type, mode, events, texts, payload, area);
         match self.0 {
             ShortCasts => {
                 let number = write(bim::CASTING + bim::MODE_ALWAYS, events);
@@ -306,8 +425,39 @@ impl Calls for StandIn {
                 starts.for_each(|event| event[11] = 1);
                 write(bim::MODE_ALWAYS, &given)
             }
-            _ => host::write_lengths(table, name, of_type, events, texts, payload, area),
+            _ => host::write_lengths(table, party, name, of_type, events, texts, payload, area),
         }
+    }
+
+    fn set_held(&self, lent: Setting<'_>) -> u32 {
+        let Setting { table, mut party, of_type, mut mark, area } = lent;
+        let before = table.to_vec();
+        let byte = 4 * held_word((of_type as usize).min(bim::MOST_TYPES)) + 3;
+        match self.0 {
+            PartyModulo8 => party %= bim::PARTIES,
+            MarkLowestBit => mark &= 1,
+            MarkTurned if party < bim::PARTIES => {
+                mark = before.get(byte).map_or(mark, |byte| u32::from(byte >> party & 1 == 0));
+            }
+            _ => {}
+        }
+        let left = area.get(77).copied();
+        let number = host::set_held(table, party, of_type, mark, area);
+        match (self.0, number) {
+            (SettingStores, bim::ACCEPTED) => table[byte] = if mark == 0 { 0 } else { 1 << party },
+            (RefusedSettingClears, bim::TABLE | bim::ROOT | bim::PARTY) => table.fill(0),
+            (SizeRefusedClears, bim::AREA_SIZE) => table.fill(0),
+            (NextTypeToo, bim::ACCEPTED) if u32::from(before[7]) > of_type + 1 => table[byte + 28] &= 0x7f,
+            (SettingAreaLeft, bim::ACCEPTED) => area[77] = left.unwrap_or(0),
+            (SettingPartyFirst, bim::ROOT) if party >= bim::PARTIES => return bim::PARTY,
+            (SettingTakesWrongTable, bim::TABLE) if party < bim::PARTIES && byte < before.len() && area[3] > 60 => {
+                table[byte] |= 1 << party;
+                area.fill(0);
+                return bim::ACCEPTED;
+            }
+            _ => {}
+        }
+        number
     }
 }
 

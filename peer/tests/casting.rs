@@ -34,7 +34,7 @@ fn the_payload_reads_as_its_list_and_back() {
 #[test]
 fn the_short_call_has_no_casting() {
     let mut payload = [0xdd; 8];
-    let answer = peer::writer::write_lengths(&CAST, 10, 0, &LIST.concat(), b"Hi", &mut payload);
+    let answer = peer::writer::write_lengths(&CAST, 0, 10, 0, &LIST.concat(), b"Hi", &mut payload);
     assert_eq!((answer.number, answer.place, payload), (18, 2, [0; 8]));
 }
 

@@ -67,7 +67,7 @@ fn every_byte_of_a_text_counts() {
         for attributes in 0..8 {
             let (table, list) = behind(attributes, &letters);
             let (mut payload, mut area) = (vec![0; 60], [0; bim::AREA]);
-            assert_eq!(host::write(&table, 1, 0, 0, &list, &letters, &mut payload, &mut area), 0);
+            assert_eq!(host::write(&table, 0, 1, 0, 0, &list, &letters, &mut payload, &mut area), 0);
             // The text's bytes end where the payload's bits do.
             let bits = u32::from_be_bytes([area[16], area[17], area[18], area[19]]) as usize;
             payload.truncate(bits.div_ceil(8));
@@ -81,9 +81,9 @@ fn every_byte_of_a_text_counts() {
                     peer::bits::put_byte(&mut changed, bits - 8 * (length - at), byte);
                     for (read, write) in [(host::read as Read, host::write as Write), (swift::read, swift::write)] {
                         let (mut events, mut texts) = ([0; 16 * 10], [0; 40]);
-                        let number = read(&table, 1, 0, &changed, &mut events, &mut texts, &mut area);
+                        let number = read(&table, 0, 1, 0, &changed, &mut events, &mut texts, &mut area);
                         assert_eq!(number, expected, "{byte} at {at} of {length} bytes behind {attributes}");
-                        let number = write(&table, 1, 0, 0, &list, &text, &mut [0; 60], &mut area);
+                        let number = write(&table, 0, 1, 0, 0, &list, &text, &mut [0; 60], &mut area);
                         assert_eq!(number, expected, "{byte} at {at} of {length} bytes, written");
                     }
                 }
@@ -92,5 +92,5 @@ fn every_byte_of_a_text_counts() {
     }
 }
 
-type Read = fn(&[u8], u32, u32, &[u8], &mut [u8], &mut [u8], &mut [u8]) -> u32;
-type Write = fn(&[u8], u32, u32, u32, &[u8], &[u8], &mut [u8], &mut [u8]) -> u32;
+type Read = fn(&[u8], u32, u32, u32, &[u8], &mut [u8], &mut [u8], &mut [u8]) -> u32;
+type Write = fn(&[u8], u32, u32, u32, u32, &[u8], &[u8], &mut [u8], &mut [u8]) -> u32;

@@ -35,7 +35,7 @@ fn demand_3_goes_by_effective_types() {
     let read =
         |table: &[u32]| demands::read(&mut Tally::default(), &Read { table: table.to_vec(), ..cast.clone() }).unwrap();
     let second = read(&cast.table);
-    let judge = |table: &[u32], first: &Outcome| judge_pair(table, &cast.table, cast.root, first, &second);
+    let judge = |table: &[u32], first: &Outcome| judge_pair([table, &cast.table], 0, cast.root, first, &second);
     // Element 11 is of type 1 and cast to type 2; element 12 is of type 3, and its substitute of type 1.
     let first = read(&without(2));
     assert_eq!(judge(&without(2), &first), Ok(Pair::Blanked));
@@ -59,6 +59,7 @@ fn demand_3_judges_answers_that_nobody_should_give() {
     let read = |table: &[u32]| {
         let call = Read {
             table: table.to_vec(),
+            party: 0,
             root: (10, 0),
             payload: WORKED_PAYLOAD.to_vec(),
             event_words: 400,
@@ -67,7 +68,8 @@ fn demand_3_judges_answers_that_nobody_should_give() {
         demands::read(&mut Tally::default(), &call).unwrap()
     };
     let (first, second) = (read(&first_table), read(&second_table));
-    let judge = |first: &Outcome, second: &Outcome| judge_pair(&first_table, &second_table, (10, 0), first, second);
+    let judge =
+        |first: &Outcome, second: &Outcome| judge_pair([&first_table, &second_table], 0, (10, 0), first, second);
     assert_eq!(judge(&first, &second), Ok(Pair::Blanked));
 
     let blank = first.list().iter().position(|event| event[0] == bim::KIND_BLANK).unwrap();

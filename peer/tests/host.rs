@@ -25,7 +25,7 @@ fn read(table: &[u8], root_type: u32, payload: &[u8], rooms: (usize, usize, usiz
     let mut events = vec![0xdd; rooms.0];
     let mut texts = vec![0xdd; rooms.1];
     let mut area = vec![0xdd; rooms.2];
-    let number = host::read(table, 10, root_type, payload, &mut events, &mut texts, &mut area);
+    let number = host::read(table, 0, 10, root_type, payload, &mut events, &mut texts, &mut area);
     Read { number, events, texts, area }
 }
 
@@ -83,7 +83,7 @@ fn an_area_of_another_size_is_24_before_all_else() {
         let mut area = vec![0xdd; size];
         let mut payload = vec![0xdd; 9];
         let events = big_endian(&WORKED_EVENTS.concat());
-        let number = host::write(&table, 10, 0, 2, &events, b"Hi", &mut payload, &mut area);
+        let number = host::write(&table, 0, 10, 0, 2, &events, b"Hi", &mut payload, &mut area);
         assert_eq!(number, 24);
         assert_eq!(area, vec![0; size]);
         assert_eq!(payload, vec![0; 9]);
@@ -136,7 +136,7 @@ fn a_write_fills_payload_and_area() {
     let write = |mode: u32, root_type: u32, events: &[u8], texts: &[u8], room: usize| {
         let mut payload = vec![0xdd; room];
         let mut out = vec![0xdd; 152];
-        let number = host::write(&table, 10, root_type, mode, events, texts, &mut payload, &mut out);
+        let number = host::write(&table, 0, 10, root_type, mode, events, texts, &mut payload, &mut out);
         (number, out, payload)
     };
     let mut padded = WORKED_PAYLOAD.to_vec();
@@ -166,7 +166,7 @@ fn the_short_call_writes_in_mode_2() {
     let table = big_endian(&BOOLEAN);
     let write = |list: &[[u32; 4]], room: usize, area: usize| {
         let (mut payload, mut out) = (vec![0xdd; room], vec![0xdd; area]);
-        let number = host::write_lengths(&table, 1, 0, &big_endian(&list.concat()), b"", &mut payload, &mut out);
+        let number = host::write_lengths(&table, 0, 1, 0, &big_endian(&list.concat()), b"", &mut payload, &mut out);
         (number, out, payload)
     };
     let refused = |number, place, room| (number, area([place, 0, 0, 0, 0, 0], &[]), vec![0; room]);
@@ -178,7 +178,7 @@ fn the_short_call_writes_in_mode_2() {
     assert_eq!(write(&list, 1, 152), refused(21, 0, 1));
     assert_eq!(write(&list, 3, 151), (24, vec![0; 151], vec![0; 3]));
     let (mut payload, mut out) = (vec![0xdd; 3], vec![0xdd; 152]);
-    let number = host::write(&table, 1, 0, 0, &big_endian(&list.concat()), b"", &mut payload, &mut out);
+    let number = host::write(&table, 0, 1, 0, 0, &big_endian(&list.concat()), b"", &mut payload, &mut out);
     assert_eq!((number, out, payload), refused(18, 0, 3));
 }
 

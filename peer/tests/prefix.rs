@@ -52,7 +52,7 @@ struct Accepted {
 
 fn accepted(table: &[u32], payload: &[u8]) -> Option<Accepted> {
     let (mut events, mut texts) = ([0; 4 * 24], [0; 24]);
-    let answer = reader::read(table, 10, 0, payload, &mut events, &mut texts);
+    let answer = reader::read(table, 0, 10, 0, payload, &mut events, &mut texts);
     answer.is_accepted().then(|| Accepted {
         bits: (0..answer.bits).map(|bit| payload[bit / 8] << (bit % 8) & 0x80 != 0).collect(),
         payload: payload.to_vec(),

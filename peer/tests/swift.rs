@@ -4,7 +4,7 @@ use peer::calls::run;
 use peer::speed::{standard, with_lengths};
 use peer::{calls_of, swift, table};
 
-calls_of!(Swift = swift::check_table, swift::read, swift::write, swift::write_lengths);
+calls_of!(Swift = swift::check_table, swift::read, swift::write, swift::write_lengths, swift::set_held);
 
 #[test]
 fn the_fast_calls_answer_as_the_peer() {

@@ -1,6 +1,6 @@
 -- DEMAND 1 of the calls.
 use Prim.Native.Nat.{ℕ, _/_, _≤_}
-use mathlib.Core.Path.{_≡_, refl}
+use mathlib.Core.Path.{_≡_, refl, sym, ap, _∙_}
 use mathlib.Core.List.{List, [], _∷_}
 use native.Mathlib.Omega.{arith}
 use native.Mathlib.Decide.{ℕ-discrete}
@@ -12,15 +12,16 @@ use Rattle.wire.specs.Res.{Res, got, fault}
 use Rattle.wire.specs.Bits.{bitAt}
 use Rattle.table.specs.First.{Verdict}
 use Rattle.table.specs.First.Verdict.{right, wrong}
-use Rattle.model.specs.Whole.{Reply, accepted, declined, Outcome, outcome, textsLeft, Made, made, unmade, outcomeMade, payloadLeft}
+use Rattle.model.specs.Whole.{Reply, accepted, declined, Outcome, declines, outcome, textsLeft, Made, made, unmade, outcomeMade, payloadLeft}
 use Rattle.bit_reader.specs.Codes.{wallOf, coded, answered, readingAt}
 use Rattle.bit_reader.specs.declared.codes.Coding.{Coding}
 use Rattle.bim.specs.Area.{areaOf}
-use Rattle.bim.specs.Calls.{back, lent, judged, tableVerdict, checkTable, readBytes, eventsBack, readCall, writeBytes, writeCall}
+use Rattle.bim.specs.Calls.{back, lent, judged, tableVerdict, checkTable, readBytes, eventsBack, readCall, writeBytes, writeCall, setOutcome, tableLeft, setCall}
 use Rattle.bim.proofs.CallLaws.{unlent, lent-whole}
+use Rattle.bim.proofs.SettingLaws.{refused-left, tells}
 use Rattle.bim.specs.Bits as bits
 use Rattle.bim.proofs.Paths.{path-most}
-use Rattle.bim.specs.Demands.{Answered, AnsweredBits}
+use Rattle.bim.specs.Demands.{Answered, AnsweredSet, AnsweredBits}
 
 -- every call over an area: areaSize, or an outcome, whose buffers are zero where its number is not 0
 lent-answered : (area : ℕ) (sizes : List ℕ) (o : Outcome) (buffers : List (List ℕ))
@@ -44,33 +45,52 @@ check-answered t area = lent-answered area [] (judged (tableVerdict t)) [] (λ e
     go right e n = absurd (n refl)
     go (wrong i) e n = Answered.refused 1 i [] e (omega arith) (omega arith) refl
 
-pub read-answered : (t : List ℕ) (name type : ℕ) (s : List ℕ) (e x area : ℕ)
-    → Answered area (e ∷ x ∷ []) (readCall t name type s e x area)
+pub read-answered : (t : List ℕ) (party name type : ℕ) (s : List ℕ) (e x area : ℕ)
+    → Answered area (e ∷ x ∷ []) (readCall t party name type s e x area)
 unfolding readCall outcome eventsBack textsLeft
-read-answered t name type s e x area =
-    lent-answered area (e ∷ x ∷ []) (outcome (readBytes t name type s e x)) _
-    (λ y n. go (readBytes t name type s e x) (path-most t name type s e x) y n)
+read-answered t party name type s e x area =
+    lent-answered area (e ∷ x ∷ []) (outcome (readBytes t party name type s e x)) _
+    (λ y n. go (readBytes t party name type s e x) (path-most t party name type s e x) y n)
   where
     go : (r : Reply) → length (outcome r .path) ≤ mostNames → area ≡ limit.area → (outcome r .number ≡ 0 → ⊥)
         → Answered area (e ∷ x ∷ []) (back (outcome r .number) (areaOf (outcome r)) (eventsBack e r ∷ textsLeft x r ∷ []))
     go (accepted mode ns q) h y n = absurd (n refl)
     go (declined k p π) h y n = Answered.refused k p π y (from-one k n) h refl
 
-pub write-answered : (t : List ℕ) (name type mode : ℕ) (E X : List ℕ) (room area : ℕ)
-    → Answered area (room ∷ []) (writeCall t name type mode E X room area)
+pub write-answered : (t : List ℕ) (party name type mode : ℕ) (E X : List ℕ) (room area : ℕ)
+    → Answered area (room ∷ []) (writeCall t party name type mode E X room area)
 unfolding writeCall outcomeMade payloadLeft
-write-answered t name type mode E X room area = lent-answered area (room ∷ []) (told m₀) _ (λ y n. go m₀ y n)
+write-answered t party name type mode E X room area = lent-answered area (room ∷ []) (told m₀) _ (λ y n. go m₀ y n)
   where
     told : Made → Outcome
     told m = outcomeMade mode (length E / limit.event) (length X) m
 
     m₀ : Made
-    m₀ = writeBytes t name type mode E X room
+    m₀ = writeBytes t party name type mode E X room
 
     go : (m : Made) → area ≡ limit.area → (told m .number ≡ 0 → ⊥)
         → Answered area (room ∷ []) (back (told m .number) (areaOf (told m)) (payloadLeft room m ∷ []))
     go (made s q) y n = absurd (n refl)
     go (unmade k p) y n = Answered.refused k p [] y (from-one k n) (omega arith) refl
+
+pub set-answered : (t : List ℕ) (party type mark area : ℕ) → AnsweredSet t area (setCall t party type mark area)
+unfolding setCall
+set-answered t party type mark area = elim (ℕ-discrete area limit.area) [
+  | yes e ↦ elim (ℕ-discrete n 0) [
+    | yes z ↦ AnsweredSet.accepted e (rw (eq-eqb area limit.area e) z)
+    | no z ↦ AnsweredSet.refused n (o .place) e (from-one n z)
+        (rw (eq-eqb area limit.area e)
+        (ap (λ (x : Outcome). back n (areaOf x) (tableLeft t party type mark n ∷ [])) (tells t party type)
+        ∙ ap (λ (x : List ℕ). back n (areaOf (declines n (o .place) [])) (x ∷ [])) (sym (refused-left t party type mark n z))))
+  ]
+  | no e ↦ AnsweredSet.no-area e (rw (ne-eqb area limit.area e))
+]
+  where
+    o : Outcome
+    o = setOutcome t party type
+
+    n : ℕ
+    n = o .number
 
 pub bits-answered : (s : List ℕ) (at : ℕ) (c : Coding) (area : ℕ) → AnsweredBits s at area (bits.bitsCall s at c area)
 unfolding bits.bitsCall readingAt answered

@@ -46,28 +46,28 @@ pub tells-shown : (e x : ℕ) (mode : Mode) (tree : Nodes) (used : ℕ)
 unfolding outcome eventsBack textsLeft
 tells-shown e x mode tree used = refl
 
-module _ (t : List ℕ) (name type : ℕ) where
+module _ (t : List ℕ) (party name type : ℕ) where
   module _ (s : List ℕ) (e x : ℕ) where
     abbrev R : Reply
-    R = reading (wordsOf t) name type s (e / 4) x
+    R = reading (wordsOf t) party name type s (e / 4) x
 
-    pub call-tells : tableVerdict t ≡ right → readCall t name type s e x areaBytes ≡ tells e x R
+    pub call-tells : tableVerdict t ≡ right → readCall t party name type s e x areaBytes ≡ tells e x R
     unfolding readCall readBytes lent afterVerdict
     call-tells v = rw v
 
-    pub is-accepted : {mode : Mode} {tree : Nodes} {used : ℕ} → Reading t name type s e x mode tree used
+    pub is-accepted : {mode : Mode} {tree : Nodes} {used : ℕ} → Reading t party name type s e x mode tree used
         → R ≡ accepted mode tree used
-    is-accepted h = reading-complete (wordsOf t) name type s (e / 4) x _ _ _ (h .is)
+    is-accepted h = reading-complete (wordsOf t) party name type s (e / 4) x _ _ _ (h .is)
 
-    pub accepts-all : (mode : Mode) (tree : Nodes) (used : ℕ) → Reading t name type s e x mode tree used
-        → readCall t name type s e x areaBytes ≡ shown e x mode tree used
+    pub accepts-all : (mode : Mode) (tree : Nodes) (used : ℕ) → Reading t party name type s e x mode tree used
+        → readCall t party name type s e x areaBytes ≡ shown e x mode tree used
     accepts-all mode tree used h =
         call-tells (whole-right t (h .whole) (h .is .enters .table-right)) ∙ ap (tells e x) (is-accepted h)
         ∙ tells-shown e x mode tree used
 
   -- a reading stays one where there is more room, so there is only one
   wider : (s : List ℕ) (e x e′ x′ : ℕ) {mode : Mode} {tree : Nodes} {used : ℕ} → e ≤ e′ → x ≤ x′
-      → Reading t name type s e x mode tree used → Reading t name type s e′ x′ mode tree used
+      → Reading t party name type s e x mode tree used → Reading t party name type s e′ x′ mode tree used
   wider s e x e′ x′ h k r =
       let i = r .is .is in
       let f = i .found in
@@ -93,7 +93,7 @@ module _ (t : List ℕ) (name type : ℕ) where
       }
 
   same-reading : (s : List ℕ) (e x e′ x′ : ℕ) (mode mode′ : Mode) (tree tree′ : Nodes) (used used′ : ℕ)
-      → Reading t name type s e x mode tree used → Reading t name type s e′ x′ mode′ tree′ used′
+      → Reading t party name type s e x mode tree used → Reading t party name type s e′ x′ mode′ tree′ used′
       → Same mode mode′ tree tree′ used used′
   same-reading s e x e′ x′ mode mode′ tree tree′ used used′ h k =
       let r = is-accepted s (e + e′) (x + x′) (wider s e x (e + e′) (x + x′) (omega arith) (omega arith) h) in
@@ -101,18 +101,18 @@ module _ (t : List ℕ) (name type : ℕ) where
       let z : accepted mode tree used ≡ accepted mode′ tree′ used′ = sym r ∙ r′ in
       record { modes = cc; trees = cc; bits = cc }
 
-  pub accepts-only : (s : List ℕ) (e x : ℕ) → readCall t name type s e x areaBytes .number ≡ 0 → Reads t name type s e x
+  pub accepts-only : (s : List ℕ) (e x : ℕ) → readCall t party name type s e x areaBytes .number ≡ 0 → Reads t party name type s e x
   unfolding readCall readBytes lent afterVerdict outcome
   accepts-only s e x c = by-table (tableVerdict t) refl c
     where
       by-table : (v : Verdict) → tableVerdict t ≡ v → outcome (afterVerdict v (R s e x)) .number ≡ 0
-          → Reads t name type s e x
+          → Reads t party name type s e x
       by-table (wrong i) v c = absurd (omega arith)
       by-table right v c =
-          let a = zero-accepts (wordsOf t) name type s (e / 4) x c in
-          let r : Reading t name type s e x (a .mode) (a .list) (a .bits) = record {
+          let a = zero-accepts (wordsOf t) party name type s (e / 4) x c in
+          let r : Reading t party name type s e x (a .mode) (a .list) (a .bits) = record {
             whole = right-whole t v .0;
-            is = reading-sound (wordsOf t) name type s (e / 4) x (a .mode) (a .list) (a .bits) (a .is);
+            is = reading-sound (wordsOf t) party name type s (e / 4) x (a .mode) (a .list) (a .bits) (a .is);
           } in
           record {
             mode = a .mode;
@@ -121,61 +121,61 @@ module _ (t : List ℕ) (name type : ℕ) where
             reading = r;
             only = λ e′ x′ mode′ tree′ used′ k. same-reading s e x e′ x′ (a .mode) mode′ (a .list) tree′ (a .bits) used′ r k;
             shows = accepts-all s e x (a .mode) (a .list) (a .bits) r;
-            follows = list-follows (wordsOf t) name type s (e / 4) x (a .mode) (a .list) (a .bits) (a .is);
-            blanks = blanks-exact (wordsOf t) name type s (e / 4) x (a .mode) (a .list) (a .bits) (a .is);
-            counts = bits-add-up (wordsOf t) name type s (e / 4) x (a .mode) (a .list) (a .bits) (a .is);
+            follows = list-follows (wordsOf t) party name type s (e / 4) x (a .mode) (a .list) (a .bits) (a .is);
+            blanks = blanks-exact (wordsOf t) party name type s (e / 4) x (a .mode) (a .list) (a .bits) (a .is);
+            counts = bits-add-up (wordsOf t) party name type s (e / 4) x (a .mode) (a .list) (a .bits) (a .is);
           }
 
   -- a payload made of whole events, as the call tells it
   made-tells : (n : ℕ) (E X : List ℕ) (room : ℕ) (payload : List ℕ) (used : ℕ) → tableVerdict t ≡ right
       → length E % limit.event ≡ 0
-      → writing (wordsOf t) name type n (wordsOf E) X room ≡ made payload used
-      → writeCall t name type n E X room areaBytes ≡ wrote room n (length E / limit.event) (length X) used payload
+      → writing (wordsOf t) party name type n (wordsOf E) X room ≡ made payload used
+      → writeCall t party name type n E X room areaBytes ≡ wrote room n (length E / limit.event) (length X) used payload
   unfolding writeCall writeBytes writeList lent verdictMade payloadLeft outcomeMade
   made-tells n E X room payload used v h m = rw (v, eq-eqb (length E % limit.event) 0 h, m)
 
-  pub writes-all : (mode : Mode) (E X : List ℕ) (room : ℕ) (h : Valid (wordsOf t) name type mode (wordsOf E) X)
+  pub writes-all : (mode : Mode) (E X : List ℕ) (room : ℕ) (h : Valid (wordsOf t) party name type mode (wordsOf E) X)
       → length t % 4 ≡ 0 → length E % limit.event ≡ 0 → bytesFor (h .bits) ≤ min room mostPayload
-      → writeCall t name type (modeNumber mode) E X room areaBytes
+      → writeCall t party name type (modeNumber mode) E X room areaBytes
       ≡ wrote room (modeNumber mode) (length E / limit.event) (length X) (8 + length (h .bits)) (payloadOf mode (h .bits))
   writes-all mode E X room h w k f =
       made-tells (modeNumber mode) E X room _ _ (whole-right t w (h .enters .table-right)) k
-      (valid-written (wordsOf t) name type mode (wordsOf E) X room h f)
+      (valid-written (wordsOf t) party name type mode (wordsOf E) X room h f)
 
   module _ (n : ℕ) (E X : List ℕ) (room : ℕ) where
     abbrev told : Made → ℕ
     told m = outcomeMade n (length E / limit.event) (length X) m .number
 
     -- a list that is no whole one is refused as one of one word is, but for the place
-    not-listed : told (unlisted (wordsOf t) name type n (length E / limit.event)) ≡ 0 → ⊥
+    not-listed : told (unlisted (wordsOf t) party name type n (length E / limit.event)) ≡ 0 → ⊥
     unfolding outcomeMade
-    not-listed z = go (unlisted-is (wordsOf t) name type n)
+    not-listed z = go (unlisted-is (wordsOf t) party name type n)
       where
-        go : Unlisted (wordsOf t) name type n → ⊥
+        go : Unlisted (wordsOf t) party name type n → ⊥
         go (Unlisted.late f) = let w = rw (f (length E / limit.event)) at z in omega arith
         go (Unlisted.early k p h f) =
-            let same : writing (wordsOf t) name type n (0 ∷ []) X room ≡ unmade k p =
-            one-word (wordsOf t) name type n 0 X room ∙ f 0 in
+            let same : writing (wordsOf t) party name type n (0 ∷ []) X room ≡ unmade k p =
+            one-word (wordsOf t) party name type n 0 X room ∙ f 0 in
             let none : k ≡ 0 = rw (f (length E / limit.event)) at z in
-            let m = zero-makes (wordsOf t) name type n (0 ∷ []) X room 0 0 (rw same none) in
+            let m = zero-makes (wordsOf t) party name type n (0 ∷ []) X room 0 0 (rw same none) in
             let w : made (m .payload) (m .bits) ≡ unmade k p = sym (m .is) ∙ same in
             let y : _≡_ {A = ℕ} 0 1 = cc in
             omega arith
 
     abbrev listed : Bool → Made
-    listed b = cond b (writing (wordsOf t) name type n (wordsOf E) X room) (unlisted (wordsOf t) name type n (length E / limit.event))
+    listed b = cond b (writing (wordsOf t) party name type n (wordsOf E) X room) (unlisted (wordsOf t) party name type n (length E / limit.event))
 
-    pub writes-only : writeCall t name type n E X room areaBytes .number ≡ 0 → Writes t name type n E X room
+    pub writes-only : writeCall t party name type n E X room areaBytes .number ≡ 0 → Writes t party name type n E X room
     unfolding writeCall writeBytes writeList lent verdictMade outcomeMade
     writes-only c = go (tableVerdict t) refl (eqb (length E % limit.event) 0) refl c
       where
         go : (v : Verdict) → tableVerdict t ≡ v → (b : Bool) → eqb (length E % limit.event) 0 ≡ b
-            → told (verdictMade v (listed b)) ≡ 0 → Writes t name type n E X room
+            → told (verdictMade v (listed b)) ≡ 0 → Writes t party name type n E X room
         go (wrong i) v b y c = absurd (omega arith)
         go right v false y c = absurd (not-listed c)
         go right v true y c =
-            let m = zero-makes (wordsOf t) name type n (wordsOf E) X room (length E / limit.event) (length X) c in
-            let f = written-valid (wordsOf t) name type n (wordsOf E) X room (m .payload) (m .bits) (m .is) in
+            let m = zero-makes (wordsOf t) party name type n (wordsOf E) X room (length E / limit.event) (length X) c in
+            let f = written-valid (wordsOf t) party name type n (wordsOf E) X room (m .payload) (m .bits) (m .is) in
             let h = f .valid in
             let w = h .bits in
             let size : length (m .payload) ≡ 1 + (length w + 7) / 8 = ap length (f .bytes) ∙ omega (arith, pack-length w) in
@@ -186,8 +186,8 @@ module _ (t : List ℕ) (name type : ℕ) where
             let words = words-length E in
             let P = payloadOf (f .mode) w in
             let read : (e x : ℕ) → length E ≤ e → length X ≤ x → R P e x ≡ accepted (f .mode) (h .tree) (8 + length w) =
-            λ e x a d. valid-read (wordsOf t) name type (f .mode) (wordsOf E) X h small (e / 4) x (omega arith) d in
-            let sum = bits-add-up (wordsOf t) name type P (length E / 4) (length X) (f .mode) (h .tree) (8 + length w)
+            λ e x a d. valid-read (wordsOf t) party name type (f .mode) (wordsOf E) X h small (e / 4) x (omega arith) d in
+            let sum = bits-add-up (wordsOf t) party name type P (length E / 4) (length X) (f .mode) (h .tree) (8 + length w)
             (read (length E) (length X) (omega arith) (omega arith)) in
             record {
               mode = f .mode;
@@ -200,7 +200,7 @@ module _ (t : List ℕ) (name type : ℕ) where
               wrote-it = made-tells n E X room (m .payload) (m .bits) v (eqb-true (length E % limit.event) 0 y) (m .is);
               counts = omega arith;
               reads = λ e x a d.
-                  ap (λ (y : List ℕ). readCall t name type y e x areaBytes) (f .bytes) ∙ call-tells P e x v
+                  ap (λ (y : List ℕ). readCall t party name type y e x areaBytes) (f .bytes) ∙ call-tells P e x v
                   ∙ ap (tells e x) (read e x a d) ∙ tells-shown e x (f .mode) (h .tree) (8 + length w)
                   ∙ ap (shown e x (f .mode) (h .tree)) (sym used);
             }
@@ -271,10 +271,10 @@ flag-bit mode = go (mode .lengths) (mode .casting)
     go Lengths.always true = refl
     go Lengths.always false = refl
 
-module _ (t : List ℕ) (name type : ℕ) (s A E T : List ℕ) (e x : ℕ) where
+module _ (t : List ℕ) (party name type : ℕ) (s A E T : List ℕ) (e x : ℕ) where
   -- what a host has in hand that has read s: mode, events and texts of the reading, as the area counts them
   record Handed : Type 0 where
-    reads : Reads t name type s e x
+    reads : Reads t party name type s e x
     mode-is : wordFrom A modeAt ≡ modeNumber (reads .mode)
     count : wordFrom A eventsAt ≡ length (events (reads .tree))
     octets : wordFrom A textAt ≡ length (texts (reads .tree))
@@ -285,10 +285,10 @@ module _ (t : List ℕ) (name type : ℕ) (s A E T : List ℕ) (e x : ℕ) where
     in-list : eventsIn E 0 (wordFrom A eventsAt) ≡ events (reads .tree)
     plain : NoBlankIn E (wordFrom A eventsAt) → NoBlank (events (reads .tree))
 
-  handed : back 0 A (E ∷ T ∷ []) ≡ readCall t name type s e x areaBytes → Handed
+  handed : back 0 A (E ∷ T ∷ []) ≡ readCall t party name type s e x areaBytes → Handed
   unfolding filled
   handed c =
-      let r = accepts-only t name type s e x (sym (ap (λ (b : Back). b .number) c)) in
+      let r = accepts-only t party name type s e x (sym (ap (λ (b : Back). b .number) c)) in
       let L = events (r .tree) in
       let d = c ∙ r .shows in
       let area = ap (λ (b : Back). b .area) d in
@@ -316,8 +316,8 @@ module _ (t : List ℕ) (name type : ℕ) (s A E T : List ℕ) (e x : ℕ) where
 
   -- a payload made of it, as the call tells that
   hand-written : (h : Handed) (room : ℕ) (payload : List ℕ) (used : ℕ)
-      → writing (wordsOf t) name type (modeNumber (h .reads .mode)) (eventWords (events (h .reads .tree))) (texts (h .reads .tree)) room ≡ made payload used
-      → writeCall t name type (wordFrom A modeAt) (take (limit.event * wordFrom A eventsAt) E) (take (wordFrom A textAt) T) room areaBytes
+      → writing (wordsOf t) party name type (modeNumber (h .reads .mode)) (eventWords (events (h .reads .tree))) (texts (h .reads .tree)) room ≡ made payload used
+      → writeCall t party name type (wordFrom A modeAt) (take (limit.event * wordFrom A eventsAt) E) (take (wordFrom A textAt) T) room areaBytes
       ≡ wrote room (wordFrom A modeAt) (wordFrom A eventsAt) (wordFrom A textAt) used payload
   hand-written h room payload used w =
       let r = h .reads in
@@ -329,29 +329,29 @@ module _ (t : List ℕ) (name type : ℕ) (s A E T : List ℕ) (e x : ℕ) where
       let j : length (bytesOf L) / limit.event ≡ length (events tree) = omega arith in
       let v = whole-right t (r .reading .whole) (r .reading .is .enters .table-right) in
       rw (h .list, h .text, h .mode-is, h .count, h .octets)
-      (made-tells t name type (modeNumber (r .mode)) (bytesOf L) (texts tree) room payload used v i (rw (words-bytes L) w)
+      (made-tells t party name type (modeNumber (r .mode)) (bytesOf L) (texts tree) room payload used v i (rw (words-bytes L) w)
       ∙ ap (λ (c : ℕ). wrote room (modeNumber (r .mode)) c (length (texts tree)) used payload) j)
 
-pub writes-back : (t : List ℕ) (name type : ℕ) (s A E T : List ℕ) (e x room : ℕ)
-    → back 0 A (E ∷ T ∷ []) ≡ readCall t name type s e x areaBytes → AllBytes s → NoBlankIn E (wordFrom A eventsAt)
+pub writes-back : (t : List ℕ) (party name type : ℕ) (s A E T : List ℕ) (e x room : ℕ)
+    → back 0 A (E ∷ T ∷ []) ≡ readCall t party name type s e x areaBytes → AllBytes s → NoBlankIn E (wordFrom A eventsAt)
     → ShortestIn (wordFrom A modeAt) E (wordFrom A eventsAt) → length s ≤ room
-    → writeCall t name type (wordFrom A modeAt) (take (limit.event * wordFrom A eventsAt) E) (take (wordFrom A textAt) T) room areaBytes
+    → writeCall t party name type (wordFrom A modeAt) (take (limit.event * wordFrom A eventsAt) E) (take (wordFrom A textAt) T) room areaBytes
     ≡ wrote room (wordFrom A modeAt) (wordFrom A eventsAt) (wordFrom A textAt) (wordFrom A bitsAt) s
-writes-back t name type s A E T e x room c o p short k =
-    let h = handed t name type s A E T e x c in
+writes-back t party name type s A E T e x room c o p short k =
+    let h = handed t party name type s A E T e x c in
     let r = h .reads in
     let flag = ap flagBit (h .mode-is) ∙ flag-bit (r .mode) in
     let z = rw (h .in-list, flag) at short in
-    let w = read-write (wordsOf t) name type s (e / 4) x room (r .mode) (r .tree) (r .used) o (is-accepted t name type s e x (r .reading)) (h .plain p) z k in
-    hand-written t name type s A E T e x h room s (r .used) w ∙ ap (λ (u : ℕ). wrote room (wordFrom A modeAt) (wordFrom A eventsAt) (wordFrom A textAt) u s) (sym (h .used))
+    let w = read-write (wordsOf t) party name type s (e / 4) x room (r .mode) (r .tree) (r .used) o (is-accepted t party name type s e x (r .reading)) (h .plain p) z k in
+    hand-written t party name type s A E T e x h room s (r .used) w ∙ ap (λ (u : ℕ). wrote room (wordFrom A modeAt) (wordFrom A eventsAt) (wordFrom A textAt) u s) (sym (h .used))
 
-pub rewrites : (t : List ℕ) (name type : ℕ) (s A E T : List ℕ) (e x room : ℕ)
-    → back 0 A (E ∷ T ∷ []) ≡ readCall t name type s e x areaBytes → NoBlankIn E (wordFrom A eventsAt) → length s ≤ room
-    → Rewrites t name type s A E T e x room
-rewrites t name type s A E T e x room c p k =
-    let h = handed t name type s A E T e x c in
+pub rewrites : (t : List ℕ) (party name type : ℕ) (s A E T : List ℕ) (e x room : ℕ)
+    → back 0 A (E ∷ T ∷ []) ≡ readCall t party name type s e x areaBytes → NoBlankIn E (wordFrom A eventsAt) → length s ≤ room
+    → Rewrites t party name type s A E T e x room
+rewrites t party name type s A E T e x room c p k =
+    let h = handed t party name type s A E T e x c in
     let r = h .reads in
-    let w = read-rewritten (wordsOf t) name type s (e / 4) x room (r .mode) (r .tree) (r .used) (is-accepted t name type s e x (r .reading)) (h .plain p) k in
+    let w = read-rewritten (wordsOf t) party name type s (e / 4) x room (r .mode) (r .tree) (r .used) (is-accepted t party name type s e x (r .reading)) (h .plain p) k in
     let v = whole-right t (r .reading .whole) (r .reading .is .enters .table-right) in
     let L = events (w .tree) in
     let count : length L ≡ length (events (r .tree)) = sym (length-map L bare) ∙ ap length (w .list) ∙ length-map (events (r .tree)) bare in
@@ -363,11 +363,11 @@ rewrites t name type s A E T e x room c p k =
       size = w .size;
       shorter = w .shorter;
       fewer = rw (h .used) (w .fewer);
-      wrote-it = hand-written t name type s A E T e x h room (w .payload) (w .bits) (w .writes);
+      wrote-it = hand-written t party name type s A E T e x h room (w .payload) (w .bits) (w .writes);
       area = areaOf (accepts (r .mode) (length L) (length (texts (w .tree))) (w .bits));
       list = filled e (bytesOf (eventWords L));
       reads =
-          call-tells t name type (w .payload) e x v ∙ ap (tells e x) (w .reads) ∙ tells-shown e x (r .mode) (w .tree) (w .bits)
+          call-tells t party name type (w .payload) e x v ∙ ap (tells e x) (w .reads) ∙ tells-shown e x (r .mode) (w .tree) (w .bits)
           ∙ ap (λ (X : List ℕ). back 0 (areaOf (accepts (r .mode) (length L) (length (texts (w .tree))) (w .bits))) (filled e (bytesOf (eventWords L)) ∷ X ∷ []))
           (ap (filled x) (w .text) ∙ sym (h .whole));
       mode = f .mode ∙ sym (h .mode-is);

@@ -27,8 +27,8 @@ use Rattle.bim.specs.Demands.{less, Pair, Reading, Reads, new, SecondAcc
 use Rattle.bim.proofs.WholeTables.{right-whole, checked-right}
 use Rattle.bim.proofs.Demand2.{tells, call-tells, is-accepted, accepts-only}
 
-pair-words : (t t′ : List ℕ) → Pair t t′ → model.Pair (wordsOf t) (wordsOf t′)
-pair-words t t′ p = record {
+pair-words : (t t′ : List ℕ) (party : ℕ) → Pair t t′ party → model.Pair (wordsOf t) (wordsOf t′) party
+pair-words t t′ party p = record {
   first-right = right-whole t (checked-right t (p .first-valid)) .1;
   second-right = right-whole t′ (checked-right t′ (p .second-valid)) .1;
   alike = p .alike;
@@ -73,28 +73,28 @@ word-small p h = omega arith
 word-twice : (p : ℕ) → placeWord (placeWord p) ≡ placeWord p
 word-twice p = omega arith
 
-module _ (t t′ : List ℕ) (name type : ℕ) (s : List ℕ) (e x : ℕ) (pair : Pair t t′) where
+module _ (t t′ : List ℕ) (party name type : ℕ) (s : List ℕ) (e x : ℕ) (pair : Pair t t′ party) where
   abbrev N : ℕ → Bool
-  N = new t t′
+  N = new t t′ party
 
-  pub second-accepts : readCall t′ name type s e x areaBytes .number ≡ 0 → SecondAccepts t t′ name type s e x
+  pub second-accepts : readCall t′ party name type s e x areaBytes .number ≡ 0 → SecondAccepts t t′ party name type s e x
   second-accepts c =
-      let r = accepts-only t′ name type s e x c in
-      let is = is-accepted t′ name type s e x (r .reading) in
+      let r = accepts-only t′ party name type s e x c in
+      let is = is-accepted t′ party name type s e x (r .reading) in
       record {
         mode = r .mode;
         tree = r .tree;
         used = r .used;
         reading = r .reading;
         second = r .shows;
-        first = call-tells t name type s e x (checked-right t (pair .first-valid))
-            ∙ ap (tells e x) (model-laws.second-accepts (wordsOf t) (wordsOf t′) (pair-words t t′ pair) name type s (e / 4) x
+        first = call-tells t party name type s e x (checked-right t (pair .first-valid))
+            ∙ ap (tells e x) (model-laws.second-accepts (wordsOf t) (wordsOf t′) party (pair-words t t′ party pair) name type s (e / 4) x
             (r .mode) (r .tree) (r .used) is)
             ∙ tells-less e x (r .mode) (firstBare (outermost N [] (r .tree))) (replaced N (r .tree)) (r .used);
       }
 
   -- the place in the area excuses as the place itself does
-  word-excuse : (mode : Mode) (tree : Nodes) (used n p : ℕ) (ρ : Path) → Reading t name type s e x mode tree used
+  word-excuse : (mode : Mode) (tree : Nodes) (used n p : ℕ) (ρ : Path) → Reading t party name type s e x mode tree used
       → Excuse N [] tree n p ρ → Excuse N [] tree n (placeWord p) ρ
   word-excuse mode tree used n p ρ r (Excuse.no-slot k) = Excuse.no-slot k
   word-excuse mode tree used n p ρ r (Excuse.no-bytes k) = Excuse.no-bytes k
@@ -107,27 +107,27 @@ module _ (t t′ : List ℕ) (name type : ℕ) (s : List ℕ) (e x : ℕ) (pair 
       let few = i .mode-byte .few in
       rw (word-small p (omega arith)) (Excuse.still-open o)
 
-  pub only-first-accepts : readCall t name type s e x areaBytes .number ≡ 0
-      → (readCall t′ name type s e x areaBytes .number ≡ 0 → ⊥) → OnlyFirstAccepts t t′ name type s e x
+  pub only-first-accepts : readCall t party name type s e x areaBytes .number ≡ 0
+      → (readCall t′ party name type s e x areaBytes .number ≡ 0 → ⊥) → OnlyFirstAccepts t t′ party name type s e x
   unfolding readBytes afterVerdict outcome eventsBack textsLeft areaOf
-  only-first-accepts c z = go (reading (wordsOf t′) name type s (e / 4) x) refl z
+  only-first-accepts c z = go (reading (wordsOf t′) party name type s (e / 4) x) refl z
     where
-      R : Reads t name type s e x
-      R = accepts-only t name type s e x c
+      R : Reads t party name type s e x
+      R = accepts-only t party name type s e x c
 
       right′ : tableVerdict t′ ≡ right
       right′ = checked-right t′ (pair .second-valid)
 
-      path-short : (q : Reply) → reading (wordsOf t′) name type s (e / 4) x ≡ q → length (outcome q .path) ≤ mostNames
-      path-short q y = rw (right′, y) at (path-most t′ name type s e x)
+      path-short : (q : Reply) → reading (wordsOf t′) party name type s (e / 4) x ≡ q → length (outcome q .path) ≤ mostNames
+      path-short q y = rw (right′, y) at (path-most t′ party name type s e x)
 
-      go : (q : Reply) → reading (wordsOf t′) name type s (e / 4) x ≡ q
-          → (readCall t′ name type s e x areaBytes .number ≡ 0 → ⊥) → OnlyFirstAccepts t t′ name type s e x
+      go : (q : Reply) → reading (wordsOf t′) party name type s (e / 4) x ≡ q
+          → (readCall t′ party name type s e x areaBytes .number ≡ 0 → ⊥) → OnlyFirstAccepts t t′ party name type s e x
       go (accepted mode ns used) y z =
-          absurd (z (ap (λ (b : Back). b .number) (call-tells t′ name type s e x right′ ∙ ap (tells e x) y)))
+          absurd (z (ap (λ (b : Back). b .number) (call-tells t′ party name type s e x right′ ∙ ap (tells e x) y)))
       go (declined n p π) y z =
-          let is = is-accepted t name type s e x (R .reading) in
-          let k = model-laws.only-first-accepts (wordsOf t) (wordsOf t′) (pair-words t t′ pair) name type s (e / 4) x
+          let is = is-accepted t party name type s e x (R .reading) in
+          let k = model-laws.only-first-accepts (wordsOf t) (wordsOf t′) party (pair-words t t′ party pair) name type s (e / 4) x
           (R .mode) (R .tree) (R .used) n p π is y in
           record {
             mode = R .mode;
@@ -138,7 +138,7 @@ module _ (t t′ : List ℕ) (name type : ℕ) (s : List ℕ) (e x : ℕ) (pair 
             number = n;
             place = placeWord p;
             path = π;
-            second = call-tells t′ name type s e x right′ ∙ ap (tells e x) y ∙ rw (word-twice p);
+            second = call-tells t′ party name type s e x right′ ∙ ap (tells e x) y ∙ rw (word-twice p);
             place-fits = omega arith;
             path-fits = path-short (declined n p π) y;
             excuse = word-excuse (R .mode) (R .tree) (R .used) n p π (R .reading) k;

@@ -3,7 +3,7 @@ use Rattle.buffers.specs.Bytes.{wordsOf}
 use Rattle.theorems.proofs.ValidModel.{valid-model}
 use Rattle.bim.specs.Demands.{Demand1, Demand2, Demand3}
 use Rattle.bim.proofs.AreaBack.{area-fetches, area-one}
-use Rattle.bim.proofs.Demand1.{check-answered, read-answered, write-answered, bits-answered}
+use Rattle.bim.proofs.Demand1.{check-answered, read-answered, write-answered, set-answered, bits-answered}
 use Rattle.bim.proofs.Demand2.{accepts-only, accepts-all, writes-only, writes-all, writes-back, rewrites}
 use Rattle.bim.proofs.Demand3.{second-accepts, only-first-accepts}
 
@@ -12,6 +12,7 @@ demand1 = record {
   check = check-answered;
   read = read-answered;
   write = write-answered;
+  set = set-answered;
   bits = bits-answered;
   fetches = area-fetches;
   one-area = area-one;
@@ -21,7 +22,7 @@ pub demand2 : Demand2
 demand2 = record {
   accepts-only = accepts-only;
   accepts-all = accepts-all;
-  valid-by-table = λ t name type mode E X. valid-model (wordsOf t) name type mode (wordsOf E) X;
+  valid-by-table = λ t party name type mode E X. valid-model (wordsOf t) party name type mode (wordsOf E) X;
   writes-only = writes-only;
   writes-all = writes-all;
   writes-back = writes-back;

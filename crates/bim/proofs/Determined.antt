@@ -18,7 +18,7 @@ use Rattle.reader.specs.declared.Answer as replied
 use Rattle.writer.specs.Answers as writes
 use Rattle.writer.specs.declared.Answer as wrote
 use Rattle.bit_reader.specs.declared.codes.Coding.{Coding}
-use Rattle.bim.specs.Calls.{Back, back, checkTable, readCall, writeCall}
+use Rattle.bim.specs.Calls.{Back, back, checkTable, readCall, writeCall, setCall}
 use Rattle.bim.specs.Bits.{bitsCall}
 use Rattle.bim.specs.Determined.{SameReply, SameWritten, SameBack}
 
@@ -32,15 +32,15 @@ check-determined l u v x y = go u v (x ∙ sym y)
     go (Wrong i) Right e = absurd (let z : _≡_ {A = ℕ} 0 1 = cc in omega arith)
     go (Wrong i) (Wrong j) e = ap Wrong cc
 
-pub read-determined : (l : List ℕ) (name type : ℕ) (s : List ℕ) (words bytes : ℕ) (r r′ : replied.Answer) (E E′ T T′ : List ℕ)
-    → reads.Replies (reading l name type s words bytes) words bytes r E T → reads.Replies (reading l name type s words bytes) words bytes r′ E′ T′ → SameReply r r′ E E′ T T′
-read-determined l name type s words bytes r r′ E E′ T T′ x y =
+pub read-determined : (l : List ℕ) (party name type : ℕ) (s : List ℕ) (words bytes : ℕ) (r r′ : replied.Answer) (E E′ T T′ : List ℕ)
+    → reads.Replies (reading l party name type s words bytes) words bytes r E T → reads.Replies (reading l party name type s words bytes) words bytes r′ E′ T′ → SameReply r r′ E E′ T T′
+read-determined l party name type s words bytes r r′ E E′ T T′ x y =
     record { answer = x .answer ∙ sym (y .answer); events = x .events-left ∙ sym (y .events-left); texts = x .texts-left ∙ sym (y .texts-left) }
 
-pub write-determined : (l : List ℕ) (name type mode : ℕ) (L X : List ℕ) (room : ℕ) (r r′ : wrote.Answer) (P P′ : List ℕ)
-    → writes.Writes (writing l name type mode L X room) mode (eventsIn L) (length X) room r P → writes.Writes (writing l name type mode L X room) mode (eventsIn L) (length X) room r′ P′
+pub write-determined : (l : List ℕ) (party name type mode : ℕ) (L X : List ℕ) (room : ℕ) (r r′ : wrote.Answer) (P P′ : List ℕ)
+    → writes.Writes (writing l party name type mode L X room) mode (eventsIn L) (length X) room r P → writes.Writes (writing l party name type mode L X room) mode (eventsIn L) (length X) room r′ P′
     → SameWritten r r′ P P′
-write-determined l name type mode L X room r r′ P P′ x y =
+write-determined l party name type mode L X room r r′ P P′ x y =
     let e = x .answer ∙ sym (y .answer) in
     record {
       answer = λ i. record {
@@ -64,22 +64,27 @@ pub check-call-determined : (t : List ℕ) (area n n′ : ℕ) (A A′ : List �
 check-call-determined t area n n′ A A′ x y = same-back (checkTable t area) n n′ A A′ [] [] x y
 
 -- bim_read
-pub read-call-determined : (t : List ℕ) (name type : ℕ) (s : List ℕ) (e x area n n′ : ℕ) (A A′ E E′ T T′ : List ℕ)
-    → back n A (E ∷ T ∷ []) ≡ readCall t name type s e x area → back n′ A′ (E′ ∷ T′ ∷ []) ≡ readCall t name type s e x area
+pub read-call-determined : (t : List ℕ) (party name type : ℕ) (s : List ℕ) (e x area n n′ : ℕ) (A A′ E E′ T T′ : List ℕ)
+    → back n A (E ∷ T ∷ []) ≡ readCall t party name type s e x area → back n′ A′ (E′ ∷ T′ ∷ []) ≡ readCall t party name type s e x area
     → SameBack n n′ A A′ (E ∷ T ∷ []) (E′ ∷ T′ ∷ [])
-read-call-determined t name type s e x area n n′ A A′ E E′ T T′ p q = same-back (readCall t name type s e x area) n n′ A A′ (E ∷ T ∷ []) (E′ ∷ T′ ∷ []) p q
+read-call-determined t party name type s e x area n n′ A A′ E E′ T T′ p q = same-back (readCall t party name type s e x area) n n′ A A′ (E ∷ T ∷ []) (E′ ∷ T′ ∷ []) p q
 
 -- bim_write
-pub write-call-determined : (t : List ℕ) (name type mode : ℕ) (e x : List ℕ) (room area n n′ : ℕ) (A A′ P P′ : List ℕ)
-    → back n A (P ∷ []) ≡ writeCall t name type mode e x room area → back n′ A′ (P′ ∷ []) ≡ writeCall t name type mode e x room area
+pub write-call-determined : (t : List ℕ) (party name type mode : ℕ) (e x : List ℕ) (room area n n′ : ℕ) (A A′ P P′ : List ℕ)
+    → back n A (P ∷ []) ≡ writeCall t party name type mode e x room area → back n′ A′ (P′ ∷ []) ≡ writeCall t party name type mode e x room area
     → SameBack n n′ A A′ (P ∷ []) (P′ ∷ [])
-write-call-determined t name type mode e x room area n n′ A A′ P P′ p q = same-back (writeCall t name type mode e x room area) n n′ A A′ (P ∷ []) (P′ ∷ []) p q
+write-call-determined t party name type mode e x room area n n′ A A′ P P′ p q = same-back (writeCall t party name type mode e x room area) n n′ A A′ (P ∷ []) (P′ ∷ []) p q
 
 -- bim_write_lengths
-pub lengths-call-determined : (t : List ℕ) (name type : ℕ) (e x : List ℕ) (room area n n′ : ℕ) (A A′ P P′ : List ℕ)
-    → back n A (P ∷ []) ≡ writeCall t name type always e x room area → back n′ A′ (P′ ∷ []) ≡ writeCall t name type always e x room area
+pub lengths-call-determined : (t : List ℕ) (party name type : ℕ) (e x : List ℕ) (room area n n′ : ℕ) (A A′ P P′ : List ℕ)
+    → back n A (P ∷ []) ≡ writeCall t party name type always e x room area → back n′ A′ (P′ ∷ []) ≡ writeCall t party name type always e x room area
     → SameBack n n′ A A′ (P ∷ []) (P′ ∷ [])
-lengths-call-determined t name type e x room area n n′ A A′ P P′ p q = write-call-determined t name type always e x room area n n′ A A′ P P′ p q
+lengths-call-determined t party name type e x room area n n′ A A′ P P′ p q = write-call-determined t party name type always e x room area n n′ A A′ P P′ p q
+
+-- bim_set_held
+pub set-call-determined : (t : List ℕ) (party type mark area n n′ : ℕ) (A A′ T T′ : List ℕ)
+    → back n A (T ∷ []) ≡ setCall t party type mark area → back n′ A′ (T′ ∷ []) ≡ setCall t party type mark area → SameBack n n′ A A′ (T ∷ []) (T′ ∷ [])
+set-call-determined t party type mark area n n′ A A′ T T′ p q = same-back (setCall t party type mark area) n n′ A A′ (T ∷ []) (T′ ∷ []) p q
 
 -- bim_bits_fixed, bim_bits_vlu5, bim_bits_vlu8
 pub bits-call-determined : (s : List ℕ) (at : ℕ) (c : Coding) (area n n′ : ℕ) (A A′ : List ℕ) → back n A [] ≡ bitsCall s at c area → back n′ A′ [] ≡ bitsCall s at c area → SameBack n n′ A A′ [] []

@@ -13,8 +13,10 @@ mod Demands
 mod AreaLaws
 mod CallLaws
 mod Determined
+mod Parties
 mod Paths
 mod ReadLaws
 mod RoomLaws
+mod SettingLaws
 mod TableLaws
 mod WriteLaws

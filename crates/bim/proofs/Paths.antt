@@ -98,8 +98,8 @@ module _ {b : ℕ → ℕ} {mode : Lengths} {held : ℕ → Bool} where
   refuses-short (no-end x z s g e k) (suc D) (Opens.into o q) h = omega arith
   refuses-short (later f d) D o h = refuses-short d D (goes-open f o) h
 
-replies-short : {l : List ℕ} {name type : ℕ} {s : List ℕ} {words bytes : ℕ} {R : Reply}
-    → Replies l name type s words bytes R → length (outcome R .path) ≤ mostNames
+replies-short : {l : List ℕ} {party name type : ℕ} {s : List ℕ} {words bytes : ℕ} {R : Reply}
+    → Replies l party name type s words bytes R → length (outcome R .path) ≤ mostNames
 unfolding outcome
 replies-short (no-table v) = omega arith
 replies-short (no-root v a) = omega arith
@@ -111,11 +111,11 @@ replies-short (unpadded i r e) = omega arith
 replies-short (whole i r e) = omega arith
 
 -- so the path of every reading of bytes fits
-pub path-most : (t : List ℕ) (name type : ℕ) (s : List ℕ) (e x : ℕ)
-    → length (outcome (readBytes t name type s e x) .path) ≤ mostNames
+pub path-most : (t : List ℕ) (party name type : ℕ) (s : List ℕ) (e x : ℕ)
+    → length (outcome (readBytes t party name type s e x) .path) ≤ mostNames
 unfolding readBytes outcome afterVerdict
-path-most t name type s e x = go (tableVerdict t)
+path-most t party name type s e x = go (tableVerdict t)
   where
-    go : (v : Verdict) → length (outcome (afterVerdict v (reading (wordsOf t) name type s (e / 4) x)) .path) ≤ mostNames
-    go right = replies-short (reading-replies (wordsOf t) name type s (e / 4) x)
+    go : (v : Verdict) → length (outcome (afterVerdict v (reading (wordsOf t) party name type s (e / 4) x)) .path) ≤ mostNames
+    go right = replies-short (reading-replies (wordsOf t) party name type s (e / 4) x)
     go (wrong i) = omega arith

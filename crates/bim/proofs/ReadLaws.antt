@@ -27,11 +27,11 @@ pub outcome-in-same : (k : ℕ) (o : Outcome) → outcomeInTable k k o ≡ o
 outcome-in-same k o = λ i. record { number = o .number; place = in-table-same k (o .place) i; mode = o .mode; events = o .events; text = o .text; bits = o .bits; path = o .path }
 
 -- as much room as the bytes have
-same-room : (l : List ℕ) (name type : ℕ) (s : List ℕ) (e x : ℕ) → reading l name type s (e / 4) x ≡ reading l name type s (slotWords e) x
+same-room : (l : List ℕ) (party name type : ℕ) (s : List ℕ) (e x : ℕ) → reading l party name type s (e / 4) x ≡ reading l party name type s (slotWords e) x
 unfolding reading
-same-room l name type s e x =
+same-room l party name type s e x =
     let h : min (e / 4 / 4) mostEvents ≡ min (slotWords e / 4) mostEvents = omega arith in
-    ap (λ (n : ℕ). afterVerdict (verdict l) (afterAsked (asked (tableOf l .types) name type) (payload (heldOf l) (planOf l name type) (tableOf l .derivations) s (record { slots = n; bytes = x })))) h
+    ap (λ (n : ℕ). afterVerdict (verdict l) (afterAsked (asked (tableOf l .types) party name type) (payload (heldOf l party) (planOf l name type) (tableOf l .derivations) s (record { slots = n; bytes = x })))) h
 
 -- what the reading of the words lent tells of the reading of the bytes
 pub record Read (R R′ : Reply) (k m e x : ℕ) : Type 0 where
@@ -57,20 +57,20 @@ both-declined R R′ k m e x i r r′ =
     }
 
 -- a verdict that stands twice stands once
-once : (v : Verdict) (r : Reply) → afterVerdict v (afterVerdict v r) ≡ afterVerdict v r
+pub once : (v : Verdict) (r : Reply) → afterVerdict v (afterVerdict v r) ≡ afterVerdict v r
 unfolding afterVerdict
 once right r = refl
 once (wrong i) r = refl
 
-pub read-lent : (t : List ℕ) (name type : ℕ) (s : List ℕ) (e x k : ℕ) → Told t k
-    → Read (readBytes t name type s e x) (reading (take k (wordsOf t)) name type s (slotWords e) x) k (length t / 4) e x
+pub read-lent : (t : List ℕ) (party name type : ℕ) (s : List ℕ) (e x k : ℕ) → Told t k
+    → Read (readBytes t party name type s e x) (reading (take k (wordsOf t)) party name type s (slotWords e) x) k (length t / 4) e x
 unfolding readBytes reading afterVerdict
-read-lent t name type s e x k (whole v f g) =
-    let one : readBytes t name type s e x ≡ reading (wordsOf t) name type s (e / 4) x =
-    ap (λ (u : Verdict). afterVerdict u (reading (wordsOf t) name type s (e / 4) x)) v ∙ once (verdict (wordsOf t)) _ in
-    same-reply _ _ k (length t / 4) e x (one ∙ same-room (wordsOf t) name type s e x ∙ ap (λ (l : List ℕ). reading l name type s (slotWords e) x) (sym f)) g
-read-lent t name type s e x k (part i v f) =
-    both-declined _ _ k (length t / 4) e x i (ap (λ (u : Verdict). afterVerdict u (reading (wordsOf t) name type s (e / 4) x)) f) (rw v)
+read-lent t party name type s e x k (whole v f g) =
+    let one : readBytes t party name type s e x ≡ reading (wordsOf t) party name type s (e / 4) x =
+    ap (λ (u : Verdict). afterVerdict u (reading (wordsOf t) party name type s (e / 4) x)) v ∙ once (verdict (wordsOf t)) _ in
+    same-reply _ _ k (length t / 4) e x (one ∙ same-room (wordsOf t) party name type s e x ∙ ap (λ (l : List ℕ). reading l party name type s (slotWords e) x) (sym f)) g
+read-lent t party name type s e x k (part i v f) =
+    both-declined _ _ k (length t / 4) e x i (ap (λ (u : Verdict). afterVerdict u (reading (wordsOf t) party name type s (e / 4) x)) f) (rw v)
 
 -- the words of the events as bytes at the front of a buffer that was cleared
 as-many : (a b : ℕ) → a ≡ b → zeros a ≡ zeros b

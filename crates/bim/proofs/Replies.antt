@@ -45,31 +45,31 @@ pub read-as : {R R′ : Reply} {e x : ℕ} {o : Outcome} {E X : List ℕ} → R�
 read-as {e = e} {x = x} {o = o} {E = E} {X = X} r b = subst (λ (S : Reply). ReadBack S e x o E X) (sym r) b
 
 -- with fewer words lent, where they were not too few
-pub few-read : (l : List ℕ) (name type : ℕ) (s : List ℕ) (w w′ e x : ℕ) (o : Outcome) (E X : List ℕ) → w ≤ w′ → (o .number ≡ eventRoom → ⊥)
-    → ReadBack (reading l name type s w x) e x o E X → ReadBack (reading l name type s w′ x) e x o E X
-few-read l name type s w w′ e x o E X h z b = read-as (more-room l name type s w w′ x h (λ n. z (ap (λ (p : Outcome). p .number) (b .answer) ∙ n))) b
+pub few-read : (l : List ℕ) (party name type : ℕ) (s : List ℕ) (w w′ e x : ℕ) (o : Outcome) (E X : List ℕ) → w ≤ w′ → (o .number ≡ eventRoom → ⊥)
+    → ReadBack (reading l party name type s w x) e x o E X → ReadBack (reading l party name type s w′ x) e x o E X
+few-read l party name type s w w′ e x o E X h z b = read-as (more-room l party name type s w w′ x h (λ n. z (ap (λ (p : Outcome). p .number) (b .answer) ∙ n))) b
 
 -- once more, into buffers that are as long
-pub again-read : (l : List ℕ) (name type : ℕ) (s : List ℕ) (m e e′ x x′ : ℕ) (o : Outcome) (E X : List ℕ) → e′ ≡ e → x′ ≡ x
-    → ReadBack (reading l name type s m x′) e′ x′ o E X → ReadBack (reading l name type s m x) e x o E X
-again-read l name type s m e e′ x x′ o E X h k b =
-    subst (λ (y : ℕ). ReadBack (reading l name type s m y) e y o E X) k (subst (λ (y : ℕ). ReadBack (reading l name type s m x′) y x′ o E X) h b)
+pub again-read : (l : List ℕ) (party name type : ℕ) (s : List ℕ) (m e e′ x x′ : ℕ) (o : Outcome) (E X : List ℕ) → e′ ≡ e → x′ ≡ x
+    → ReadBack (reading l party name type s m x′) e′ x′ o E X → ReadBack (reading l party name type s m x) e x o E X
+again-read l party name type s m e e′ x x′ o E X h k b =
+    subst (λ (y : ℕ). ReadBack (reading l party name type s m y) e y o E X) k (subst (λ (y : ℕ). ReadBack (reading l party name type s m x′) y x′ o E X) h b)
 
 -- with as many words lent as there is room
-pub slots-read : (l : List ℕ) (name type : ℕ) (s : List ℕ) (m m′ e x : ℕ) (o : Outcome) (E X : List ℕ) → m ≡ m′
-    → ReadBack (reading l name type s m x) e x o E X → ReadBack (reading l name type s m′ x) e x o E X
-slots-read l name type s m m′ e x o E X h b = read-as (ap (λ (j : ℕ). reading l name type s j x) (sym h)) b
+pub slots-read : (l : List ℕ) (party name type : ℕ) (s : List ℕ) (m m′ e x : ℕ) (o : Outcome) (E X : List ℕ) → m ≡ m′
+    → ReadBack (reading l party name type s m x) e x o E X → ReadBack (reading l party name type s m′ x) e x o E X
+slots-read l party name type s m m′ e x o E X h b = read-as (ap (λ (j : ℕ). reading l party name type s j x) (sym h)) b
 
 abbrev pub moveTo : ℕ → Answer → Answer
 moveTo p a = record { number = a .number; place = p; mode = a .mode; events = a .events; text = a .text; bits = a .bits; path = a .path }
 
 -- the words of the table, and the place in it
-pub bytes-read : (t : List ℕ) (name type : ℕ) (s : List ℕ) (e x k : ℕ) (words : List ℕ) (a : Answer) (E X : List ℕ) (p : ℕ) → Seen t words k
-    → ReadBack (reading (take k words) name type s (slotWords e) x) e x (answerIs a) E X → p ≡ placeInTable k (length t / 4) (a .place)
-    → ReadBack (readBytes t name type s e x) e x (answerIs (moveTo p a)) E X
-bytes-read t name type s e x k words a E X p v b q =
-    let c = read-lent t name type s e x k (v .tells) in
-    let b′ : ReadBack (reading (take k (wordsOf t)) name type s (slotWords e) x) e x (answerIs a) E X = read-as (ap (λ (y : List ℕ). reading y name type s (slotWords e) x) (sym (v .front))) b in
+pub bytes-read : (t : List ℕ) (party name type : ℕ) (s : List ℕ) (e x k : ℕ) (words : List ℕ) (a : Answer) (E X : List ℕ) (p : ℕ) → Seen t words k
+    → ReadBack (reading (take k words) party name type s (slotWords e) x) e x (answerIs a) E X → p ≡ placeInTable k (length t / 4) (a .place)
+    → ReadBack (readBytes t party name type s e x) e x (answerIs (moveTo p a)) E X
+bytes-read t party name type s e x k words a E X p v b q =
+    let c = read-lent t party name type s e x k (v .tells) in
+    let b′ : ReadBack (reading (take k (wordsOf t)) party name type s (slotWords e) x) e x (answerIs a) E X = read-as (ap (λ (y : List ℕ). reading y party name type s (slotWords e) x) (sym (v .front))) b in
     record {
       answer = ap (λ (j : ℕ). answerIs (moveTo j a)) q ∙ ap (outcomeInTable k (length t / 4)) (b′ .answer) ∙ sym (c .answer);
       events = b′ .events ∙ sym (c .events);
@@ -77,27 +77,27 @@ bytes-read t name type s e x k words a E X p v b q =
     }
 
 -- the call
-module _ (t : List ℕ) (name type : ℕ) (s E X A E′ X′ A′ : List ℕ) where
+module _ (t : List ℕ) (party name type : ℕ) (s E X A E′ X′ A′ : List ℕ) where
   pub read-unlent : (length A ≡ limit.area → ⊥) → E′ ≡ zeros (length E) → X′ ≡ zeros (length X) → A′ ≡ zeros (length A)
-      → back areaSize A′ (E′ ∷ X′ ∷ []) ≡ readCall t name type s (length E) (length X) (length A)
+      → back areaSize A′ (E′ ∷ X′ ∷ []) ≡ readCall t party name type s (length E) (length X) (length A)
   unfolding readCall
   read-unlent n e x a = rw (e, x, a) (sym (unlent (length A) (length E ∷ length X ∷ []) _ _ n))
 
-  pub read-told : (a : Answer) (r : ℕ) → length A ≡ limit.area → ReadBack (readBytes t name type s (length E) (length X)) (length E) (length X) (answerIs a) E′ X′
-      → (r ≡ a .number) × (A′ ≡ areaOf (answerIs a)) → back r A′ (E′ ∷ X′ ∷ []) ≡ readCall t name type s (length E) (length X) (length A)
+  pub read-told : (a : Answer) (r : ℕ) → length A ≡ limit.area → ReadBack (readBytes t party name type s (length E) (length X)) (length E) (length X) (answerIs a) E′ X′
+      → (r ≡ a .number) × (A′ ≡ areaOf (answerIs a)) → back r A′ (E′ ∷ X′ ∷ []) ≡ readCall t party name type s (length E) (length X) (length A)
   unfolding readCall
   read-told a r w b (n, k) =
       rw (n, k, b .events, b .texts) (ap (λ (o : Outcome). back (o .number) (areaOf o) (eventsBack (length E) R ∷ textsLeft (length X) R ∷ [])) (b .answer))
       ∙ sym (lent-whole (length A) (length E ∷ length X ∷ []) (outcome R) _ w)
     where
       R : Reply
-      R = readBytes t name type s (length E) (length X)
+      R = readBytes t party name type s (length E) (length X)
 
 -- the path fits
-pub path-fits : (t : List ℕ) (name type : ℕ) (s : List ℕ) (e x : ℕ) (a : Answer) (E X : List ℕ) → ReadBack (readBytes t name type s e x) e x (answerIs a) E X → a .path .count ≤ limit.mostNames
-path-fits t name type s e x a E X b =
+pub path-fits : (t : List ℕ) (party name type : ℕ) (s : List ℕ) (e x : ℕ) (a : Answer) (E X : List ℕ) → ReadBack (readBytes t party name type s e x) e x (answerIs a) E X → a .path .count ≤ limit.mostNames
+path-fits t party name type s e x a E X b =
     let n = first-length (a .path .names) (a .path .count) in
-    let m = path-most t name type s e x in
+    let m = path-most t party name type s e x in
     let q = ap (λ (o : Outcome). length (o .path)) (b .answer) in
     omega arith
 

@@ -52,11 +52,11 @@ module _ {b : ℕ → ℕ} {mode : Lengths} {held : ℕ → Bool} where
   refuses-wider (later {ns} f d) r′ w z =
       later (goes-wider f r′ w) (refuses-wider d (roomLess r′ ns) (record { slots = omega arith; bytes = omega arith }) z)
 
-module _ (l : List ℕ) (name type : ℕ) (s : List ℕ) (w w′ x : ℕ) (h : w ≤ w′) where
+module _ (l : List ℕ) (party name type : ℕ) (s : List ℕ) (w w′ x : ℕ) (h : w ≤ w′) where
   wider : Wider (roomOf w x) (roomOf w′ x)
   wider = record { slots = omega arith; bytes = refl }
 
-  replies-wider : {R : Reply} → Replies l name type s w x R → (outcome R .number ≡ eventRoom → ⊥) → Replies l name type s w′ x R
+  replies-wider : {R : Reply} → Replies l party name type s w x R → (outcome R .number ≡ eventRoom → ⊥) → Replies l party name type s w′ x R
   unfolding outcome
   replies-wider (no-table v) z = no-table v
   replies-wider (no-root v a) z = no-root v a
@@ -66,6 +66,6 @@ module _ (l : List ℕ) (name type : ℕ) (s : List ℕ) (w w′ x : ℕ) (h : w
   replies-wider (whole i r e) z = whole i (goes-wider r (roomOf w′ x) wider) e
 
   -- more words lent: the same reading, but where there were too few
-  pub more-room : (outcome (reading l name type s w x) .number ≡ eventRoom → ⊥)
-      → reading l name type s w′ x ≡ reading l name type s w x
-  more-room z = replies-reading l name type s w′ x (replies-wider (reading-replies l name type s w x) z)
+  pub more-room : (outcome (reading l party name type s w x) .number ≡ eventRoom → ⊥)
+      → reading l party name type s w′ x ≡ reading l party name type s w x
+  more-room z = replies-reading l party name type s w′ x (replies-wider (reading-replies l party name type s w x) z)

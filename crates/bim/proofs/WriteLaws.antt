@@ -10,7 +10,7 @@ use lib.ListN.{length, take}
 use Rattle.numbers.specs.Refusal as refusal
 use Rattle.numbers.specs.Refusal.{noReading}
 use Rattle.numbers.specs.Limit as limit
-use Rattle.numbers.specs.Limit.{mostEvents, mostName}
+use Rattle.numbers.specs.Limit.{mostEvents, mostName, parties}
 use Rattle.wire.specs.Res.{Res, got, fault, guard, atMost, _>>_, _>>=_}
 use Rattle.table.specs.First.{Verdict}
 use Rattle.table.specs.First.Verdict.{right, wrong}
@@ -27,11 +27,12 @@ use Rattle.bim.proofs.TableLaws.{Told, whole, part}
 use Rattle.bim.specs.EventRoom.{outcomeInTable}
 use Rattle.bim.proofs.ReadLaws.{outcome-in-same}
 
-guards-two : (u v : Bool) (n : ℕ) → (guard u refusal.root >> guard v refusal.root) ≡ fault n → n ≡ refusal.root
+guards-early : (u v w : Bool) (n : ℕ) → (guard u refusal.root >> (guard v refusal.root >> guard w refusal.party)) ≡ fault n → n ≡ noReading → ⊥
 unfolding guard _>>_
-guards-two true true n e = let z : _≡_ {A = ℕ} 0 1 = cc in absurd (omega arith)
-guards-two true false n e = cc
-guards-two false v n e = cc
+guards-early true true true n e z = let y : _≡_ {A = ℕ} 0 1 = cc in omega arith
+guards-early true true false n e z = let y : n ≡ refusal.party = cc in omega arith
+guards-early true false w n e z = let y : n ≡ refusal.root = cc in omega arith
+guards-early false v w n e z = let y : n ≡ refusal.root = cc in omega arith
 
 by-fault : (l : List Mode) (mode n : ℕ) → modeBy modeNumber l mode refusal.writeMode ≡ fault n → n ≡ refusal.writeMode
 unfolding modeBy
@@ -48,9 +49,9 @@ unfolding modeAsked
 mode-fault D mode n e = by-fault (modesFor D) mode n e
 
 -- a list of another shape than the words that stand for it
-module _ (l : List ℕ) (name type mode : ℕ) where
+module _ (l : List ℕ) (party name type mode : ℕ) where
   -- more events than there may be
-  pub too-many : (e x : List ℕ) (room : ℕ) → length e % limit.event ≡ 0 → mostEvents < length e / limit.event → writeList l name type mode e x room ≡ unlisted l name type mode (length e / limit.event)
+  pub too-many : (e x : List ℕ) (room : ℕ) → length e % limit.event ≡ 0 → mostEvents < length e / limit.event → writeList l party name type mode e x room ≡ unlisted l party name type mode (length e / limit.event)
   unfolding writeList unlisted writing shaped
   too-many e x room h g =
       let n = words-length e in
@@ -58,35 +59,35 @@ module _ (l : List ℕ) (name type mode : ℕ) where
       let b : length (wordsOf e) / 4 ≡ length e / limit.event = omega arith in
       rw (eq-eqb (length e % limit.event) 0 h, eq-eqb (length (wordsOf e) % 4) 0 a, b, lt-leb (length e / limit.event) mostEvents g)
 
-  pub no-list : (e x : List ℕ) (room : ℕ) → (length e % limit.event ≡ 0 → ⊥) → writeList l name type mode e x room ≡ unlisted l name type mode (length e / limit.event)
+  pub no-list : (e x : List ℕ) (room : ℕ) → (length e % limit.event ≡ 0 → ⊥) → writeList l party name type mode e x room ≡ unlisted l party name type mode (length e / limit.event)
   unfolding writeList
   no-list e x room h = rw (ne-eqb (length e % limit.event) 0 h)
 
-  pub whole-list : (e x : List ℕ) (room : ℕ) → length e % limit.event ≡ 0 → writeList l name type mode e x room ≡ writing l name type mode (wordsOf e) x room
+  pub whole-list : (e x : List ℕ) (room : ℕ) → length e % limit.event ≡ 0 → writeList l party name type mode e x room ≡ writing l party name type mode (wordsOf e) x room
   unfolding writeList
   whole-list e x room h = rw (eq-eqb (length e % limit.event) 0 h)
 
   -- one word is no list
-  pub one-word : (w : ℕ) (x : List ℕ) (room : ℕ) → writing l name type mode (w ∷ []) x room ≡ unlisted l name type mode 0
+  pub one-word : (w : ℕ) (x : List ℕ) (room : ℕ) → writing l party name type mode (w ∷ []) x room ≡ unlisted l party name type mode 0
   unfolding writing unlisted shaped
   one-word w x room = refl
 
   -- noReading is at the place that is asked for, and no number before it depends on that place
   pub data Unlisted : Type 0 where
-    early : (k p : ℕ) → (k ≡ noReading → ⊥) → ((n : ℕ) → unlisted l name type mode n ≡ unmade k p) → Unlisted
-    late : ((n : ℕ) → unlisted l name type mode n ≡ unmade noReading n) → Unlisted
+    early : (k p : ℕ) → (k ≡ noReading → ⊥) → ((n : ℕ) → unlisted l party name type mode n ≡ unmade k p) → Unlisted
+    late : ((n : ℕ) → unlisted l party name type mode n ≡ unmade noReading n) → Unlisted
 
-  asked-two : (types n : ℕ) → asked types name type ≡ fault n → n ≡ refusal.root
+  asked-early : (types n : ℕ) → asked types party name type ≡ fault n → n ≡ noReading → ⊥
   unfolding asked atMost _>>_ _>>=_
-  asked-two types n e = guards-two (leb (suc type) types) (leb name mostName) n e
+  asked-early types n e = guards-early (leb (suc type) types) (leb name mostName) (leb (suc party) parties) n e
 
   pub unlisted-is : Unlisted
   unfolding unlisted verdictMade orUnmade
-  unlisted-is = by-verdict (verdict l) (asked (tableOf l .types) name type) (modeAsked (tableOf l .derivations) mode) refl refl refl
+  unlisted-is = by-verdict (verdict l) (asked (tableOf l .types) party name type) (modeAsked (tableOf l .derivations) mode) refl refl refl
     where
-      by-verdict : (v : Verdict) (a : Res Unit) (m : Res Mode) → verdict l ≡ v → asked (tableOf l .types) name type ≡ a → modeAsked (tableOf l .derivations) mode ≡ m → Unlisted
+      by-verdict : (v : Verdict) (a : Res Unit) (m : Res Mode) → verdict l ≡ v → asked (tableOf l .types) party name type ≡ a → modeAsked (tableOf l .derivations) mode ≡ m → Unlisted
       by-verdict (wrong i) a m e f g = early 1 i (λ z. omega arith) (λ n. rw e)
-      by-verdict right (fault k) m e f g = early k 0 (λ z. omega (arith, asked-two (tableOf l .types) k f)) (λ n. rw (e, f))
+      by-verdict right (fault k) m e f g = early k 0 (asked-early (tableOf l .types) k f) (λ n. rw (e, f))
       by-verdict right (got u) (fault k) e f g = early k 0 (λ z. omega (arith, mode-fault (tableOf l .derivations) mode k g)) (λ n. rw (e, f, g))
       by-verdict right (got u) (got m) e f g = late (λ n. rw (e, f, g))
 
@@ -116,27 +117,27 @@ unfolding verdictMade
 once right r = refl
 once (wrong i) r = refl
 
-module _ (l : List ℕ) (name type mode : ℕ) (e x : List ℕ) (room : ℕ) where
-  list-once : verdictMade (verdict l) (writeList l name type mode e x room) ≡ writeList l name type mode e x room
+module _ (l : List ℕ) (party name type mode : ℕ) (e x : List ℕ) (room : ℕ) where
+  pub list-once : verdictMade (verdict l) (writeList l party name type mode e x room) ≡ writeList l party name type mode e x room
   unfolding writeList writing unlisted
   list-once = go (eqb (length e % limit.event) 0)
     where
-      go : (b : Bool) → verdictMade (verdict l) (cond b (writing l name type mode (wordsOf e) x room) (unlisted l name type mode (length e / limit.event)))
-          ≡ cond b (writing l name type mode (wordsOf e) x room) (unlisted l name type mode (length e / limit.event))
+      go : (b : Bool) → verdictMade (verdict l) (cond b (writing l party name type mode (wordsOf e) x room) (unlisted l party name type mode (length e / limit.event)))
+          ≡ cond b (writing l party name type mode (wordsOf e) x room) (unlisted l party name type mode (length e / limit.event))
       go true = once (verdict l) _
       go false = once (verdict l) _
 
-  list-wrong : (i : ℕ) → verdict l ≡ wrong i → writeList l name type mode e x room ≡ unmade refusal.table i
+  list-wrong : (i : ℕ) → verdict l ≡ wrong i → writeList l party name type mode e x room ≡ unmade refusal.table i
   unfolding verdictMade
-  list-wrong i w = sym list-once ∙ ap (λ (v : Verdict). verdictMade v (writeList l name type mode e x room)) w
+  list-wrong i w = sym list-once ∙ ap (λ (v : Verdict). verdictMade v (writeList l party name type mode e x room)) w
 
-pub write-lent : (t : List ℕ) (name type mode : ℕ) (e x : List ℕ) (room k events text : ℕ) → Told t k
-    → Wrote (writeBytes t name type mode e x room) (writeList (take k (wordsOf t)) name type mode e x room) k (length t / 4) mode events text room
+pub write-lent : (t : List ℕ) (party name type mode : ℕ) (e x : List ℕ) (room k events text : ℕ) → Told t k
+    → Wrote (writeBytes t party name type mode e x room) (writeList (take k (wordsOf t)) party name type mode e x room) k (length t / 4) mode events text room
 unfolding writeBytes verdictMade
-write-lent t name type mode e x room k events text (whole v f g) =
+write-lent t party name type mode e x room k events text (whole v f g) =
     same-made _ _ k (length t / 4) mode events text room
-    (ap (λ (u : Verdict). verdictMade u (writeList (wordsOf t) name type mode e x room)) v ∙ list-once (wordsOf t) name type mode e x room
-    ∙ ap (λ (l : List ℕ). writeList l name type mode e x room) (sym f)) g
-write-lent t name type mode e x room k events text (part i v f) =
-    both-unmade _ _ k (length t / 4) mode events text room i (ap (λ (u : Verdict). verdictMade u (writeList (wordsOf t) name type mode e x room)) f)
-    (list-wrong (take k (wordsOf t)) name type mode e x room i v)
+    (ap (λ (u : Verdict). verdictMade u (writeList (wordsOf t) party name type mode e x room)) v ∙ list-once (wordsOf t) party name type mode e x room
+    ∙ ap (λ (l : List ℕ). writeList l party name type mode e x room) (sym f)) g
+write-lent t party name type mode e x room k events text (part i v f) =
+    both-unmade _ _ k (length t / 4) mode events text room i (ap (λ (u : Verdict). verdictMade u (writeList (wordsOf t) party name type mode e x room)) f)
+    (list-wrong (take k (wordsOf t)) party name type mode e x room i v)

@@ -2,6 +2,7 @@ pub mod Area
 pub mod Calls
 pub mod Bits
 pub mod Determined
+pub mod Parties
 pub mod Demands
 pub mod EventRoom
 pub mod TableRoom

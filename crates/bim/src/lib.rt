@@ -5,6 +5,7 @@ mod area;
 mod bits;
 mod reads;
 mod rooms;
+mod sets;
 mod tables;
 mod writes;
 
@@ -16,6 +17,7 @@ use numbers::limit;
 use numbers::mode;
 use numbers::refusal;
 use reads::read_bytes;
+use sets::set_bytes;
 use table::Verdict;
 use tables::check_bytes;
 use writes::write_bytes;
@@ -24,7 +26,7 @@ ghost use mathlib.Core.List.{[], _∷_};
 ghost use lib.ListN.{length};
 ghost use Rattle.numbers.specs.Mode.{always};
 ghost use Rattle.value.specs.Simple.{AllBytes};
-ghost use Rattle.bim.specs.Calls.{back, checkTable, readCall, writeCall};
+ghost use Rattle.bim.specs.Calls.{back, checkTable, readCall, writeCall, setCall};
 ghost use Rattle.bim.specs.Contracts.{WrittenAndTold};
 
 // Judges a table.
@@ -54,6 +56,7 @@ pub extern "C" fn bim_check_table(table: &[u8], area: &mut [u8]) -> u32
 #[no_mangle]
 pub extern "C" fn bim_read(
     table: &[u8],
+    party: u32,
     root_name: u32,
     root_type: u32,
     payload: &[u8],
@@ -63,7 +66,7 @@ pub extern "C" fn bim_read(
 ) -> u32
     ensures answer { λ r. ⌜
         back r (now (area .exit)) (now (events .exit) ∷ now (texts .exit) ∷ [])
-        ≡ readCall (now (table .entry)) «root_name» «root_type» (now (payload .entry))
+        ≡ readCall (now (table .entry)) party «root_name» «root_type» (now (payload .entry))
         (length (now (events .entry))) (length (now (texts .entry))) (length (now (area .entry))) ⌝ }
     ensures octets { λ r. ⌜ AllBytes (now (payload .entry)) ⌝ }
 {
@@ -73,13 +76,14 @@ pub extern "C" fn bim_read(
         clear(area);
         return refusal::AREA_SIZE;
     }
-    let a = read_bytes(table, root_name, root_type, payload, events, texts);
+    let a = read_bytes(table, party, root_name, root_type, payload, events, texts);
     tell_answer(area, a)
 }
 
 // Writes events and texts as a payload in a mode, and tells the answer: what both calls that write are.
 fn write_and_tell(
     table: &[u8],
+    party: u32,
     root_name: u32,
     root_type: u32,
     mode: u32,
@@ -89,7 +93,7 @@ fn write_and_tell(
     area: &mut [u8],
 ) -> u32
     ensures { λ r. ⌜
-        WrittenAndTold (now (table .entry)) «root_name» «root_type» mode (now (events .entry)) (now (texts .entry))
+        WrittenAndTold (now (table .entry)) party «root_name» «root_type» mode (now (events .entry)) (now (texts .entry))
         (now (payload .entry)) (now (area .entry)) r (now (payload .exit)) (now (area .exit)) ⌝ }
 {
     if area.len() != limit::AREA {
@@ -97,7 +101,16 @@ fn write_and_tell(
         clear(area);
         return refusal::AREA_SIZE;
     }
-    let a = write_bytes(table, root_name, root_type, mode, events, texts, payload);
+    let a = write_bytes(
+        table,
+        party,
+        root_name,
+        root_type,
+        mode,
+        events,
+        texts,
+        payload,
+    );
     tell_written(area, a)
 }
 
@@ -105,6 +118,7 @@ fn write_and_tell(
 #[no_mangle]
 pub extern "C" fn bim_write(
     table: &[u8],
+    party: u32,
     root_name: u32,
     root_type: u32,
     mode: u32,
@@ -115,11 +129,12 @@ pub extern "C" fn bim_write(
 ) -> u32
     ensures { λ r. ⌜
         back r (now (area .exit)) (now (payload .exit) ∷ [])
-        ≡ writeCall (now (table .entry)) «root_name» «root_type» mode (now (events .entry)) (now (texts .entry))
+        ≡ writeCall (now (table .entry)) party «root_name» «root_type» mode (now (events .entry)) (now (texts .entry))
         (length (now (payload .entry))) (length (now (area .entry))) ⌝ }
 {
     write_and_tell(
         table,
+        party,
         root_name,
         root_type,
         mode,
@@ -134,6 +149,7 @@ pub extern "C" fn bim_write(
 #[no_mangle]
 pub extern "C" fn bim_write_lengths(
     table: &[u8],
+    party: u32,
     root_name: u32,
     root_type: u32,
     events: &[u8],
@@ -143,11 +159,12 @@ pub extern "C" fn bim_write_lengths(
 ) -> u32
     ensures { λ r. ⌜
         back r (now (area .exit)) (now (payload .exit) ∷ [])
-        ≡ writeCall (now (table .entry)) «root_name» «root_type» always (now (events .entry)) (now (texts .entry))
+        ≡ writeCall (now (table .entry)) party «root_name» «root_type» always (now (events .entry)) (now (texts .entry))
         (length (now (payload .entry))) (length (now (area .entry))) ⌝ }
 {
     write_and_tell(
         table,
+        party,
         root_name,
         root_type,
         mode::ALWAYS,
@@ -156,4 +173,26 @@ pub extern "C" fn bim_write_lengths(
         payload,
         area,
     )
+}
+
+// Sets a party's mark of a type in a table, or clears it by the mark 0. A refusal leaves the table as it was.
+#[no_mangle]
+pub extern "C" fn bim_set_held(
+    table: &mut [u8],
+    party: u32,
+    ty: u32,
+    mark: u32,
+    area: &mut [u8],
+) -> u32
+    ensures { λ r. ⌜
+        back r (now (area .exit)) (now (table .exit) ∷ [])
+        ≡ setCall (now (table .entry)) party ty mark (length (now (area .entry))) ⌝ }
+{
+    if area.len() != limit::AREA {
+        clear(area);
+        return refusal::AREA_SIZE;
+    }
+    let s = set_bytes(table, party, ty, mark);
+    tell_place(area, s.place);
+    s.number
 }

@@ -37,6 +37,7 @@ fn slot_words(bytes: usize) -> usize
 // Reads by a table's words into the words lent for events, and stores these as bytes.
 fn read_and_store(
     words: &[u32],
+    party: u32,
     root_name: u32,
     root_type: u32,
     payload: &[u8],
@@ -46,10 +47,10 @@ fn read_and_store(
 ) -> Answer
     requires { ⌜ 4 * length (now list) ≤ length (now events) ⌝ }
     ensures { λ r. ⌜
-        ReadByWords (now (words .entry)) «root_name» «root_type» (now (payload .entry)) (length (now (list .entry)))
+        ReadByWords (now (words .entry)) party «root_name» «root_type» (now (payload .entry)) (length (now (list .entry)))
         (now (events .entry)) (now (texts .entry)) (answerIs r) (now (events .exit)) (now (texts .exit)) ⌝ }
 {
-    let a = read(words, root_name, root_type, payload, list, texts);
+    let a = read(words, party, root_name, root_type, payload, list, texts);
     clear(events);
     let k = 4 * (a.events as usize);
     store(&list[..k], events);
@@ -59,6 +60,7 @@ fn read_and_store(
 // Reads with room for every event that has a place: m words of MOST_EVENT_WORDS.
 fn read_with_most_events(
     words: &[u32],
+    party: u32,
     root_name: u32,
     root_type: u32,
     payload: &[u8],
@@ -69,12 +71,13 @@ fn read_with_most_events(
     requires most { ⌜ m ≤ mostEventWords ⌝ }
     requires fits { ⌜ 4 * m ≤ length (now events) ⌝ }
     ensures { λ r. ⌜
-        ReadByWords (now (words .entry)) «root_name» «root_type» (now (payload .entry)) m
+        ReadByWords (now (words .entry)) party «root_name» «root_type» (now (payload .entry)) m
         (now (events .entry)) (now (texts .entry)) (answerIs r) (now (events .exit)) (now (texts .exit)) ⌝ }
 {
     let mut list = [0u32; limit::MOST_EVENT_WORDS];
     read_and_store(
         words,
+        party,
         root_name,
         root_type,
         payload,
@@ -88,6 +91,7 @@ fn read_with_most_events(
 // they do not suffice.
 fn read_small_first(
     words: &[u32],
+    party: u32,
     root_name: u32,
     root_type: u32,
     payload: &[u8],
@@ -99,12 +103,13 @@ fn read_small_first(
     requires most { ⌜ m ≤ mostEventWords ⌝ }
     requires fits { ⌜ 4 * m ≤ length (now events) ⌝ }
     ensures { λ r. ⌜
-        ReadByWords (now (words .entry)) «root_name» «root_type» (now (payload .entry)) m
+        ReadByWords (now (words .entry)) party «root_name» «root_type» (now (payload .entry)) m
         (now (events .entry)) (now (texts .entry)) (answerIs r) (now (events .exit)) (now (texts .exit)) ⌝ }
 {
     let mut few = [0u32; FEW_EVENT_WORDS];
     let a = read_and_store(
         words,
+        party,
         root_name,
         root_type,
         payload,
@@ -115,12 +120,22 @@ fn read_small_first(
     if a.number != refusal::EVENT_ROOM {
         return a;
     }
-    read_with_most_events(words, root_name, root_type, payload, m, events, texts)
+    read_with_most_events(
+        words,
+        party,
+        root_name,
+        root_type,
+        payload,
+        m,
+        events,
+        texts,
+    )
 }
 
 // Reads by a table's words, in room for events: little where the host lends little, or where the payload is small.
 fn read_with_event_room(
     words: &[u32],
+    party: u32,
     root_name: u32,
     root_type: u32,
     payload: &[u8],
@@ -128,7 +143,7 @@ fn read_with_event_room(
     texts: &mut [u8],
 ) -> Answer
     ensures { λ r. ⌜
-        ReadByWords (now (words .entry)) «root_name» «root_type» (now (payload .entry)) (slotWords (length (now (events .entry))))
+        ReadByWords (now (words .entry)) party «root_name» «root_type» (now (payload .entry)) (slotWords (length (now (events .entry))))
         (now (events .entry)) (now (texts .entry)) (answerIs r) (now (events .exit)) (now (texts .exit)) ⌝ }
 {
     let m = slot_words(events.len());
@@ -136,6 +151,7 @@ fn read_with_event_room(
         let mut few = [0u32; FEW_EVENT_WORDS];
         return read_and_store(
             words,
+            party,
             root_name,
             root_type,
             payload,
@@ -145,9 +161,27 @@ fn read_with_event_room(
         );
     }
     if payload.len() <= SMALL_PAYLOAD {
-        return read_small_first(words, root_name, root_type, payload, m, events, texts);
+        return read_small_first(
+            words,
+            party,
+            root_name,
+            root_type,
+            payload,
+            m,
+            events,
+            texts,
+        );
     }
-    read_with_most_events(words, root_name, root_type, payload, m, events, texts)
+    read_with_most_events(
+        words,
+        party,
+        root_name,
+        root_type,
+        payload,
+        m,
+        events,
+        texts,
+    )
 }
 
 // Reads by a table's bytes: the n words of it that are looked at, in room lent for them.
@@ -155,6 +189,7 @@ fn read_with_table_room(
     table: &[u8],
     n: usize,
     words: &mut [u32],
+    party: u32,
     root_name: u32,
     root_type: u32,
     payload: &[u8],
@@ -163,11 +198,19 @@ fn read_with_table_room(
 ) -> Answer
     requires { ⌜ Lends n (length (now table)) (length (now words)) ⌝ }
     ensures { λ r. ⌜
-        ReadByBytes (now (table .entry)) «root_name» «root_type» (now (payload .entry))
+        ReadByBytes (now (table .entry)) party «root_name» «root_type» (now (payload .entry))
         (now (events .entry)) (now (texts .entry)) (answerIs r) (now (events .exit)) (now (texts .exit)) ⌝ }
 {
     load(table, words, n);
-    let mut a = read_with_event_room(&words[..n], root_name, root_type, payload, events, texts);
+    let mut a = read_with_event_room(
+        &words[..n],
+        party,
+        root_name,
+        root_type,
+        payload,
+        events,
+        texts,
+    );
     let at = a.place;
     a.place = place_in_table(n, table.len() / 4, at);
     a
@@ -176,6 +219,7 @@ fn read_with_table_room(
 // Reads by a table's bytes, in room for few words of it, for some, for all.
 pub fn read_bytes(
     table: &[u8],
+    party: u32,
     root_name: u32,
     root_type: u32,
     payload: &[u8],
@@ -183,7 +227,7 @@ pub fn read_bytes(
     texts: &mut [u8],
 ) -> Answer
     ensures { λ r. ⌜
-        ReadByBytes (now (table .entry)) «root_name» «root_type» (now (payload .entry))
+        ReadByBytes (now (table .entry)) party «root_name» «root_type» (now (payload .entry))
         (now (events .entry)) (now (texts .entry)) (answerIs r) (now (events .exit)) (now (texts .exit)) ⌝ }
 {
     let n = words_lent(table.len());
@@ -193,6 +237,7 @@ pub fn read_bytes(
             table,
             n,
             &mut few,
+            party,
             root_name,
             root_type,
             payload,
@@ -206,6 +251,7 @@ pub fn read_bytes(
             table,
             n,
             &mut some,
+            party,
             root_name,
             root_type,
             payload,
@@ -218,6 +264,7 @@ pub fn read_bytes(
         table,
         n,
         &mut all,
+        party,
         root_name,
         root_type,
         payload,

@@ -22,6 +22,7 @@ ghost use Rattle.bim.specs.TableRoom.{Lends};
 // Refuses bytes that are no list: one word is none either, and is refused where they are. The place of NO_READING is n.
 fn refuse_unlisted(
     words: &[u32],
+    party: u32,
     root_name: u32,
     root_type: u32,
     mode: u32,
@@ -31,12 +32,21 @@ fn refuse_unlisted(
 ) -> Answer
     ensures { λ r. ⌜
         Writes
-        (unlisted (now (words .entry)) «root_name» «root_type» mode n)
+        (unlisted (now (words .entry)) party «root_name» «root_type» mode n)
         mode n (length (now (texts .entry))) (length (now (payload .entry)))
         r (now (payload .exit)) ⌝ }
 {
     let none = [0u32; 1];
-    let mut a = write(words, root_name, root_type, mode, &none, texts, payload);
+    let mut a = write(
+        words,
+        party,
+        root_name,
+        root_type,
+        mode,
+        &none,
+        texts,
+        payload,
+    );
     if a.number == refusal::NO_READING {
         a.place = n;
         return a;
@@ -47,6 +57,7 @@ fn refuse_unlisted(
 // Loads a list's bytes as words, in room lent for them, and writes them.
 fn load_and_write(
     words: &[u32],
+    party: u32,
     root_name: u32,
     root_type: u32,
     mode: u32,
@@ -58,13 +69,14 @@ fn load_and_write(
     requires whole { ⌜ length (now events) % limit.event ≡ 0 ⌝ }
     requires room { ⌜ length (now events) / 4 ≤ length (now list) ⌝ }
     ensures { λ r. ⌜
-        WrittenByWords (now (words .entry)) «root_name» «root_type» mode (now (events .entry)) (now (texts .entry))
+        WrittenByWords (now (words .entry)) party «root_name» «root_type» mode (now (events .entry)) (now (texts .entry))
         (now (payload .entry)) r (now (payload .exit)) ⌝ }
 {
     let k = events.len() / 4;
     load(events, list, k);
     write(
         words,
+        party,
         root_name,
         root_type,
         mode,
@@ -77,6 +89,7 @@ fn load_and_write(
 // Writes a list's bytes by a table's words, in room for few events or for all.
 fn write_with_event_room(
     words: &[u32],
+    party: u32,
     root_name: u32,
     root_type: u32,
     mode: u32,
@@ -85,22 +98,23 @@ fn write_with_event_room(
     payload: &mut [u8],
 ) -> Answer
     ensures { λ r. ⌜
-        WrittenByWords (now (words .entry)) «root_name» «root_type» mode (now (events .entry)) (now (texts .entry))
+        WrittenByWords (now (words .entry)) party «root_name» «root_type» mode (now (events .entry)) (now (texts .entry))
         (now (payload .entry)) r (now (payload .exit)) ⌝ }
 {
     let size = events.len();
     let over = size % limit::EVENT;
     let n = size / limit::EVENT;
     if over != 0 {
-        return refuse_unlisted(words, root_name, root_type, mode, n, texts, payload);
+        return refuse_unlisted(words, party, root_name, root_type, mode, n, texts, payload);
     }
     if limit::MOST_EVENTS < n {
-        return refuse_unlisted(words, root_name, root_type, mode, n, texts, payload);
+        return refuse_unlisted(words, party, root_name, root_type, mode, n, texts, payload);
     }
     if n <= FEW_EVENTS {
         let mut few = [0u32; FEW_EVENT_WORDS];
         return load_and_write(
             words,
+            party,
             root_name,
             root_type,
             mode,
@@ -113,6 +127,7 @@ fn write_with_event_room(
     let mut list = [0u32; limit::MOST_EVENT_WORDS];
     load_and_write(
         words,
+        party,
         root_name,
         root_type,
         mode,
@@ -128,6 +143,7 @@ fn write_with_table_room(
     table: &[u8],
     n: usize,
     words: &mut [u32],
+    party: u32,
     root_name: u32,
     root_type: u32,
     mode: u32,
@@ -137,12 +153,13 @@ fn write_with_table_room(
 ) -> Answer
     requires { ⌜ Lends n (length (now table)) (length (now words)) ⌝ }
     ensures { λ r. ⌜
-        WrittenByBytes (now (table .entry)) «root_name» «root_type» mode (now (events .entry)) (now (texts .entry))
+        WrittenByBytes (now (table .entry)) party «root_name» «root_type» mode (now (events .entry)) (now (texts .entry))
         (now (payload .entry)) r (now (payload .exit)) ⌝ }
 {
     load(table, words, n);
     let mut a = write_with_event_room(
         &words[..n],
+        party,
         root_name,
         root_type,
         mode,
@@ -158,6 +175,7 @@ fn write_with_table_room(
 // Writes by a table's bytes, in room for few words of it, for some, for all.
 pub fn write_bytes(
     table: &[u8],
+    party: u32,
     root_name: u32,
     root_type: u32,
     mode: u32,
@@ -166,7 +184,7 @@ pub fn write_bytes(
     payload: &mut [u8],
 ) -> Answer
     ensures { λ r. ⌜
-        WrittenByBytes (now (table .entry)) «root_name» «root_type» mode (now (events .entry)) (now (texts .entry))
+        WrittenByBytes (now (table .entry)) party «root_name» «root_type» mode (now (events .entry)) (now (texts .entry))
         (now (payload .entry)) r (now (payload .exit)) ⌝ }
 {
     let n = words_lent(table.len());
@@ -176,6 +194,7 @@ pub fn write_bytes(
             table,
             n,
             &mut few,
+            party,
             root_name,
             root_type,
             mode,
@@ -190,6 +209,7 @@ pub fn write_bytes(
             table,
             n,
             &mut some,
+            party,
             root_name,
             root_type,
             mode,
@@ -203,6 +223,7 @@ pub fn write_bytes(
         table,
         n,
         &mut all,
+        party,
         root_name,
         root_type,
         mode,

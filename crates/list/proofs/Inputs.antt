@@ -23,11 +23,11 @@ use Rattle.list.specs.Listing.{countIn, nameAt, typeAt, payloadAt, table
 
 module _ (W B : ℕ) (r : Answer) (E T : List ℕ) where
   -- no words at all
-  none-is : (name type : ℕ) (s : List ℕ) → reading [] name type s W B ≡ declined refusal.table 0 []
+  none-is : (name type : ℕ) (s : List ℕ) → reading [] 0 name type s W B ≡ declined refusal.table 0 []
   unfolding reading afterVerdict verdict verdictFrom first judge _then_ headerWords given lengthRight formSize
   none-is name type s = refl
 
-  pub none-read : (name type : ℕ) (s : List ℕ) → Replies (reading [] name type s W B) W B r E T → Replies (declined refusal.table 0 []) W B r E T
+  pub none-read : (name type : ℕ) (s : List ℕ) → Replies (reading [] 0 name type s W B) W B r E T → Replies (declined refusal.table 0 []) W B r E T
   none-read name type s h = subst (λ (R : Reply). Replies R W B r E T) (none-is name type s) h
 
   -- the parts behind n words
@@ -47,15 +47,15 @@ module _ (W B : ℕ) (r : Answer) (E T : List ℕ) where
 
     pub parts-read : (l : List ℕ) (at from to name type : ℕ) → payloadAt n ≤ length s → at ≡ nameAt n → from ≡ payloadAt n → to ≡ min (length s) (from + 8193)
         → take n l ≡ take n (wordsOf (take (at - 4) (drop 4 s))) → name ≡ halfFrom s at → type ≡ halfFrom s (at + 2)
-        → Replies (reading (take n l) name type (take (to - from) (drop from s)) W B) W B r E T → Replies (listed s n W B) W B r E T
+        → Replies (reading (take n l) 0 name type (take (to - from) (drop from s)) W B) W B r E T → Replies (listed s n W B) W B r E T
     unfolding listed
     parts-read l at from to name type h a f t w x y k =
         let z : at + 2 ≡ typeAt n = omega arith in
-        let e : reading (take n l) name type (take (to - from) (drop from s)) W B ≡ reading (tableIn s n) (halfFrom s (nameAt n)) (halfFrom s (typeAt n)) (payloadIn s n) W B =
-        ap (λ (i : List ℕ). reading i name type (take (to - from) (drop from s)) W B) (words-are h l at a w)
-        ∙ ap (λ (i : ℕ). reading (tableIn s n) i type (take (to - from) (drop from s)) W B) (x ∙ ap (halfFrom s) a)
-        ∙ ap (λ (i : ℕ). reading (tableIn s n) (halfFrom s (nameAt n)) i (take (to - from) (drop from s)) W B) (y ∙ ap (halfFrom s) z)
-        ∙ ap (λ (i : List ℕ). reading (tableIn s n) (halfFrom s (nameAt n)) (halfFrom s (typeAt n)) i W B) (payload-is from to f t) in
+        let e : reading (take n l) 0 name type (take (to - from) (drop from s)) W B ≡ reading (tableIn s n) 0 (halfFrom s (nameAt n)) (halfFrom s (typeAt n)) (payloadIn s n) W B =
+        ap (λ (i : List ℕ). reading i 0 name type (take (to - from) (drop from s)) W B) (words-are h l at a w)
+        ∙ ap (λ (i : ℕ). reading (tableIn s n) 0 i type (take (to - from) (drop from s)) W B) (x ∙ ap (halfFrom s) a)
+        ∙ ap (λ (i : ℕ). reading (tableIn s n) 0 (halfFrom s (nameAt n)) i (take (to - from) (drop from s)) W B) (y ∙ ap (halfFrom s) z)
+        ∙ ap (λ (i : List ℕ). reading (tableIn s n) 0 (halfFrom s (nameAt n)) (halfFrom s (typeAt n)) i W B) (payload-is from to f t) in
         subst (λ (R : Reply). Replies R W B r E T) e k
 
   -- the whole input

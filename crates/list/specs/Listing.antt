@@ -33,7 +33,7 @@ abbrev pub payloadIn : List ℕ → ℕ → List ℕ
 payloadIn s n = take 8193 (drop (payloadAt n) s)
 
 unfoldable pub listed : List ℕ → ℕ → ℕ → ℕ → Reply
-listed s n words bytes = reading (tableIn s n) (halfFrom s (nameAt n)) (halfFrom s (typeAt n)) (payloadIn s n) words bytes
+listed s n words bytes = reading (tableIn s n) 0 (halfFrom s (nameAt n)) (halfFrom s (typeAt n)) (payloadIn s n) words bytes
 
 -- an input that ends before its root type is whole, or a word count over mostTableWords, is refused as a table of no words is
 abbrev pub unread : ℕ → ℕ → Reply

@@ -11,6 +11,9 @@ ghost use lib.ListN.{length};
 ghost use Rattle.numbers.specs.Limit.{mostTableWords};
 ghost use Rattle.list.specs.Listing as meaning;
 
+// The listing is party 0's.
+const LISTED_FOR: u32 = 0;
+
 // A table of no words.
 fn unread(input: &[u8], events: &mut [u32], texts: &mut [u8]) -> Answer
     ensures { λ r. ⌜
@@ -18,7 +21,7 @@ fn unread(input: &[u8], events: &mut [u32], texts: &mut [u8]) -> Answer
         (now (events .entry)) (now (texts .entry)) r (now (events .exit)) (now (texts .exit)) ⌝ }
 {
     let words = [0u32; 4];
-    read(&words[..0], 0, 0, input, events, texts)
+    read(&words[..0], LISTED_FOR, 0, 0, input, events, texts)
 }
 
 // One payload byte more than is allowed is looked at, so that PAYLOAD_SIZE shows.
@@ -51,6 +54,7 @@ fn read_parts(input: &[u8], n: usize, events: &mut [u32], texts: &mut [u8]) -> A
     let to = payload_end(from, input.len());
     read(
         &words[..n],
+        LISTED_FOR,
         root_name,
         root_type,
         &input[from..to],

@@ -10,7 +10,7 @@ use lib.Dec.{eqb, leb}
 use lib.ListN.{length, getD}
 use Rattle.numbers.specs.Refusal as refusal
 use Rattle.numbers.specs.Refusal.{noReading, payloadRoom, writeMode}
-use Rattle.numbers.specs.Limit.{mostEvents, mostName, mostPayload}
+use Rattle.numbers.specs.Limit.{mostEvents, mostName, mostPayload, parties}
 use Rattle.wire.specs.Res.{Res, got, fault, guard, atMost, Ensures}
 use Rattle.wire.proofs.Res.{gives, stops, under, under-then}
 use Rattle.table.specs.First.{Verdict}
@@ -42,32 +42,33 @@ at-most-then : (a b e : ℕ) → a ≤ b → atMost a b e ≡ got tt
 unfolding atMost guard
 at-most-then a b e h = rw (le-leb a b h)
 
-asked-found : (types name type : ℕ) → Ensures (asked types name type) (λ u. (type < types) × (name ≤ mostName))
+asked-found : (types party name type : ℕ) → Ensures (asked types party name type) (λ u. (type < types) × (name ≤ mostName) × (party < parties))
 unfolding asked
-asked-found types name type = under refusal.root λ h. record { says = λ u e. (h, at-most name mostName refusal.root .says u e) }
+asked-found types party name type =
+    under refusal.root λ h. under refusal.root λ k. record { says = λ u e. (h, k, at-most (suc party) parties refusal.party .says u e) }
 
-pub asked-then : (types name type : ℕ) → type < types → name ≤ mostName → asked types name type ≡ got tt
+pub asked-then : (types party name type : ℕ) → type < types → name ≤ mostName → party < parties → asked types party name type ≡ got tt
 unfolding asked
-asked-then types name type h k = under-then refusal.root h (at-most-then name mostName refusal.root k)
+asked-then types party name type h k i = under-then refusal.root h (under-then refusal.root k (at-most-then (suc party) parties refusal.party i))
 
-module _ (l : List ℕ) (name type : ℕ) where
+module _ (l : List ℕ) (party name type : ℕ) where
   module _ (s : List ℕ) (words bytes : ℕ) where
-    pub reading-entered : Entered l name type → reading l name type s words bytes ≡ payload (heldOf l) (planOf l name type) (tableOf l .derivations) s (roomOf words bytes)
+    pub reading-entered : Entered l party name type → reading l party name type s words bytes ≡ payload (heldOf l party) (planOf l name type) (tableOf l .derivations) s (roomOf words bytes)
     unfolding reading afterVerdict afterAsked
-    reading-entered h = rw (h .table-right, asked-then (tableOf l .types) name type (h .type-known) (h .name-small))
+    reading-entered h = rw (h .table-right, asked-then (tableOf l .types) party name type (h .type-known) (h .name-small) (h .party-known))
 
     -- what is accepted has entered
     pub record Accepted (mode : Mode) (ns : Nodes) (q : ℕ) : Type 0 where
-      pub enters : Entered l name type
-      pub reads : payload (heldOf l) (planOf l name type) (tableOf l .derivations) s (roomOf words bytes) ≡ accepted mode ns q
+      pub enters : Entered l party name type
+      pub reads : payload (heldOf l party) (planOf l name type) (tableOf l .derivations) s (roomOf words bytes) ≡ accepted mode ns q
 
-    pub reading-found : (mode : Mode) (ns : Nodes) (q : ℕ) → reading l name type s words bytes ≡ accepted mode ns q → Accepted mode ns q
+    pub reading-found : (mode : Mode) (ns : Nodes) (q : ℕ) → reading l party name type s words bytes ≡ accepted mode ns q → Accepted mode ns q
     unfolding reading afterVerdict afterAsked
-    reading-found mode ns q e = go (verdict l) (asked (tableOf l .types) name type) refl (asked-found (tableOf l .types) name type) e
+    reading-found mode ns q e = go (verdict l) (asked (tableOf l .types) party name type) refl (asked-found (tableOf l .types) party name type) e
       where
-        go : (v : Verdict) (a : Res Unit) → verdict l ≡ v → Ensures a (λ u. (type < tableOf l .types) × (name ≤ mostName))
-            → afterVerdict v (afterAsked a (payload (heldOf l) (planOf l name type) (tableOf l .derivations) s (roomOf words bytes))) ≡ accepted mode ns q → Accepted mode ns q
-        go right (got u) r h e = let k = h .says u refl in record { enters = record { table-right = r; type-known = k .0; name-small = k .1 }; reads = e }
+        go : (v : Verdict) (a : Res Unit) → verdict l ≡ v → Ensures a (λ u. (type < tableOf l .types) × (name ≤ mostName) × (party < parties))
+            → afterVerdict v (afterAsked a (payload (heldOf l party) (planOf l name type) (tableOf l .derivations) s (roomOf words bytes))) ≡ accepted mode ns q → Accepted mode ns q
+        go right (got u) r h e = let k = h .says u refl in record { enters = record { table-right = r; type-known = k .0; name-small = k .1; party-known = k .2 }; reads = e }
         go right (fault n) r h e = absurd (let z : _≡_ {A = ℕ} 0 1 = cc in omega arith)
         go (wrong i) a r h e = absurd (let z : _≡_ {A = ℕ} 0 1 = cc in omega arith)
 
@@ -162,34 +163,34 @@ module _ (held : ℕ → Bool) (P : Plan) (mode : Mode) (M : List Bare) (T : Lis
   unfolding written spent roomed
   written-then s n h = rw (h .writes, le-leb _ _ (h .fits), h .bytes, h .used)
 
-module _ (l : List ℕ) (name type mode : ℕ) (L X : List ℕ) (room : ℕ) where
-  pub writing-entered : (m : Mode) → Entered l name type → modeAsked (tableOf l .derivations) mode ≡ got m → Shaped L
-      → writing l name type mode L X room ≡ written (heldOf l) (planOf l name type (m .casting)) m (listOf L) X room
+module _ (l : List ℕ) (party name type mode : ℕ) (L X : List ℕ) (room : ℕ) where
+  pub writing-entered : (m : Mode) → Entered l party name type → modeAsked (tableOf l .derivations) mode ≡ got m → Shaped L
+      → writing l party name type mode L X room ≡ written (heldOf l party) (planOf l name type (m .casting)) m (listOf L) X room
   unfolding writing verdictMade orUnmade
-  writing-entered m h e k = rw (h .table-right, asked-then (tableOf l .types) name type (h .type-known) (h .name-small), e, shaped-then L (written (heldOf l) (planOf l name type (m .casting)) m (listOf L) X room) k)
+  writing-entered m h e k = rw (h .table-right, asked-then (tableOf l .types) party name type (h .type-known) (h .name-small) (h .party-known), e, shaped-then L (written (heldOf l party) (planOf l name type (m .casting)) m (listOf L) X room) k)
 
   pub record Wrote (s : List ℕ) (n : ℕ) : Type 0 where
-    pub enters : Entered l name type
+    pub enters : Entered l party name type
     pub way : Mode
     pub mode-is : modeAsked (tableOf l .derivations) mode ≡ got way
     pub shape : Shaped L
-    pub writes : Writing (heldOf l) (planOf l name type (way .casting)) way (listOf L) X room s n
+    pub writes : Writing (heldOf l party) (planOf l name type (way .casting)) way (listOf L) X room s n
 
-  pub writing-found : (s : List ℕ) (n : ℕ) → writing l name type mode L X room ≡ made s n → Wrote s n
+  pub writing-found : (s : List ℕ) (n : ℕ) → writing l party name type mode L X room ≡ made s n → Wrote s n
   unfolding writing verdictMade orUnmade
-  writing-found s n e = go (verdict l) (asked (tableOf l .types) name type) (modeAsked (tableOf l .derivations) mode) refl (asked-found (tableOf l .types) name type) refl e
+  writing-found s n e = go (verdict l) (asked (tableOf l .types) party name type) (modeAsked (tableOf l .derivations) mode) refl (asked-found (tableOf l .types) party name type) refl e
     where
-      go : (v : Verdict) (a : Res Unit) (m : Res Mode) → verdict l ≡ v → Ensures a (λ u. (type < tableOf l .types) × (name ≤ mostName)) → modeAsked (tableOf l .derivations) mode ≡ m
-          → verdictMade v (orUnmade a (λ u. orUnmade m (λ m. shaped L (written (heldOf l) (planOf l name type (m .casting)) m (listOf L) X room)))) ≡ made s n → Wrote s n
+      go : (v : Verdict) (a : Res Unit) (m : Res Mode) → verdict l ≡ v → Ensures a (λ u. (type < tableOf l .types) × (name ≤ mostName) × (party < parties)) → modeAsked (tableOf l .derivations) mode ≡ m
+          → verdictMade v (orUnmade a (λ u. orUnmade m (λ m. shaped L (written (heldOf l party) (planOf l name type (m .casting)) m (listOf L) X room)))) ≡ made s n → Wrote s n
       go right (got u) (got m) r h y e =
           let k = h .says u refl in
           let f = shaped-found L _ s n e in
           record {
-            enters = record { table-right = r; type-known = k .0; name-small = k .1 };
+            enters = record { table-right = r; type-known = k .0; name-small = k .1; party-known = k .2 };
             way = m;
             mode-is = y;
             shape = f .0;
-            writes = written-found (heldOf l) (planOf l name type (m .casting)) m (listOf L) X room s n (f .1);
+            writes = written-found (heldOf l party) (planOf l name type (m .casting)) m (listOf L) X room s n (f .1);
           }
       go right (got u) (fault k) r h y e = absurd (let z : _≡_ {A = ℕ} 0 1 = cc in omega arith)
       go right (fault k) m r h y e = absurd (let z : _≡_ {A = ℕ} 0 1 = cc in omega arith)

@@ -21,18 +21,23 @@ use Rattle.model.specs.Whole.{mode, lengthsNumber, modeByte, modesFor, m
 use Rattle.model.specs.Entries.{Entered, planOf}
 use Rattle.model.proofs.Entries.{reading-entered}
 
--- the root that 2 refuses
 at-most-fault : (a b e : ℕ) → b < a → atMost a b e ≡ fault e
 unfolding atMost guard
 at-most-fault a b e h = rw (lt-leb a b h)
 
-asked-type : (types name type : ℕ) → types ≤ type → asked types name type ≡ fault 2
+-- the root that 2 refuses: first the type, then the name
+pub asked-type : (types party name type : ℕ) → types ≤ type → asked types party name type ≡ fault 2
 unfolding asked
-asked-type types name type h = under-fault {a = suc type} {b = types} 2 _ (omega arith)
+asked-type types party name type h = under-fault {a = suc type} {b = types} 2 _ (omega arith)
 
-asked-name : (types name type : ℕ) → type < types → 65535 < name → asked types name type ≡ fault 2
+pub asked-name : (types party name type : ℕ) → type < types → 65535 < name → asked types party name type ≡ fault 2
 unfolding asked
-asked-name types name type h k = under-then 2 h (at-most-fault name 65535 2 k)
+asked-name types party name type h k = under-then 2 h (under-fault {a = name} {b = 65535} 2 _ k)
+
+-- the party that 26 refuses
+pub asked-party : (types party name type : ℕ) → type < types → name ≤ 65535 → 7 < party → asked types party name type ≡ fault 26
+unfolding asked
+asked-party types party name type h k i = under-then 2 h (under-then 2 k (at-most-fault (suc party) 8 26 (omega arith)))
 
 -- the padding, bit by bit
 module _ (b : ℕ → ℕ) (at : ℕ) where
@@ -103,39 +108,43 @@ module _ (D : ℕ) where
     mode-byte h k = under-then 3 h (under-then 3 k refl)
 
 -- the reading
-module _ (l : List ℕ) (name type : ℕ) (s : List ℕ) (words bytes : ℕ) where
-  pub reading-table : (i : ℕ) → verdict l ≡ wrong i → reading l name type s words bytes ≡ declined 1 i []
+module _ (l : List ℕ) (party name type : ℕ) (s : List ℕ) (words bytes : ℕ) where
+  pub reading-table : (i : ℕ) → verdict l ≡ wrong i → reading l party name type s words bytes ≡ declined 1 i []
   unfolding reading afterVerdict
   reading-table i e = rw e
 
-  pub reading-type : verdict l ≡ right → tableOf l .types ≤ type → reading l name type s words bytes ≡ declined 2 0 []
+  pub reading-type : verdict l ≡ right → tableOf l .types ≤ type → reading l party name type s words bytes ≡ declined 2 0 []
   unfolding reading afterVerdict afterAsked
-  reading-type e h = rw (e, asked-type (tableOf l .types) name type h)
+  reading-type e h = rw (e, asked-type (tableOf l .types) party name type h)
 
-  pub reading-name : verdict l ≡ right → type < tableOf l .types → 65535 < name → reading l name type s words bytes ≡ declined 2 0 []
+  pub reading-name : verdict l ≡ right → type < tableOf l .types → 65535 < name → reading l party name type s words bytes ≡ declined 2 0 []
   unfolding reading afterVerdict afterAsked
-  reading-name e h k = rw (e, asked-name (tableOf l .types) name type h k)
+  reading-name e h k = rw (e, asked-name (tableOf l .types) party name type h k)
 
-  module _ (h : Entered l name type) where
+  pub reading-party : verdict l ≡ right → type < tableOf l .types → name ≤ 65535 → 7 < party → reading l party name type s words bytes ≡ declined 26 0 []
+  unfolding reading afterVerdict afterAsked
+  reading-party e h k i = rw (e, asked-party (tableOf l .types) party name type h k i)
+
+  module _ (h : Entered l party name type) where
     -- 3 or 4
-    pub reading-mode : (n : ℕ) → modeOf (tableOf l .derivations) s ≡ fault n → reading l name type s words bytes ≡ declined n 0 []
+    pub reading-mode : (n : ℕ) → modeOf (tableOf l .derivations) s ≡ fault n → reading l party name type s words bytes ≡ declined n 0 []
     unfolding payload inMode
-    reading-mode n e = reading-entered l name type s words bytes h ∙ rw e
+    reading-mode n e = reading-entered l party name type s words bytes h ∙ rw e
 
     module _ (mode : Mode) (e : modeOf (tableOf l .derivations) s ≡ got mode) where
-      pub reading-root : reading l name type s words bytes ≡ replied (padding s) mode (read (bitAt s) (mode .lengths) (heldOf l) (planOf l name type (mode .casting)) (roomOf words bytes) [] (8 * length s) 8)
+      pub reading-root : reading l party name type s words bytes ≡ replied (padding s) mode (read (bitAt s) (mode .lengths) (heldOf l party) (planOf l name type (mode .casting)) (roomOf words bytes) [] (8 * length s) 8)
       unfolding payload inMode rootIn
-      reading-root = reading-entered l name type s words bytes h ∙ rw e
+      reading-root = reading-entered l party name type s words bytes h ∙ rw e
 
-      module _ (o : Answer) (r : read (bitAt s) (mode .lengths) (heldOf l) (planOf l name type (mode .casting)) (roomOf words bytes) [] (8 * length s) 8 ≡ o) where
-        pub reading-refused : (n p : ℕ) (π : Path) → o ≡ refused n p π → reading l name type s words bytes ≡ declined n p (reverse π)
+      module _ (o : Answer) (r : read (bitAt s) (mode .lengths) (heldOf l party) (planOf l name type (mode .casting)) (roomOf words bytes) [] (8 * length s) 8 ≡ o) where
+        pub reading-refused : (n p : ℕ) (π : Path) → o ≡ refused n p π → reading l party name type s words bytes ≡ declined n p (reverse π)
         unfolding replied
         reading-refused n p π z = reading-root ∙ rw (r, z)
 
-        pub reading-left : (ns : Nodes) (q : ℕ) → o ≡ given ns q → padding s q ≡ false → reading l name type s words bytes ≡ declined 17 q []
+        pub reading-left : (ns : Nodes) (q : ℕ) → o ≡ given ns q → padding s q ≡ false → reading l party name type s words bytes ≡ declined 17 q []
         unfolding replied padded
         reading-left ns q z f = reading-root ∙ rw (r, z, f)
 
-        pub reading-given : (ns : Nodes) (q : ℕ) → o ≡ given ns q → padding s q ≡ true → reading l name type s words bytes ≡ accepted mode ns q
+        pub reading-given : (ns : Nodes) (q : ℕ) → o ≡ given ns q → padding s q ≡ true → reading l party name type s words bytes ≡ accepted mode ns q
         unfolding replied padded
         reading-given ns q z f = reading-root ∙ rw (r, z, f)

@@ -15,6 +15,8 @@ use Rattle.utf8.specs.Text as utf8
 use Rattle.table.specs.First
 use Rattle.table.specs.Valid
 use Rattle.table.specs.Rows
+use Rattle.table.specs.Setting
+use Rattle.table.specs.Setting.{change, setting, settings}
 use Rattle.value.specs.Code
 use Rattle.value.specs.Code.{codeAt}
 use Rattle.value.specs.Simple
@@ -113,6 +115,10 @@ pub data Asked : Type 0 where
   writes : (table : List ℕ) → List Event → List ℕ → Asked
   -- a payload read, and what was read written in its mode
   rewrites : (table : List ℕ) (name : ℕ) → List ℕ → Asked
+  -- by a party: a payload read, a list's words written in a mode, a mark set
+  readBy : (party : ℕ) (table : List ℕ) (name type : ℕ) → List ℕ → Asked
+  writtenBy : (party : ℕ) (table : List ℕ) (name type mode : ℕ) → List ℕ → List ℕ → Asked
+  set : (party : ℕ) (table : List ℕ) (type mark : ℕ) → Asked
 
 -- and what comes of it
 pub data Shown : Type 0 where
@@ -122,6 +128,7 @@ pub data Shown : Type 0 where
   lists : Mode → List Event → List ℕ → ℕ → Shown
   refuses : ℕ → ℕ → Path → Shown
   makes : List ℕ → ℕ → Shown
+  leaves : (number place : ℕ) (words : List ℕ) → Shown
 
 unfoldable pub shownRes : Res (ℕ × ℕ) → Shown
 shownRes (got (v, p)) = value v p
@@ -136,17 +143,20 @@ shownMade (made s n) = makes s n
 shownMade (unmade n p) = refuses n p []
 
 unfoldable pub shownBack : (table : List ℕ) (name : ℕ) → Reply → Shown
-shownBack l name (accepted mode ns q) = shownMade (writing l name 0 (modeNumber mode) (eventWords (events ns)) (texts ns) 100)
+shownBack l name (accepted mode ns q) = shownMade (writing l 0 name 0 (modeNumber mode) (eventWords (events ns)) (texts ns) 100)
 shownBack l name (declined n p π) = refuses n p π
 
 unfoldable pub shown : Asked → Shown
 shown (coded w) = bits w
 shown (reads rd w) = shownRes (rd (source w) (length w) 0)
-shown (payload l name s) = shownReply (reading l name 0 s 8192 8192)
-shown (within l n s) = shownReply (reading l 10 0 s n 8192)
-shown (writesIn m l L T) = shownMade (writing l 10 0 m (eventWords L) T 100)
-shown (writes l L T) = shownMade (writing l 10 0 2 (eventWords L) T 100)
-shown (rewrites l name s) = shownBack l name (reading l name 0 s 8192 8192)
+shown (payload l name s) = shownReply (reading l 0 name 0 s 8192 8192)
+shown (within l n s) = shownReply (reading l 0 10 0 s n 8192)
+shown (writesIn m l L T) = shownMade (writing l 0 10 0 m (eventWords L) T 100)
+shown (writes l L T) = shownMade (writing l 0 10 0 2 (eventWords L) T 100)
+shown (rewrites l name s) = shownBack l name (reading l 0 name 0 s 8192 8192)
+shown (readBy p l name type s) = shownReply (reading l p name type s 8192 8192)
+shown (writtenBy p l name type m L T) = shownMade (writing l p name type m L T 100)
+shown (set p l type mark) = let r = setting l p type mark in leaves (r .number) (r .place) (r .words)
 
 pub record Case : Type 0 where
   pub ask : Asked
@@ -192,7 +202,7 @@ beside =
     ∷ (payload (words 1) 10 (worked 0xEA 0x20) ⇒ refuses 11 18 (10 ∷ []))
     ∷ (payload (words 1) 10 [] ⇒ refuses 3 0 [])
     ∷ (payload (words 1) 10 (0xCF ∷ []) ⇒ refuses 4 0 [])
-    ∷ (payload (words 2) 65536 [] ⇒ refuses 1 25 [])
+    ∷ (payload (words 256) 65536 [] ⇒ refuses 1 25 [])
     ∷ (payload (words 1) 65536 [] ⇒ refuses 2 0 [])
     ∷ (writes (words 1) list (72 ∷ 105 ∷ []) ⇒ makes (worked 0xAA 0x20) 68)
     ∷ (writes (words 1) [] [] ⇒ refuses 18 0 [])
@@ -309,6 +319,41 @@ controlCases =
     ∷ (writesIn 0 labelled (event 1 10 0 0 ∷ event 2 20 1 0 ∷ event 3 1 0 0 ∷ event 6 0 0 0 ∷ []) (11 ∷ []) ⇒ refuses 25 2 [])
     ∷ []
 
+-- request 5's table: a boolean with this held word; and request 1's, held by parties 0 and 1, but for type 2 by party 1 alone
+unfoldable pub shared : ℕ → List ℕ
+shared held = 1 ∷ 1 ∷ 0 ∷ 0 ∷ held ∷ 1 ∷ 0 ∷ 0 ∷ 0 ∷ 0 ∷ 0 ∷ []
+
+unfoldable pub joined : List ℕ
+joined = settings (cast 1) (change 1 0 1 ∷ change 1 1 1 ∷ change 1 2 1 ∷ change 1 3 1 ∷ change 1 4 1 ∷ change 0 2 0 ∷ [])
+
+-- and its examples
+unfoldable pub partyCases : List Case
+partyCases =
+    (readBy 2 (shared 4) 1 0 (0x8F ∷ 0x0C ∷ []) ⇒ lists (mode Lengths.always false) (sized 5) [] 14)
+    ∷ (readBy 0 (shared 4) 1 0 (0x8F ∷ 0x0C ∷ []) ⇒ lists (mode Lengths.always false) (event 7 1 0 6 ∷ []) [] 14)
+    ∷ (readBy 0 (shared 4) 1 0 (0x0F ∷ 0x80 ∷ []) ⇒ refuses 9 8 [])
+    ∷ (readBy 8 (shared 4) 1 0 (0x8F ∷ 0x0C ∷ []) ⇒ refuses 26 0 [])
+    ∷ (readBy 8 (shared 4) 1 0 [] ⇒ refuses 26 0 [])
+    ∷ (readBy 8 (shared 4) 1 1 (0x8F ∷ 0x0C ∷ []) ⇒ refuses 2 0 [])
+    ∷ (writtenBy 8 (shared 4) 1 0 9 (1 ∷ 1 ∷ 1 ∷ 0 ∷ 3 ∷ []) [] ⇒ refuses 26 0 [])
+    ∷ (writtenBy 8 (shared 4) 1 1 9 (1 ∷ 1 ∷ 1 ∷ 0 ∷ 3 ∷ []) [] ⇒ refuses 2 0 [])
+    ∷ (writtenBy 0 (shared 4) 1 0 2 (eventWords (sized 0)) [] ⇒ refuses 9 0 [])
+    ∷ (writtenBy 2 (shared 4) 1 0 2 (eventWords (sized 0)) [] ⇒ makes (0x8F ∷ 0x0C ∷ []) 14)
+    ∷ (set 0 (shared 4) 0 1 ⇒ leaves 0 0 (shared 5))
+    ∷ (set 2 (shared 4) 0 0 ⇒ leaves 0 0 (shared 0))
+    ∷ (set 7 (shared 4) 0 5 ⇒ leaves 0 0 (shared 132))
+    ∷ (set 8 (shared 4) 0 1 ⇒ leaves 26 0 (shared 4))
+    ∷ (set 8 (shared 4) 1 1 ⇒ leaves 2 0 (shared 4))
+    ∷ (set 0 (shared 4) 1 1 ⇒ leaves 2 0 (shared 4))
+    ∷ (readBy 0 (shared 256) 1 0 (0x8F ∷ 0x0C ∷ []) ⇒ refuses 1 4 [])
+    ∷ (set 0 (shared 256) 0 1 ⇒ leaves 1 4 (shared 256))
+    ∷ (readBy 0 joined 10 0 casted
+    ⇒ lists (mode Lengths.always true)
+    (event 1 10 1 10 ∷ event 7 11 2 34 ∷ event 1 12 1 5 ∷ event 8 1 1 4 ∷ event 3 1 0 1 ∷ event 6 0 0 0 ∷ event 6 0 0 0 ∷ []) [] 62)
+    ∷ (readBy 1 joined 10 0 casted ⇒ lists (mode Lengths.always true) castList (72 ∷ 105 ∷ []) 62)
+    ∷ (writtenBy 0 joined 10 0 6 (eventWords castList) (72 ∷ 105 ∷ []) ⇒ refuses 9 1 [])
+    ∷ []
+
 -- request 10's table: one type, a text that is not held; what a payload of it is read as
 unfoldable pub unspoken : List ℕ
 unspoken = 1 ∷ 1 ∷ 0 ∷ 0 ∷ 0 ∷ 1 ∷ 0 ∷ 0 ∷ 5 ∷ 0 ∷ 0 ∷ []
@@ -335,8 +380,8 @@ buttedCases =
     ∷ []
 
 unfoldable pub all : List Case
-all = proved ++ (beside ++ (castCases ++ (paddedCases ++ (controlCases ++ buttedCases))))
+all = proved ++ (beside ++ (castCases ++ (paddedCases ++ (controlCases ++ (partyCases ++ buttedCases)))))
 
 pub cases : map (λ (c : Case). shown (c .ask)) all ≡ map (λ (c : Case). c .comes) all
-unfolding all spoken labelled bell controlCases words hollow tangle worked front back list blank shownRes shownReply shownMade shown nest castRows cast casted castList castCases proved beside Model.chosen Model.defaultType Model.effectiveType Model.sends Model.codes Items.substituteCode Items.typeCode Items.codesAt Read.castAt Write.placeIn Write.standing Write.codesOut Write.casts Whole.lengthsNumber Whole.modesFor Whole.modeBy Simple.oneOf Valid.derivedWords Valid.substituteWords Valid.among Valid.once Valid.wordsFrom Valid.typePair Valid.rowPair Valid.derivedRow Valid.substituteRow Valid.typePairRow Valid.rowPairRow Valid.castWords Valid.formWords Valid.formSize Valid.countWords Valid.lengthRight Rows.substitutesFrom Rows.substitutesOf Rows.derivedFrom Rows.derivedOf Model.eventOf Model.value Model.maybe Model.attribute Model.attributes Model.contents Model.rows Model.within Model.due Model.plan Model._then_ Model.flagOf Model.events Model.texts Model.treeSlots Model.treeBytes Model.treeBits Items.formOf Items.formAt Items.itemAt Items.lengthAt Items.headAt Read.onto Read.after Read.code Read.kept Read.stored Read.met Read.ended Read.closed Read.entered Read.bare Read.sized Read.opened Read.elementAt Read.read Write.put Write.along Write.unlike Write.matched Write.taken Write.wordOf Write.flagIn Write.simpleOut Write.formOut Write.itemOut Write.coded Write.headOut Write.sealed Write.tooDeep Write.allowed Write.elementOut Write.write Pack.pack Whole.modeByte Whole.modeNumber Whole.modeOf Whole.zeros Whole.padding Whole.padded Whole.replied Whole.rootIn Whole.inMode Whole.payload Whole.asked Whole.afterAsked Whole.afterVerdict Whole.reading Whole.eventWords Whole.filled Whole.outcome Whole.eventsLeft Whole.textsLeft Whole.eventsFrom Whole.roomed Whole.spent Whole.modeAsked Whole.shaped Whole.written Whole.orUnmade Whole.verdictMade Whole.writing Whole.outcomeMade Whole.payloadLeft Code.HasCode Code.bitsOf Code.choiceAt Code.numberAt Code.signedOf Code.someOf Code.codeAt Code.fits Code.codeOut Code.sizeOut Simple.spanCode Simple.rangeCode Simple.unboundedCode Simple.boundedCode Simple.timesCode Simple.simpleOf Simple.bytes Simple.bytesAt Simple.unless Simple.textOf Simple.simpleAt First.first First._then_ First.judge Valid.given Valid.headerWords Valid.frontWords Valid.unusedWords Valid.rangeWords Valid.enumerationWords Valid.kindWords Valid.emptyWords Valid.simpleWords Valid.particlesWords Valid.contentWords Valid.attributeWords Valid.elementWords Valid.groupWords Valid.occursWords Valid.particleWords Valid.rows Valid.typeRow Valid.attributeRow Valid.particleRow Valid.rowWords Valid.verdictFrom Valid.verdict Valid.rightAt Rows.contentFrom Rows.rowFrom Rows.contentOf Rows.rowAt Rows.rowOf Rows.attributeOf Rows.attributesFrom Rows.firstOf Rows.countOf Rows.attributesOf Rows.tableOf Rows.heldOf Res._>>=_ Res._>>_ Res.guard Res.atMost Bits.bitAt Bits.num Bits.fixedAt Bits.digits Width.leastFrom Width.width Number.onesAt Number.isShort Number.groupsAt Number.number5 Number.second8At Number.number8 Number.strict Number.read5 Number.read8 Number.more Number.codeOf5 Number.code5 Number.code8 utf8.has utf8.lines utf8.begun utf8.open-lines utf8.goesOn utf8.isControl utf8.hasControl utf8.faultOf utf8.textFault signed.gapOf signed.signOf signed.magnitudeOf signed.wordOf signed.wrapped simply sized threeGroups twoGroups eightGroups innerPadded paddedCases shownBack unspoken steppedOver said buttedCases
+unfolding all shared joined partyCases Setting.marked Setting.settingBy Setting.setting Setting.settings spoken labelled bell controlCases words hollow tangle worked front back list blank shownRes shownReply shownMade shown nest castRows cast casted castList castCases proved beside Model.chosen Model.defaultType Model.effectiveType Model.sends Model.codes Items.substituteCode Items.typeCode Items.codesAt Read.castAt Write.placeIn Write.standing Write.codesOut Write.casts Whole.lengthsNumber Whole.modesFor Whole.modeBy Simple.oneOf Valid.derivedWords Valid.substituteWords Valid.among Valid.once Valid.wordsFrom Valid.typePair Valid.rowPair Valid.derivedRow Valid.substituteRow Valid.typePairRow Valid.rowPairRow Valid.castWords Valid.formWords Valid.formSize Valid.countWords Valid.lengthRight Rows.substitutesFrom Rows.substitutesOf Rows.derivedFrom Rows.derivedOf Model.eventOf Model.value Model.maybe Model.attribute Model.attributes Model.contents Model.rows Model.within Model.due Model.plan Model._then_ Model.flagOf Model.events Model.texts Model.treeSlots Model.treeBytes Model.treeBits Items.formOf Items.formAt Items.itemAt Items.lengthAt Items.headAt Read.onto Read.after Read.code Read.kept Read.stored Read.met Read.ended Read.closed Read.entered Read.bare Read.sized Read.opened Read.elementAt Read.read Write.put Write.along Write.unlike Write.matched Write.taken Write.wordOf Write.flagIn Write.simpleOut Write.formOut Write.itemOut Write.coded Write.headOut Write.sealed Write.tooDeep Write.allowed Write.elementOut Write.write Pack.pack Whole.modeByte Whole.modeNumber Whole.modeOf Whole.zeros Whole.padding Whole.padded Whole.replied Whole.rootIn Whole.inMode Whole.payload Whole.asked Whole.afterAsked Whole.afterVerdict Whole.reading Whole.eventWords Whole.filled Whole.outcome Whole.eventsLeft Whole.textsLeft Whole.eventsFrom Whole.roomed Whole.spent Whole.modeAsked Whole.shaped Whole.written Whole.orUnmade Whole.verdictMade Whole.writing Whole.outcomeMade Whole.payloadLeft Code.HasCode Code.bitsOf Code.choiceAt Code.numberAt Code.signedOf Code.someOf Code.codeAt Code.fits Code.codeOut Code.sizeOut Simple.spanCode Simple.rangeCode Simple.unboundedCode Simple.boundedCode Simple.timesCode Simple.simpleOf Simple.bytes Simple.bytesAt Simple.unless Simple.textOf Simple.simpleAt First.first First._then_ First.judge Valid.given Valid.headerWords Valid.frontWords Valid.unusedWords Valid.rangeWords Valid.enumerationWords Valid.kindWords Valid.emptyWords Valid.simpleWords Valid.particlesWords Valid.contentWords Valid.attributeWords Valid.elementWords Valid.groupWords Valid.occursWords Valid.particleWords Valid.rows Valid.typeRow Valid.attributeRow Valid.particleRow Valid.rowWords Valid.verdictFrom Valid.verdict Valid.rightAt Rows.contentFrom Rows.rowFrom Rows.contentOf Rows.rowAt Rows.rowOf Rows.attributeOf Rows.attributesFrom Rows.firstOf Rows.countOf Rows.attributesOf Rows.tableOf Rows.heldOf Res._>>=_ Res._>>_ Res.guard Res.atMost Bits.bitAt Bits.num Bits.fixedAt Bits.digits Width.leastFrom Width.width Number.onesAt Number.isShort Number.groupsAt Number.number5 Number.second8At Number.number8 Number.strict Number.read5 Number.read8 Number.more Number.codeOf5 Number.code5 Number.code8 utf8.has utf8.lines utf8.begun utf8.open-lines utf8.goesOn utf8.isControl utf8.hasControl utf8.faultOf utf8.textFault signed.gapOf signed.signOf signed.magnitudeOf signed.wordOf signed.wrapped simply sized threeGroups twoGroups eightGroups innerPadded paddedCases shownBack unspoken steppedOver said buttedCases
 cases = refl

@@ -19,22 +19,22 @@ use Rattle.model.proofs.Readings.{Reads, read-reads, reads-read}
 use Rattle.model.specs.Whole.{modeOf, padding, Reply, accepted, declined, padded, replied, rootIn, inMode, payload, asked, roomOf, afterAsked, afterVerdict, reading}
 use Rattle.model.specs.Entries.{planOf}
 
-module _ (l : List ℕ) (name type : ℕ) (s : List ℕ) where
+module _ (l : List ℕ) (party name type : ℕ) (s : List ℕ) where
   -- 1 to 4 do not apply
   pub record Begun (mode : Mode) : Type 0 where
     pub table : verdict l ≡ right
-    pub root : asked (tableOf l .types) name type ≡ got tt
+    pub root : asked (tableOf l .types) party name type ≡ got tt
     pub byte : modeOf (tableOf l .derivations) s ≡ got mode
 
   module _ (words bytes : ℕ) where
     -- the root's reading, from bit 8 on
     abbrev pub Root : Mode → Answer → Type 0
-    Root mode o = Reads (bitAt s) (mode .lengths) (heldOf l) (planOf l name type (mode .casting)) (roomOf words bytes) [] (8 * length s) 8 o
+    Root mode o = Reads (bitAt s) (mode .lengths) (heldOf l party) (planOf l name type (mode .casting)) (roomOf words bytes) [] (8 * length s) 8 o
 
     pub data Replies : Reply → Type 0 where
       no-table : {i : ℕ} → verdict l ≡ wrong i → Replies (declined 1 i [])
-      no-root : {n : ℕ} → verdict l ≡ right → asked (tableOf l .types) name type ≡ fault n → Replies (declined n 0 [])
-      no-mode : {n : ℕ} → verdict l ≡ right → asked (tableOf l .types) name type ≡ got tt → modeOf (tableOf l .derivations) s ≡ fault n
+      no-root : {n : ℕ} → verdict l ≡ right → asked (tableOf l .types) party name type ≡ fault n → Replies (declined n 0 [])
+      no-mode : {n : ℕ} → verdict l ≡ right → asked (tableOf l .types) party name type ≡ got tt → modeOf (tableOf l .derivations) s ≡ fault n
           → Replies (declined n 0 [])
       stopped : {mode : Mode} {n p : ℕ} {π : Path} → Begun mode → Root mode (refused n p π)
           → Replies (declined n p (reverse π))
@@ -43,9 +43,9 @@ module _ (l : List ℕ) (name type : ℕ) (s : List ℕ) where
       whole : {mode : Mode} {ns : Nodes} {q : ℕ} → Begun mode → Root mode (given ns q) → padding s q ≡ true
           → Replies (accepted mode ns q)
 
-    pub reading-replies : Replies (reading l name type s words bytes)
+    pub reading-replies : Replies (reading l party name type s words bytes)
     unfolding reading afterVerdict afterAsked payload inMode rootIn replied padded
-    reading-replies = go (verdict l) (asked (tableOf l .types) name type) (modeOf (tableOf l .derivations) s) refl refl refl
+    reading-replies = go (verdict l) (asked (tableOf l .types) party name type) (modeOf (tableOf l .derivations) s) refl refl refl
       where
         pad : (mode : Mode) (ns : Nodes) (q : ℕ) (t : Bool) → Begun mode → Root mode (given ns q) → padding s q ≡ t
             → Replies (padded t mode ns q)
@@ -56,23 +56,23 @@ module _ (l : List ℕ) (name type : ℕ) (s : List ℕ) where
         root mode (given ns q) i r = pad mode ns q (padding s q) i r refl
         root mode (refused n p π) i r = stopped i r
 
-        go : (v : Verdict) (a : Res Unit) (m : Res Mode) → verdict l ≡ v → asked (tableOf l .types) name type ≡ a
+        go : (v : Verdict) (a : Res Unit) (m : Res Mode) → verdict l ≡ v → asked (tableOf l .types) party name type ≡ a
             → modeOf (tableOf l .derivations) s ≡ m
-            → Replies (afterVerdict v (afterAsked a (inMode m (rootIn (heldOf l) (planOf l name type) s (roomOf words bytes)))))
+            → Replies (afterVerdict v (afterAsked a (inMode m (rootIn (heldOf l party) (planOf l name type) s (roomOf words bytes)))))
         go right (got u) (got mode) v a m =
-            root mode (read (bitAt s) (mode .lengths) (heldOf l) (planOf l name type (mode .casting)) (roomOf words bytes) [] (8 * length s) 8) (record { table = v; root = a; byte = m })
-            (read-reads (bitAt s) (mode .lengths) (heldOf l) (planOf l name type (mode .casting)) (roomOf words bytes) [] (8 * length s) 8)
+            root mode (read (bitAt s) (mode .lengths) (heldOf l party) (planOf l name type (mode .casting)) (roomOf words bytes) [] (8 * length s) 8) (record { table = v; root = a; byte = m })
+            (read-reads (bitAt s) (mode .lengths) (heldOf l party) (planOf l name type (mode .casting)) (roomOf words bytes) [] (8 * length s) 8)
         go right (got u) (fault n) v a m = no-mode v a m
         go right (fault n) c v a m = no-root v a
         go (wrong i) b c v a m = no-table v
 
     root-read : (mode : Mode) (o : Answer) → Begun mode → Root mode o
-        → reading l name type s words bytes ≡ replied (padding s) mode o
+        → reading l party name type s words bytes ≡ replied (padding s) mode o
     unfolding reading afterVerdict afterAsked payload inMode rootIn
     root-read mode o i r =
-        rw (i .table, i .root, i .byte, reads-read (bitAt s) (mode .lengths) (heldOf l) (planOf l name type (mode .casting)) (roomOf words bytes) [] (8 * length s) 8 o r)
+        rw (i .table, i .root, i .byte, reads-read (bitAt s) (mode .lengths) (heldOf l party) (planOf l name type (mode .casting)) (roomOf words bytes) [] (8 * length s) 8 o r)
 
-    pub replies-reading : {R : Reply} → Replies R → reading l name type s words bytes ≡ R
+    pub replies-reading : {R : Reply} → Replies R → reading l party name type s words bytes ≡ R
     unfolding reading afterVerdict afterAsked payload inMode replied padded
     replies-reading (no-table v) = rw v
     replies-reading (no-root v a) = rw (v, a)

@@ -4,7 +4,7 @@ use mathlib.Core.Path.{_≡_}
 use mathlib.Core.List.{List}
 use mathlib.Core.Bool.{Bool}
 use lib.ListN.{length}
-use Rattle.numbers.specs.Limit.{mostEvents, mostName}
+use Rattle.numbers.specs.Limit.{mostEvents, mostName, parties}
 use Rattle.table.specs.First.Verdict.{right}
 use Rattle.table.specs.Valid.{verdict}
 use Rattle.table.specs.Rows.{tableOf}
@@ -12,11 +12,12 @@ use Rattle.model.specs.Model.{Plan, tableIn, rooted}
 use Rattle.model.specs.Write.{Bare}
 use Rattle.model.specs.Whole.{eventsFrom}
 
--- table and root are right
-pub record Entered (l : List ℕ) (name type : ℕ) : Type 0 where
+-- table, root and party are right
+pub record Entered (l : List ℕ) (party name type : ℕ) : Type 0 where
   pub table-right : verdict l ≡ right
   pub type-known : type < tableOf l .types
   pub name-small : name ≤ mostName
+  pub party-known : party < parties
 
 -- the plan goes by whether type codes are sent
 module _ (l : List ℕ) (name type : ℕ) where

@@ -8,7 +8,7 @@ use lib.Dec.{eqb, ltb, leb}
 use Rattle.numbers.specs.Refusal as refusal
 use Rattle.numbers.specs.Refusal.{payloadSize, leftOver, noReading, payloadRoom, writeMode, textBytes}
 use Rattle.numbers.specs.Kind as kinds
-use Rattle.numbers.specs.Limit.{mostEvents, mostName, mostPayload}
+use Rattle.numbers.specs.Limit.{mostEvents, mostName, mostPayload, parties}
 use Rattle.numbers.specs.Mode as modes
 use Rattle.numbers.specs.Mode.{alwaysByte, neverByte, optionalByte}
 use Rattle.wire.specs.Res.{Res, got, fault, _>>=_, _>>_, atMost}
@@ -97,11 +97,12 @@ inMode (fault n) k = declined n 0 []
 unfoldable pub payload : (ℕ → Bool) → (Bool → Plan) → ℕ → List ℕ → Room → Reply
 payload held P derivations s room = inMode (modeOf derivations s) (rootIn held P s room)
 
--- what every entry asks of the root
-unfoldable pub asked : ℕ → ℕ → ℕ → Res Unit
-asked types name type = do
+-- what every entry asks: of the root, then of the party
+unfoldable pub asked : (types party name type : ℕ) → Res Unit
+asked types party name type = do
   atMost (suc type) types refusal.root
   atMost name mostName refusal.root
+  atMost (suc party) parties refusal.party
 
 -- the room that lent event words and text bytes are
 abbrev pub roomOf : ℕ → ℕ → Room
@@ -115,10 +116,10 @@ unfoldable pub afterVerdict : Verdict → Reply → Reply
 afterVerdict right r = r
 afterVerdict (wrong i) r = declined refusal.table i []
 
--- THE READING: table words, root name, root type, payload bytes, lent event words, lent text bytes (both as numbers)
-unfoldable pub reading : List ℕ → ℕ → ℕ → List ℕ → ℕ → ℕ → Reply
-reading l name type s words bytes =
-    afterVerdict (verdict l) (afterAsked (asked (tableOf l .types) name type) (payload (heldOf l) (λ casting. rooted (tableIn casting (tableOf l)) name type) (tableOf l .derivations) s (roomOf words bytes)))
+-- THE READING: table words, party, root name, root type, payload bytes, lent event words, lent text bytes (both as numbers)
+unfoldable pub reading : List ℕ → ℕ → ℕ → ℕ → List ℕ → ℕ → ℕ → Reply
+reading l party name type s words bytes =
+    afterVerdict (verdict l) (afterAsked (asked (tableOf l .types) party name type) (payload (heldOf l party) (λ casting. rooted (tableIn casting (tableOf l)) name type) (tableOf l .derivations) s (roomOf words bytes)))
 
 -- what the host gets: the answer, and the final content of the lent events and texts
 pub record Outcome : Type 0 where
@@ -199,13 +200,13 @@ unfoldable pub verdictMade : Verdict → Made → Made
 verdictMade right r = r
 verdictMade (wrong i) r = unmade refusal.table i
 
--- THE WRITING: table words, root name, root type, mode, event words, text bytes, lent payload bytes (a number)
-unfoldable pub writing : List ℕ → ℕ → ℕ → ℕ → List ℕ → List ℕ → ℕ → Made
-writing l name type mode events texts room =
+-- THE WRITING: table words, party, root name, root type, mode, event words, text bytes, lent payload bytes (a number)
+unfoldable pub writing : List ℕ → ℕ → ℕ → ℕ → ℕ → List ℕ → List ℕ → ℕ → Made
+writing l party name type mode events texts room =
     verdictMade (verdict l)
-    (orUnmade (asked (tableOf l .types) name type) (λ u.
+    (orUnmade (asked (tableOf l .types) party name type) (λ u.
     orUnmade (modeAsked (tableOf l .derivations) mode) (λ m.
-    shaped events (written (heldOf l) (rooted (tableIn (m .casting) (tableOf l)) name type) m (eventsFrom events 0 (length events / 4)) texts room))))
+    shaped events (written (heldOf l party) (rooted (tableIn (m .casting) (tableOf l)) name type) m (eventsFrom events 0 (length events / 4)) texts room))))
 
 -- what the host gets: the answer (mode asked, all events and texts of the list), and the final content of the lent payload
 unfoldable pub outcomeMade : ℕ → ℕ → ℕ → Made → Outcome

@@ -30,8 +30,9 @@ pub fn offered(substitutes: bool, derived: bool) -> Choices
     }
 }
 
-// A payload's mode by a table: its length coding, and whether the table has substitutes and type codes are sent.
+// A payload's mode by a table: its length coding, and whether the table has substitutes and type codes are sent; and whose marks count.
 pub struct Mode {
     pub lengths: Lengths,
     pub choices: Choices,
+    pub party: u32,
 }

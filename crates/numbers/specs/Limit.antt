@@ -69,3 +69,9 @@ mostDerivations = 1024
 
 abbrev pub mostSubstitutes : ℕ
 mostSubstitutes = 1024
+
+abbrev pub parties : ℕ
+parties = 8
+
+abbrev pub mostHeld : ℕ
+mostHeld = 255

@@ -78,3 +78,6 @@ areaSize = 24
 
 abbrev pub control : ℕ
 control = 25
+
+abbrev pub party : ℕ
+party = 26

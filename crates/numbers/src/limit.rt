@@ -30,6 +30,10 @@ pub const MOST_PARTICLES: u32 = 1024;
 pub const MOST_DERIVATIONS: u32 = 1024;
 
 pub const MOST_SUBSTITUTES: u32 = 1024;
+// The parties that share a table: each has a mark of its own in a type's held word.
+pub const PARTIES: u32 = 8;
+// The greatest held word: every party's mark is set.
+pub const MOST_HELD: u32 = (1 << PARTIES) - 1;
 // The most child rows of a sequence or a choice.
 pub const MOST_CHILDREN: u32 = 64;
 // The most values of an enumeration.

@@ -52,3 +52,5 @@ pub const TEXT_BYTES: u32 = 23;
 pub const AREA_SIZE: u32 = 24;
 // A text has a control character: a byte below 32 that is none of tab, line feed and carriage return.
 pub const CONTROL: u32 = 25;
+// The party is none of PARTIES.
+pub const PARTY: u32 = 26;

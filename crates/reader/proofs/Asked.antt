@@ -94,7 +94,7 @@ module _ (t s : List ℕ) (mode : Mode) (wall n d : ℕ) (h : Ready t s mode wal
 
   -- the type of an element that is open is one of the table's
   pub element-effective : (c : Cursor) (E : List ℕ) (name ty row : ℕ) (coded : Bool) (body end : ℕ) (o : Opened) (E′ : List ℕ) (x : Inner) → ty < typesIn t → Owned (particlesIn t) row
-      → Opens name coded body end (typesBy t (rowChoices (mode .choices) row) ty row) (bitAt s) (heldOf t) c E o E′ → o ≡ In x → x .effective < typesIn t
+      → Opens name coded body end (typesBy t (rowChoices (mode .choices) row) ty row) (bitAt s) (heldOf t (mode .party)) c E o E′ → o ≡ In x → x .effective < typesIn t
   element-effective c E name ty row coded body end o E′ x g w k f =
       subst (λ (a : Opened). Below name coded body end (typesIn t) a) f
       (k .below (typesIn t) (codes-known t (h .valid) (rowChoices (mode .choices) row) ty row (bitAt s) end body g (row-owned (mode .choices) row (particlesIn t) w)))

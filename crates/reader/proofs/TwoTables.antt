@@ -17,12 +17,12 @@ use Rattle.theorems.proofs.NamedReading.{zero-accepts}
 use Rattle.reader.specs.Answers.{pathIs, Replies}
 use Rattle.reader.specs.declared.Answer as code
 
-module _ (l l′ : List ℕ) (pair : Pair l l′) (name type : ℕ) (s : List ℕ) (words bytes : ℕ)
+module _ (l l′ : List ℕ) (party : ℕ) (pair : Pair l l′ party) (name type : ℕ) (s : List ℕ) (words bytes : ℕ)
     (r r′ : code.Answer) (E E′ T T′ : List ℕ)
-    (first : Replies (reading l name type s words bytes) words bytes r E T)
-    (second : Replies (reading l′ name type s words bytes) words bytes r′ E′ T′) where
+    (first : Replies (reading l party name type s words bytes) words bytes r E T)
+    (second : Replies (reading l′ party name type s words bytes) words bytes r′ E′ T′) where
   abbrev new : ℕ → Bool
-  new = newOf l l′
+  new = newOf l l′ party
 
   -- (a) the second reads this tree and shows it. The first then says 9 at the first outermost newly held element without a length, with the path around
   -- it and every buffer zero; or, where there is none, shows that tree with each such element replaced by one Blank of the same bit count, its texts left out
@@ -30,20 +30,20 @@ module _ (l l′ : List ℕ) (pair : Pair l l′) (name type : ℕ) (s : List �
     pub mode : Mode
     pub tree : Nodes
     pub bits : ℕ
-    pub is : reading l′ name type s words bytes ≡ accepted mode tree bits
+    pub is : reading l′ party name type s words bytes ≡ accepted mode tree bits
     pub second-shows : Replies (accepted mode tree bits) words bytes r′ E′ T′
     pub first-says : Replies (saysLess mode (firstBare (outermost new [] tree)) (replaced new tree) bits) words bytes r E T
 
   pub second-read : r′ .number ≡ 0 → SecondAccepts
   second-read z =
-      let a = zero-accepts l′ name type s words bytes (sym (ap (λ (o : Outcome). o .number) (second .answer)) ∙ z) in
+      let a = zero-accepts l′ party name type s words bytes (sym (ap (λ (o : Outcome). o .number) (second .answer)) ∙ z) in
       record {
         mode = a .mode;
         tree = a .list;
         bits = a .bits;
         is = a .is;
         second-shows = subst (λ (R : Reply). Replies R words bytes r′ E′ T′) (a .is) second;
-        first-says = subst (λ (R : Reply). Replies R words bytes r E T) (second-accepts l l′ pair name type s words bytes (a .mode) (a .list) (a .bits) (a .is)) first;
+        first-says = subst (λ (R : Reply). Replies R words bytes r E T) (second-accepts l l′ party pair name type s words bytes (a .mode) (a .list) (a .bits) (a .is)) first;
       }
 
   -- (b) the first reads this tree and shows it, and the second refuses: with every buffer zero, for lack of output room or in an element that the tree
@@ -52,12 +52,12 @@ module _ (l l′ : List ℕ) (pair : Pair l l′) (name type : ℕ) (s : List �
     pub mode : Mode
     pub tree : Nodes
     pub bits : ℕ
-    pub is : reading l name type s words bytes ≡ accepted mode tree bits
+    pub is : reading l party name type s words bytes ≡ accepted mode tree bits
     pub first-shows : Replies (accepted mode tree bits) words bytes r E T
     pub second-says : Replies (declined (r′ .number) (r′ .place) (pathIs (r′ .path))) words bytes r′ E′ T′
     pub excuse : Excuse new [] tree (r′ .number) (r′ .place) (pathIs (r′ .path))
 
-  excused : (a : Accepts (reading l name type s words bytes)) (R : Reply) → reading l′ name type s words bytes ≡ R → (r′ .number ≡ 0 → ⊥) → OnlyFirstAccepts
+  excused : (a : Accepts (reading l party name type s words bytes)) (R : Reply) → reading l′ party name type s words bytes ≡ R → (r′ .number ≡ 0 → ⊥) → OnlyFirstAccepts
   unfolding outcome
   excused a (accepted mode ns q) e k = absurd (k (ap (λ (o : Outcome). o .number) (second .answer ∙ ap outcome e)))
   excused a (declined n p π) e k =
@@ -72,9 +72,9 @@ module _ (l l′ : List ℕ) (pair : Pair l l′) (name type : ℕ) (s : List �
         is = a .is;
         first-shows = subst (λ (S : Reply). Replies S words bytes r E T) (a .is) first;
         second-says = rw (x, y, z) at (subst (λ (S : Reply). Replies S words bytes r′ E′ T′) e second);
-        excuse = rw (x, y, z) at (only-first-accepts l l′ pair name type s words bytes (a .mode) (a .list) (a .bits) n p π (a .is) e);
+        excuse = rw (x, y, z) at (only-first-accepts l l′ party pair name type s words bytes (a .mode) (a .list) (a .bits) n p π (a .is) e);
       }
 
   pub only-first-read : r .number ≡ 0 → (r′ .number ≡ 0 → ⊥) → OnlyFirstAccepts
   only-first-read z k =
-      excused (zero-accepts l name type s words bytes (sym (ap (λ (o : Outcome). o .number) (first .answer)) ∙ z)) (reading l′ name type s words bytes) refl k
+      excused (zero-accepts l party name type s words bytes (sym (ap (λ (o : Outcome). o .number) (first .answer)) ∙ z)) (reading l′ party name type s words bytes) refl k

@@ -138,14 +138,14 @@ module _ (t s : List ℕ) (mode : Mode) (wall n d : ℕ) (h : Ready t s mode wal
       D = schema t s mode
 
       go : (d : ℕ) (row : table.Row) → Fits (typesIn t) (particlesIn t) row → Rowed row → row· t s mode d row r π wall at ≡ particle· t s mode d row r π wall at
-      go zero row f g = sym (steps-laws.particle-deep B M (heldOf t) D r π wall at row)
+      go zero row f g = sym (steps-laws.particle-deep B M (heldOf t (mode .party)) D r π wall at row)
       go (suc d) (table.Row.element name ty own) f g =
-          (λ i. code (headAt M B wall at) π at (opened B M (heldOf t) (inside· t s mode d) name (typesBy t (sym (choices-row (mode .choices) own g) i) ty own) r π wall at))
-          ∙ (λ i. code (headAt M B wall at) π at (opened B M (heldOf t) (inside· t s mode d) name (types-by t (mode .choices) (h .valid) (h .choosing) ty own (f .2 g) i) r π wall at))
-          ∙ sym (steps-laws.particle-element B M (heldOf t) D r π wall at d name ty own)
-      go (suc d) (table.Row.sequence first m) f g = sym (steps-laws.particle-sequence B M (heldOf t) D r π wall at d first m)
-      go (suc d) (table.Row.choice first m) f g = sym (steps-laws.particle-choice B M (heldOf t) D r π wall at d first m)
-      go (suc d) (table.Row.occurs child least most) f g = sym (steps-laws.particle-occurs B M (heldOf t) D r π wall at d child least most)
+          (λ i. code (headAt M B wall at) π at (opened B M (heldOf t (mode .party)) (inside· t s mode d) name (typesBy t (sym (choices-row (mode .choices) own g) i) ty own) r π wall at))
+          ∙ (λ i. code (headAt M B wall at) π at (opened B M (heldOf t (mode .party)) (inside· t s mode d) name (types-by t (mode .choices) (h .valid) (h .choosing) ty own (f .2 g) i) r π wall at))
+          ∙ sym (steps-laws.particle-element B M (heldOf t (mode .party)) D r π wall at d name ty own)
+      go (suc d) (table.Row.sequence first m) f g = sym (steps-laws.particle-sequence B M (heldOf t (mode .party)) D r π wall at d first m)
+      go (suc d) (table.Row.choice first m) f g = sym (steps-laws.particle-choice B M (heldOf t (mode .party)) D r π wall at d first m)
+      go (suc d) (table.Row.occurs child least most) f g = sym (steps-laws.particle-occurs B M (heldOf t (mode .party)) D r π wall at d child least most)
 
   as-row : (row : table.Row) → Fits (typesIn t) (particlesIn t) row → Rowed row → (c : Cursor) (Π E T : List ℕ) (w : Walk) (N′ E′ T′ : List ℕ)
       → Walks (row· t s mode d row) wall c Π E T w N′ E′ T′ → Walks (particle· t s mode d row) wall c Π E T w N′ E′ T′
@@ -163,7 +163,7 @@ module _ (t s : List ℕ) (mode : Mode) (d wall : ℕ) (c : Cursor) (Π N E T : 
   M = lengths t s mode
 
   abbrev H : ℕ → Bool
-  H = heldOf t
+  H = heldOf t (mode .party)
 
   abbrev D : table.Table
   D = schema t s mode
@@ -387,14 +387,14 @@ module _ (t s : List ℕ) (mode : Mode) (d wall : ℕ) (g : ℕ → table.Row) (
   unfolding rounds·
   rounds-all h =
       let m : n - j ≡ 0 = omega arith in
-      rw m (steps-laws.rounds-none (bitAt s) (lengths t s mode) (heldOf t) (schema t s mode) (roomOf E T c) Π wall (c .at .0) d (λ a. g (j + a)))
+      rw m (steps-laws.rounds-none (bitAt s) (lengths t s mode) (heldOf t (mode .party)) (schema t s mode) (roomOf E T c) Π wall (c .at .0) d (λ a. g (j + a)))
 
   rounds-next : j < n → rounds· t s mode d (λ a. g (j + a)) (n - j) (roomOf E T c) Π wall (c .at .0)
       ≡ after (roomOf E T c) (particle· t s mode d (g j) (roomOf E T c) Π wall (c .at .0)) (λ u p. rounds· t s mode d (λ a. g (j + 1 + a)) (n - (j + 1)) u Π wall p)
   unfolding rounds· particle·
   rounds-next h =
       let m : n - j ≡ suc (n - (j + 1)) = omega arith in
-      rw m (steps-laws.rounds-more (bitAt s) (lengths t s mode) (heldOf t) (schema t s mode) (roomOf E T c) Π wall (c .at .0) d (n - (j + 1)) (λ a. g (j + a)))
+      rw m (steps-laws.rounds-more (bitAt s) (lengths t s mode) (heldOf t (mode .party)) (schema t s mode) (roomOf E T c) Π wall (c .at .0) d (n - (j + 1)) (λ a. g (j + a)))
       ∙ (λ i. after (roomOf E T c) (particle· t s mode d (g (here i)) (roomOf E T c) Π wall (c .at .0)) (λ u p. rounds· t s mode d (λ a. g (past a i)) (n - (j + 1)) u Π wall p))
     where
       here : j + 0 ≡ j

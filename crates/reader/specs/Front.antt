@@ -16,17 +16,17 @@ unfoldable pub foundIs : Found → Res items.Mode
 foundIs (Is m) = got (modeIs m)
 foundIs (Refuse n) = fault n
 
--- who looks for no substitutes has a table without any
-abbrev pub Chooses : List ℕ → Found → Type 0
-Chooses l (Is m) = Choosing l (m .choices)
-Chooses l (Refuse n) = Unit {0}
+-- who looks for no substitutes has a table without any; and it is this party's mode
+abbrev pub Chooses : List ℕ → (party : ℕ) → Found → Type 0
+Chooses l party (Is m) = Choosing l (m .choices) × (m .party ≡ party)
+Chooses l party (Refuse n) = Unit {0}
 
 -- the mode of a length coding, by a table
-pub record Makes (l : List ℕ) (lengths : Lengths) (derived : Bool) (r : Found) : Type 0 where
+pub record Makes (l : List ℕ) (party : ℕ) (lengths : Lengths) (derived : Bool) (r : Found) : Type 0 where
   pub says : foundIs r ≡ got (mode (lengthsIs lengths) derived)
-  pub choosing : Chooses l r
+  pub choosing : Chooses l party r
 
 -- the mode of a payload, by a table
-pub record Finds (l s : List ℕ) (r : Found) : Type 0 where
+pub record Finds (l : List ℕ) (party : ℕ) (s : List ℕ) (r : Found) : Type 0 where
   pub says : foundIs r ≡ modeOf (tableOf l .derivations) s
-  pub choosing : Chooses l r
+  pub choosing : Chooses l party r

@@ -78,27 +78,31 @@ module _ (t s : List ℕ) (mode : Mode) where
   abbrev pub lengths : Lengths
   lengths = lengthsIs (mode .lengths)
 
+  -- by the party's marks
+  abbrev pub held : ℕ → Bool
+  held = heldOf t (mode .party)
+
   abbrev pub schema : Table
   schema = tableIn (mode .choices .derived) (tableOf t)
 
   unfoldable pub particle· : ℕ → Row → Meaning
-  particle· d row r π wall at = particleAt b lengths (heldOf t) schema d row r π wall at
+  particle· d row r π wall at = particleAt b lengths held schema d row r π wall at
 
   unfoldable pub rounds· : ℕ → (ℕ → Row) → ℕ → Meaning
-  rounds· d g n r π wall at = roundsAt b lengths (heldOf t) schema d n g r π wall at
+  rounds· d g n r π wall at = roundsAt b lengths held schema d n g r π wall at
 
   unfoldable pub content· : ℕ → ℕ → Meaning
-  content· d ty r π wall at = contentAt b lengths (heldOf t) schema d (tableOf t .content ty) r π wall at
+  content· d ty r π wall at = contentAt b lengths held schema d (tableOf t .content ty) r π wall at
 
   unfoldable pub inside· : ℕ → ℕ → Meaning
-  inside· d ty r π wall at = insideAt b lengths (heldOf t) schema d ty r π wall at
+  inside· d ty r π wall at = insideAt b lengths held schema d ty r π wall at
 
   -- what is inside an element, and its end
   unfoldable pub whole· : ℕ → ℕ → Bool → ℕ → Meaning
   whole· d ty coded body r π wall at = after r (inside· d ty r π wall at) (λ u q. ending coded body wall u π q)
 
   unfoldable pub element· : ℕ → ℕ → Types → Meaning
-  element· d name y r π wall at = code (headAt lengths b wall at) π at (opened b lengths (heldOf t) (inside· d) name y r π wall at)
+  element· d name y r π wall at = code (headAt lengths b wall at) π at (opened b lengths held (inside· d) name y r π wall at)
 
   unfoldable pub choose· : ℕ → ℕ → ℕ → Meaning
   choose· d first n r π wall at =

@@ -152,7 +152,8 @@ fn element(
         (now (texts .exit)) ⌝ }
 {
     let at = c.at;
-    let held = rows::held(table, t);
+    let party = mode.party;
+    let held = rows::held(table, party, t);
     let lengths = mode.lengths;
     let h = head(payload, lengths, wall, at);
     let r = extent_of(h, wall);
@@ -165,6 +166,7 @@ fn element(
             let choices = mode.choices;
             let o = open(
                 table,
+                party,
                 payload,
                 events,
                 choices,

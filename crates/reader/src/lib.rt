@@ -131,6 +131,7 @@ fn accepted(mode: Mode, c: Cursor, path: Path) -> Answer
 // The root at bit 8, an element of no row, into buffers that are zero; then what is left after it.
 fn root(
     table: &[u32],
+    party: u32,
     payload: &[u8],
     events: &mut [u32],
     texts: &mut [u8],
@@ -139,14 +140,15 @@ fn root(
     t: u32,
 ) -> Answer
     requires { ⌜
-        (Entered (now table) name t)
+        (Entered (now table) party name t)
         × (modeOf (tableOf (now table) .derivations) (now payload) ≡ got (modeIs mode))
         × (Choosing (now table) (mode .choices))
         × Zeros (now events)
-        × Zeros (now texts) ⌝ }
+        × Zeros (now texts)
+        × (mode .party ≡ party) ⌝ }
     ensures { λ r. ⌜
         Replies
-        (reading (now (table .entry)) name t (now (payload .entry)) (length (now (events .entry)))
+        (reading (now (table .entry)) party name t (now (payload .entry)) (length (now (events .entry)))
         (length (now (texts .entry))))
         (length (now (events .entry))) (length (now (texts .entry))) r (now (events .exit)) (now (texts .exit)) ⌝ }
 {
@@ -200,6 +202,7 @@ fn root(
 // A payload by a table that is right, into buffers that are zero.
 fn read_checked(
     table: &[u32],
+    party: u32,
     root_name: u32,
     root_type: u32,
     payload: &[u8],
@@ -209,7 +212,7 @@ fn read_checked(
     requires { ⌜ (verdict (now table) ≡ right) × Zeros (now events) × Zeros (now texts) ⌝ }
     ensures { λ r. ⌜
         Replies
-        (reading (now (table .entry)) «root_name» «root_type» (now (payload .entry)) (length (now (events .entry)))
+        (reading (now (table .entry)) party «root_name» «root_type» (now (payload .entry)) (length (now (events .entry)))
         (length (now (texts .entry))))
         (length (now (events .entry))) (length (now (texts .entry))) r (now (events .exit)) (now (texts .exit)) ⌝ }
 {
@@ -220,16 +223,29 @@ fn read_checked(
     if limit::MOST_NAME < root_name {
         return refused(refusal::ROOT, 0, nowhere());
     }
-    let f = mode_of(table, payload);
+    if limit::PARTIES <= party {
+        return refused(refusal::PARTY, 0, nowhere());
+    }
+    let f = mode_of(table, party, payload);
     match f {
         Found::Refuse(n) => refused(n, 0, nowhere()),
-        Found::Is(mode) => root(table, payload, events, texts, mode, root_name, root_type),
+        Found::Is(mode) => root(
+            table,
+            party,
+            payload,
+            events,
+            texts,
+            mode,
+            root_name,
+            root_type,
+        ),
     }
 }
 
-// THE READER: a payload whose root has a name and a type of the table. It asks nothing of what it is given.
+// THE READER: a payload, for a party, whose root has a name and a type of the table. It asks nothing of what it is given.
 pub fn read(
     table: &[u32],
+    party: u32,
     root_name: u32,
     root_type: u32,
     payload: &[u8],
@@ -238,7 +254,7 @@ pub fn read(
 ) -> Answer
     ensures { λ r. ⌜
         Replies
-        (reading (now (table .entry)) «root_name» «root_type» (now (payload .entry)) (length (now (events .entry)))
+        (reading (now (table .entry)) party «root_name» «root_type» (now (payload .entry)) (length (now (events .entry)))
         (length (now (texts .entry))))
         (length (now (events .entry))) (length (now (texts .entry))) r (now (events .exit)) (now (texts .exit)) ⌝ }
 {
@@ -246,6 +262,6 @@ pub fn read(
     let v = check(table);
     match v {
         Verdict::Wrong(i) => refused(refusal::TABLE, i, nowhere()),
-        Verdict::Right => read_checked(table, root_name, root_type, payload, events, texts),
+        Verdict::Right => read_checked(table, party, root_name, root_type, payload, events, texts),
     }
 }

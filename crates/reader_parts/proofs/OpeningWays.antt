@@ -200,13 +200,13 @@ module _ (name t : ℕ) (coded : Bool) (body wall : Bits) (held : Bool) (c : Cur
 pub ruleset plain-ways = (plain-past, plain-in)
 
 -- open_cast
-module _ (l : List ℕ) (choices : Choices) (t row : ℕ) (b : ℕ → ℕ) (name : ℕ) (coded : Bool) (body wall : Bits) (c : Cursor) (E : List ℕ)
+module _ (l : List ℕ) (party : ℕ) (choices : Choices) (t row : ℕ) (b : ℕ → ℕ) (name : ℕ) (coded : Bool) (body wall : Bits) (c : Cursor) (E : List ℕ)
     (own : Choices) (w : own ≡ rowChoices choices row) (k : Coded) (q : Says (typesBy l own t row) b (wall .0) (body .0) k) where
   abbrev y : Types
   y = typesBy l (rowChoices choices row) t row
 
   abbrev O : Opened → List ℕ → Type 0
-  O r E′ = Opens name coded (body .0) (wall .0) y b (heldOf l) c E r E′
+  O r E′ = Opens name coded (body .0) (wall .0) y b (heldOf l party) c E r E′
 
   say : Says y b (wall .0) (body .0) k
   say = rw (← w) q
@@ -217,7 +217,7 @@ module _ (l : List ℕ) (choices : Choices) (t row : ℕ) (b : ℕ → ℕ) (nam
       let bad : codesAt y b (wall .0) (body .0) ≡ fault n = sym (say .says) ∙ rw e in
       record { says = λ f T π. rw bad refl; below = λ m h. tt }
 
-  module _ (x : Cast) (i : k ≡ coded·is.As x) (held : Bool) (j : held ≡ heldOf l (x .effective)) (o : Opened) (E₁ : List ℕ)
+  module _ (x : Cast) (i : k ≡ coded·is.As x) (held : Bool) (j : held ≡ heldOf l party (x .effective)) (o : Opened) (E₁ : List ℕ)
       (h : Begins name coded (body .0) (wall .0) (x .effective) held c E o E₁) where
     coded-is : codesAt y b (wall .0) (body .0) ≡ got (x .effective, x .substitute, x .next .0)
     unfolding codedIs
@@ -228,7 +228,7 @@ module _ (l : List ℕ) (choices : Choices) (t row : ℕ) (b : ℕ → ℕ) (nam
 
     -- with the codes' event still to be told
     begun : (f : Into) (T π : List ℕ) → openedView name coded (body .0) (wall .0) (fromCodes name coded (body .0) (wall .0) (x .sent) f (x .substitute) (x .next .0)) o π E₁ T
-        ≡ outcome (behindHead name coded (body .0) (wall .0) y b (heldOf l) f (roomOf E T c) π (c .at .0)) c π E T
+        ≡ outcome (behindHead name coded (body .0) (wall .0) y b (heldOf l party) f (roomOf E T c) π (c .at .0)) c π E T
     unfolding behindHead code
     begun f T π = rw (coded-is, ← j, ← sent-is) (h .says (x .sent) f (x .substitute) (x .next .0) T π)
 
@@ -250,7 +250,7 @@ module _ (l : List ℕ) (choices : Choices) (t row : ℕ) (b : ℕ → ℕ) (nam
 
       opened-is : (f : Into) (T π : List ℕ)
           → outcome (fromCodes name coded (body .0) (wall .0) (x .sent) f (x .substitute) (x .next .0) (x .effective) (roomOf E₁ T (z .cursor)) π (z .cursor .at .0)) (z .cursor) π E₁ T
-          ≡ outcome (behindHead name coded (body .0) (wall .0) y b (heldOf l) f (roomOf E T c) π (c .at .0)) c π E T
+          ≡ outcome (behindHead name coded (body .0) (wall .0) y b (heldOf l party) f (roomOf E T c) π (c .at .0)) c π E T
       unfolding openedView
       opened-is f T π = rw (p, type-is) at (begun f T π)
 
@@ -278,11 +278,11 @@ module _ (l : List ℕ) (choices : Choices) (t row : ℕ) (b : ℕ → ℕ) (nam
 pub ruleset cast-ways = (cast-wrong, cast-refuse, cast-blank, cast-full, cast-untold, cast-open)
 
 -- open: where there is nothing to choose from, the root or not
-pub open-plainly : (l : List ℕ) (choices : Choices) (t row : ℕ) (b : ℕ → ℕ) (name : ℕ) (coded : Bool) (body wall : ℕ) (c : Cursor) (E : List ℕ) (held : Bool) (r : Opened) (E′ : List ℕ)
-    → choices .any ≡ false → Choosing l choices → held ≡ heldOf l t → OpensPlain name coded body wall t held c E r E′
-    → Opens name coded body wall (typesBy l (rowChoices choices row) t row) b (heldOf l) c E r E′
-open-plainly l choices t row b name coded body wall c E held r E′ e k h g =
-    rw (types-only l (rowChoices choices row) (go .0) (go .1) t row) (g .says b (heldOf l) h)
+pub open-plainly : (l : List ℕ) (party : ℕ) (choices : Choices) (t row : ℕ) (b : ℕ → ℕ) (name : ℕ) (coded : Bool) (body wall : ℕ) (c : Cursor) (E : List ℕ) (held : Bool) (r : Opened) (E′ : List ℕ)
+    → choices .any ≡ false → Choosing l choices → held ≡ heldOf l party t → OpensPlain name coded body wall t held c E r E′
+    → Opens name coded body wall (typesBy l (rowChoices choices row) t row) b (heldOf l party) c E r E′
+open-plainly l party choices t row b name coded body wall c E held r E′ e k h g =
+    rw (types-only l (rowChoices choices row) (go .0) (go .1) t row) (g .says b (heldOf l party) h)
   where
     go : (rowChoices choices row .substitutes ≡ false) × (rowChoices choices row .derived ≡ false)
     go = by (eqb row noRow)

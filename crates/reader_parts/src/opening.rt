@@ -105,6 +105,7 @@ fn open_plain(
 // An element that may have something to choose from: its codes, and behind Start their event.
 fn open_cast(
     table: &[u32],
+    party: u32,
     payload: &[u8],
     events: &mut [u32],
     choices: Choices,
@@ -119,7 +120,7 @@ fn open_cast(
     requires { ⌜ wall .0 ≤ 8 * length (now payload) ⌝ }
     ensures { λ r. ⌜
         Opens name coded (body .0) (wall .0) (typesBy (now (table .entry)) (rowChoices choices row) t row)
-        (bitAt (now (payload .entry))) (heldOf (now (table .entry))) c (now (events .entry)) r (now (events .exit)) ⌝ }
+        (bitAt (now (payload .entry))) (heldOf (now (table .entry)) party) c (now (events .entry)) r (now (events .exit)) ⌝ }
 {
     let own = choices_of(choices, row);
     let k = codes(table, payload, own, t, row, wall, body);
@@ -127,7 +128,7 @@ fn open_cast(
         Coded::Wrong(n) => Opened::Refuse(n, body),
         Coded::As(cast) => {
             let effective = cast.effective;
-            let held = rows::held(table, effective);
+            let held = rows::held(table, party, effective);
             let o = begin(events, c, name, effective, held, coded, body, wall);
             match o {
                 Opened::Refuse(n, at) => Opened::Refuse(n, at),
@@ -152,9 +153,10 @@ fn open_cast(
     }
 }
 
-// An element of a name, a type and a row, behind its head; whether its own type is held is known, as who calls can look before it reads.
+// An element of a name, a type and a row, behind its head; whether its own type is held by the party is known, as who calls can look before it reads.
 pub fn open(
     table: &[u32],
+    party: u32,
     payload: &[u8],
     events: &mut [u32],
     choices: Choices,
@@ -168,14 +170,15 @@ pub fn open(
     wall: Bits,
 ) -> Opened
     requires { ⌜
-        (wall .0 ≤ 8 * length (now payload)) × (Choosing (now table) choices) × (held ≡ heldOf (now table) t) ⌝ }
+        (wall .0 ≤ 8 * length (now payload)) × (Choosing (now table) choices) × (held ≡ heldOf (now table) party t) ⌝ }
     ensures { λ r. ⌜
         Opens name coded (body .0) (wall .0) (typesBy (now (table .entry)) (rowChoices choices row) t row)
-        (bitAt (now (payload .entry))) (heldOf (now (table .entry))) c (now (events .entry)) r (now (events .exit)) ⌝ }
+        (bitAt (now (payload .entry))) (heldOf (now (table .entry)) party) c (now (events .entry)) r (now (events .exit)) ⌝ }
 {
     if choices.any {
         return open_cast(
             table,
+            party,
             payload,
             events,
             choices,

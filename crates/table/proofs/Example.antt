@@ -72,7 +72,9 @@ cases =
     ∷ changed 3 5 (wrong 51)
     ∷ changed 3 1025 (wrong 3)
     ∷ changed 4 0 right
-    ∷ changed 4 2 (wrong 4)
+    ∷ changed 4 2 right
+    ∷ changed 4 255 right
+    ∷ changed 4 256 (wrong 4)
     ∷ changed 5 3 (wrong 5)
     ∷ changed 6 2 (wrong 6)
     ∷ changed 6 1 (wrong 7)

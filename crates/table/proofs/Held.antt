@@ -1,5 +1,5 @@
 -- Held marks bear neither on validity nor on what the rows say: two lists alike but at their held words have one table and, where
--- these words are 0 or 1, one verdict.
+-- these words have marks of parties alone, one verdict.
 use Prim.Native.Nat.{ℕ, zero, suc, _+_, _≤_, _<_}
 use mathlib.Core.Path.{_≡_, refl, sym, ap, ap₂, _∙_}
 use mathlib.Core.List.{List, _++_}
@@ -8,7 +8,7 @@ use native.Mathlib.Omega.{arith}
 use borrow.Author.Tests.{le-leb}
 use lib.Dec.{leb}
 use lib.ListN.{length}
-use Rattle.numbers.specs.Limit.{mostTypes, mostAttributes, mostParticles}
+use Rattle.numbers.specs.Limit.{mostTypes, mostAttributes, mostParticles, mostHeld}
 use Rattle.table.specs.Words.{plainForm, castForm, typeAt, attributeAt, particleAt, derivedAt, substituteAt, typePairAt, rowPairAt, wordAt, typesIn, attributesIn, particlesIn, rowsEnd, derivationsIn, substitutesIn}
 use Rattle.table.specs.Valid.{given, headerWords, frontWords, rows, typeRow, attributeRow, particleRow, rowWords, wordsFrom, derivedRow, substituteRow, typePairRow, rowPairRow, castWords, formWords, formSize, lengthRight, verdict, verdictFrom}
 use Rattle.table.specs.Rows.{contentOf, rowAt, rowOf, attributeOf, attributesFrom, firstOf, countOf, attributesOf, substitutesFrom, substitutesOf, derivedFrom, derivedOf, tableOf}
@@ -175,7 +175,7 @@ module _ (l l′ : List ℕ) (alike : Alike l l′) where
           given-same 3 0 mostParticles (omega arith),
         )
 
-    mark-same : (t : ℕ) → t < T → leb (w (typeAt t)) 1 ≡ leb (w′ (typeAt t)) 1
+    mark-same : (t : ℕ) → t < T → leb (w (typeAt t)) mostHeld ≡ leb (w′ (typeAt t)) mostHeld
     mark-same t h =
         le-leb _ _ (marks .mark t h) ∙ sym (le-leb _ _ (marks′ .mark t (omega (arith, header-same 1 (omega arith)))))
 

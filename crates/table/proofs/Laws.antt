@@ -13,7 +13,7 @@ use Rattle.table.specs.First.{first, judge, _then_}
 use Rattle.table.specs.First.Verdict.{right, wrong}
 use Rattle.table.proofs.FirstLaws.{judge-right, then-right, both-right, Every, right-every, every-append, both-true}
 use Rattle.numbers.specs.Simple.{ranged}
-use Rattle.numbers.specs.Limit.{mostTypes, mostAttributes, mostParticles, mostValues, mostTimes, unbounded, mostTableWords, mostDerivations, mostSubstitutes}
+use Rattle.numbers.specs.Limit.{mostTypes, mostAttributes, mostParticles, mostValues, mostTimes, unbounded, mostTableWords, mostDerivations, mostSubstitutes, mostHeld}
 use Rattle.table.specs.Valid.{within, given, headerWords, frontWords, rangeWords, enumerationWords, kindWords, simpleWords, particlesWords, contentWords, attributeWords, elementWords, groupWords, occursWords, particleWords, typeRow, attributeRow, particleRow, rowWords, countWords, castWords, formWords, formSize, lengthRight, verdict, verdictFrom, Sized}
 use Rattle.table.proofs.Lines.{typesVerdict, attributesVerdict, particlesVerdict, rows-in-parts, words-in-parts, rows-every, form-words-length}
 use Rattle.table.specs.Keeps.{ElementOk, GroupOk, OccursOk, RowOk, SimpleOk, ContentOk, AttributeOk, Each, CountsOk}
@@ -174,6 +174,11 @@ module _ (l : List ℕ) (valid : verdict l ≡ right) where
   pub span-ok : (t : ℕ) → t < T → firstOf l t + countOf l t ≤ A
   unfolding frontWords firstOf countOf
   span-ok t h = leb-true _ _ (front-back t h .0 .1 .1 .1 .0)
+
+  -- a held word has marks of parties alone
+  pub mark-ok : (t : ℕ) → t < T → w (typeAt t) ≤ mostHeld
+  unfolding frontWords
+  mark-ok t h = leb-true _ _ (front-back t h .0 .0)
 
   -- a type that an attribute may have
   simple-is : (t : ℕ) → w (typeAt t + 1) ≡ 1 → contentOf l t ≡ simple (w (typeAt t + 4)) (w (typeAt t + 5)) (w (typeAt t + 6))

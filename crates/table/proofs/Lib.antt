@@ -1,3 +1,4 @@
+pub mod Bits
 mod Tests
 mod Choices
 mod Given
@@ -6,6 +7,7 @@ mod CastRows
 mod Turns
 mod Once
 mod Order
+mod Parties
 pub mod CastLaws
 pub mod Casts
 mod Decoded

@@ -7,4 +7,5 @@ pub mod Faults
 pub mod Keeps
 pub mod Held
 pub mod Runs
+pub mod Setting
 pub mod Stamps

@@ -1,5 +1,5 @@
 -- A table decoded into rows, so that meanings go by constructors and never by words. Total on every list of words.
-use Prim.Native.Nat.{ℕ, zero, suc, _+_}
+use Prim.Native.Nat.{ℕ, zero, suc, _+_, _/_, _%_, _^_}
 use mathlib.Core.List.{List, [], _∷_}
 use mathlib.Core.Bool.{Bool}
 use lib.Dec.{eqb}
@@ -102,5 +102,6 @@ module _ (l : List ℕ) where
   unfoldable pub tableOf : Table
   tableOf = record { types = typesIn l; attributes = λ t. attributesOf t; content = λ t. contentOf t; row = λ p. rowOf p; substitutes = λ p. substitutesOf p; derived = λ t. derivedOf t; derivations = derivationsIn l }
 
-  unfoldable pub heldOf : (t : ℕ) → Bool
-  heldOf t = eqb (w (typeAt t)) 1
+  -- bit p of the type's held word is party p's mark
+  unfoldable pub heldOf : (p t : ℕ) → Bool
+  heldOf p t = eqb (w (typeAt t) / 2 ^ p % 2) 1

@@ -8,7 +8,7 @@ use lib.ListN.{length, getD}
 use Rattle.numbers.specs.Content.{simple, particles, ofContent}
 use Rattle.numbers.specs.Particle.{ofParticleOr}
 use Rattle.numbers.specs.Simple.{ranged, enumeration, float}
-use Rattle.numbers.specs.Limit.{mostTypes, mostAttributes, mostParticles, mostChildren, mostValues, mostName, mostTimes, unbounded, mostDerivations, mostSubstitutes, mostTableWords}
+use Rattle.numbers.specs.Limit.{mostTypes, mostAttributes, mostParticles, mostChildren, mostValues, mostName, mostTimes, unbounded, mostDerivations, mostSubstitutes, mostTableWords, mostHeld}
 use Rattle.numbers.specs.Particle as particle
 use Rattle.signed.specs.Words.{rank}
 use Rattle.table.specs.Words.{plainForm, castForm, typeAt, attributeAt, particleAt, sizeOf, derivedAt, substituteAt, typePairAt, rowPairAt, castSizeOf, wordAt, typesIn, attributesIn, particlesIn}
@@ -27,7 +27,7 @@ headerWords l =
 
 -- A type row: held, content, first attribute row, attribute count (a pair is blamed on its later word); then a, b and c by content.
 unfoldable pub frontWords : (A held content start count : ℕ) → List Bool
-frontWords A held content start count = leb held 1 ∷ leb content particles ∷ leb start A ∷ leb (start + count) A ∷ []
+frontWords A held content start count = leb held mostHeld ∷ leb content particles ∷ leb start A ∷ leb (start + count) A ∷ []
 
 unfoldable pub unusedWords : (b c : ℕ) → List Bool
 unusedWords b c = eqb b 0 ∷ eqb c 0 ∷ []

@@ -19,6 +19,8 @@ use Rattle.table.specs.declared.answers.Particle.the-variants.{Element, 
 use Rattle.table.specs.declared.answers.Attribute as code·attribute
 use Rattle.table.specs.declared.answers.Span as code·span
 use Rattle.table.specs.declared.answers.TypeList as code·types
+use Rattle.table.specs.declared.answers.Setting as code·setting
+use Rattle.table.specs.Setting.{Setting}
 
 abbrev pub verdictIs : code.Verdict → Verdict
 verdictIs Right = right
@@ -50,3 +52,7 @@ listedAt r k = cond (r .paired) (r .first + 2 * k) (r .first + k)
 pub record Listed (l types : List ℕ) (r : code·types.TypeList) : Type 0 where
   pub count-is : r .count ≡ length types
   pub each : (k : ℕ) → k < r .count → wordAt l (listedAt r k) ≡ getD types k 0
+
+-- what became of setting a mark, with the words that are left
+abbrev pub settingIs : code·setting.Setting → List ℕ → Setting
+settingIs r words = record { number = r .number; place = r .place; words = words }

@@ -42,3 +42,9 @@ pub enum Particle {
     Choice(u32, u32),
     Occurs(u32, u32, u32),
 }
+
+// What became of setting a mark: the number, and the place of the first word at fault.
+pub struct Setting {
+    pub number: u32,
+    pub place: usize,
+}

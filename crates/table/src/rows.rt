@@ -31,11 +31,15 @@ pub fn types(table: &[u32]) -> u32
     word(table, header::TYPES)
 }
 
-// Whether type t is held.
-pub fn held(table: &[u32], t: u32) -> bool
-    ensures { λ r. ⌜ r ≡ heldOf (now (table .entry)) t ⌝ }
+// Whether a party holds type t: its bit of the held word. A word has no bit 32.
+pub fn held(table: &[u32], party: u32, t: u32) -> bool
+    ensures { λ r. ⌜ r ≡ heldOf (now (table .entry)) party t ⌝ }
 {
-    word(table, type_at(t)) == 1
+    let marks = word(table, type_at(t));
+    if party < 32 {
+        return (marks >> party) % 2 == 1;
+    }
+    false
 }
 
 // The content of type t.

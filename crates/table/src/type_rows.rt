@@ -16,7 +16,7 @@ ghost use Rattle.table.specs.Views.{verdictIs};
 fn front(attributes: u32, held: u32, content: u32, start: u32, count: u32) -> Verdict
     ensures { λ r. ⌜ verdictIs r ≡ first 0 (frontWords attributes held content start count) ⌝ }
 {
-    if 1 < held {
+    if limit::MOST_HELD < held {
         return Verdict::Wrong(0);
     }
     if content::PARTICLES < content {

@@ -1,6 +1,6 @@
 // Runs the vectors from standard input through the proved code, and prints the answer of each.
 // A code case is a byte below 32 that says what is asked (`ask`), the number of its bytes, five words, the highest byte first, and the bytes.
-// A payload case is the byte 32, a byte 0, six words (table words, payload bytes, root name, root type, event words and text bytes lent), the table,
+// A payload case is the byte 32, the party's byte, six words (table words, payload bytes, root name, root type, event words and text bytes lent), the table,
 // and the payload (`payload`).
 mod ask;
 mod payload;
@@ -74,11 +74,20 @@ fn payload_case(s: &[u8], at: usize) -> usize
         return cut_off(s);
     }
     let end = from + bytes;
+    let party = wide(s[at + 1]);
     let name = word(s, at + 10);
     let t = word(s, at + 14);
     let events = word(s, at + 18) as usize;
     let texts = word(s, at + 22) as usize;
-    tell_reading(&s[table..from], name, t, &s[from..end], 4 * events, texts);
+    tell_reading(
+        &s[table..from],
+        party,
+        name,
+        t,
+        &s[from..end],
+        4 * events,
+        texts,
+    );
     end
 }
 

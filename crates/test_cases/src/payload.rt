@@ -120,30 +120,54 @@ fn tell(number: u32, events: &[u8], texts: &[u8], area: &[u8; limit::AREA]) {
 }
 
 // Reads a payload into lent events and texts.
-fn read_into(table: &[u8], name: u32, t: u32, payload: &[u8], events: &mut [u8], texts: &mut [u8]) {
+fn read_into(
+    table: &[u8],
+    party: u32,
+    name: u32,
+    t: u32,
+    payload: &[u8],
+    events: &mut [u8],
+    texts: &mut [u8],
+) {
     let mut area = [165u8; limit::AREA];
-    let number = bim_read(table, name, t, payload, events, texts, &mut area);
+    let number = bim_read(table, party, name, t, payload, events, texts, &mut area);
     tell(number, events, texts, &area);
 }
 
 // Lends so many bytes for events and for texts.
-fn lend(table: &[u8], name: u32, t: u32, payload: &[u8], e: usize, x: usize)
+fn lend(table: &[u8], party: u32, name: u32, t: u32, payload: &[u8], e: usize, x: usize)
     requires { ⌜ (e ≤ 49152) × (x ≤ 8192) ⌝ }
 {
     let mut events = [165u8; 49152];
     let mut texts = [165u8; limit::MOST_PAYLOAD];
-    read_into(table, name, t, payload, &mut events[..e], &mut texts[..x]);
+    read_into(
+        table,
+        party,
+        name,
+        t,
+        payload,
+        &mut events[..e],
+        &mut texts[..x],
+    );
 }
 
 // Reads a payload with so many bytes lent for events and for texts, as many as there are here.
-pub fn tell_reading(table: &[u8], name: u32, t: u32, payload: &[u8], e: usize, x: usize) {
+pub fn tell_reading(
+    table: &[u8],
+    party: u32,
+    name: u32,
+    t: u32,
+    payload: &[u8],
+    e: usize,
+    x: usize,
+) {
     if 49152 < e {
         return too_much();
     }
     if limit::MOST_PAYLOAD < x {
         return too_much();
     }
-    lend(table, name, t, payload, e, x);
+    lend(table, party, name, t, payload, e, x);
 }
 
 fn too_much() {

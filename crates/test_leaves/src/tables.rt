@@ -37,8 +37,8 @@ pub extern "C" fn probe_types(words: &[u32]) -> u32 {
 }
 
 #[no_mangle]
-pub extern "C" fn probe_held(words: &[u32], t: u32) -> u32 {
-    table::rows::held(words, t) as u32
+pub extern "C" fn probe_held(words: &[u32], party: u32, t: u32) -> u32 {
+    table::rows::held(words, party, t) as u32
 }
 
 // The content of type t: 0 nothing; 1 a simple kind with its parameters; 2 a particle row.

@@ -1,6 +1,6 @@
 -- DEMAND 3, of the entry `reading`, over words and bytes: what one who holds less may say. One payload, root and output room; two valid tables alike
 -- but for held marks, the second holding all that the first holds.
-use Prim.Native.Nat.{ℕ, _*_}
+use Prim.Native.Nat.{ℕ, _*_, _/_, _%_, _^_}
 use mathlib.Core.Path.{_≡_, refl, sym, ap, _∙_}
 use mathlib.Core.List.{List, [], _∷_, reverse}
 use mathlib.Core.Bool.{Bool, true, false, cond}
@@ -29,13 +29,13 @@ use Rattle.model.specs.Entries.{Entered, planOf}
 use Rattle.model.proofs.Entries.{reading-entered, reading-found}
 use Rattle.theorems.specs.Demand3.{Pair, newOf, saysLess, Lengths, FirstIs}
 
-module _ (l l′ : List ℕ) (pair : Pair l l′) where
+module _ (l l′ : List ℕ) (party : ℕ) (pair : Pair l l′ party) where
   -- a number that is no type has no mark
-  holds-all : (t : ℕ) → heldOf l t ≡ true → heldOf l′ t ≡ true
+  holds-all : (t : ℕ) → heldOf l party t ≡ true → heldOf l′ party t ≡ true
   unfolding heldOf tableOf
   holds-all t h = elim (decLt t (wordAt l 1)) [
     | yes k ↦ pair .holds t k h
-    | no k ↦ ap (λ (w : ℕ). eqb w 1) (sym (pair .alike .same (typeAt t) (λ x. let e = x .2 in let f = x .1 in omega arith))) ∙ h
+    | no k ↦ ap (λ (w : ℕ). eqb (w / 2 ^ party % 2) 1) (sym (pair .alike .same (typeAt t) (λ x. let e = x .2 in let f = x .1 in omega arith))) ∙ h
   ]
 
   module _ (name type : ℕ) (s : List ℕ) (words bytes : ℕ) where
@@ -48,23 +48,25 @@ module _ (l l′ : List ℕ) (pair : Pair l l′) where
     abbrev D : ℕ
     D = tableOf l .derivations
 
-    enters-first : Entered l′ name type → Entered l name type
+    enters-first : Entered l′ party name type → Entered l party name type
     enters-first h = record {
       table-right = pair .first-right;
       type-known = rw (← (ap (λ (T : Table). T .types) (table-same l l′ (pair .alike)))) at (h .type-known);
       name-small = h .name-small;
+      party-known = h .party-known;
     }
 
-    enters-second : Entered l name type → Entered l′ name type
+    enters-second : Entered l party name type → Entered l′ party name type
     enters-second h = record {
       table-right = pair .second-right;
       type-known = rw (ap (λ (T : Table). T .types) (table-same l l′ (pair .alike))) at (h .type-known);
       name-small = h .name-small;
+      party-known = h .party-known;
     }
 
     -- by either table the same is due, and the same modes are there
-    same-payload : payload (heldOf l′) (planOf l′ name type) (tableOf l′ .derivations) s room ≡ payload (heldOf l′) P D s room
-    same-payload = ap (λ (T : Table). payload (heldOf l′) (λ casting. rooted (tableIn casting T) name type) (T .derivations) s room) (sym (table-same l l′ (pair .alike)))
+    same-payload : payload (heldOf l′ party) (planOf l′ name type) (tableOf l′ .derivations) s room ≡ payload (heldOf l′ party) P D s room
+    same-payload = ap (λ (T : Table). payload (heldOf l′ party) (λ casting. rooted (tableIn casting T) name type) (T .derivations) s room) (sym (table-same l l′ (pair .alike)))
 
     said-reply : (pads : ℕ → Bool) (mode : Mode) (o : Option (Mark × Path)) (ns : Nodes) (q : ℕ) → pads q ≡ true → replied pads mode (said o ns q) ≡ saysLess mode o ns q
     unfolding replied padded said saysLess
@@ -72,33 +74,33 @@ module _ (l l′ : List ℕ) (pair : Pair l l′) where
     said-reply pads mode (some (m, π)) ns q e = refl
 
     -- (a) If the second accepts: what the first says
-    pub second-accepts : (mode : Mode) (ns : Nodes) (q : ℕ) → reading l′ name type s words bytes ≡ accepted mode ns q
-        → reading l name type s words bytes ≡ saysLess mode (firstBare (outermost (newOf l l′) [] ns)) (replaced (newOf l l′) ns) q
+    pub second-accepts : (mode : Mode) (ns : Nodes) (q : ℕ) → reading l′ party name type s words bytes ≡ accepted mode ns q
+        → reading l party name type s words bytes ≡ saysLess mode (firstBare (outermost (newOf l l′ party) [] ns)) (replaced (newOf l l′ party) ns) q
     unfolding payload inMode rootIn
     second-accepts mode ns q e =
-        let a = reading-found l′ name type s words bytes mode ns q e in
-        let e′ : payload (heldOf l′) P D s room ≡ accepted mode ns q = sym same-payload ∙ a .reads in
-        let i = payload-found (heldOf l′) P D s room mode ns q e′ in
+        let a = reading-found l′ party name type s words bytes mode ns q e in
+        let e′ : payload (heldOf l′ party) P D s room ≡ accepted mode ns q = sym same-payload ∙ a .reads in
+        let i = payload-found (heldOf l′ party) P D s room mode ns q e′ in
         let f = i .found in
-        let shown = is-shown (bitAt s) (mode .lengths) (heldOf l) (heldOf l′) holds-all (f .is) room [] (8 * length s) q (f .stands) (f .within) (f .slots) (f .bytes) ∙ walk-said (newOf l l′) [] ns q in
-        reading-entered l name type s words bytes (enters-first (a .enters))
-        ∙ rw (moded-then D s mode (i .mode-byte), shown) (said-reply (padding s) mode (firstBare (outermost (newOf l l′) [] ns)) (replaced (newOf l l′) ns) q (padded-then s q (f .within) (i .pads)))
+        let shown = is-shown (bitAt s) (mode .lengths) (heldOf l party) (heldOf l′ party) holds-all (f .is) room [] (8 * length s) q (f .stands) (f .within) (f .slots) (f .bytes) ∙ walk-said (newOf l l′ party) [] ns q in
+        reading-entered l party name type s words bytes (enters-first (a .enters))
+        ∙ rw (moded-then D s mode (i .mode-byte), shown) (said-reply (padding s) mode (firstBare (outermost (newOf l l′ party) [] ns)) (replaced (newOf l l′ party) ns) q (padded-then s q (f .within) (i .pads)))
 
     -- (b) If only the first accepts: the second refuses while an element that the first shows as a Blank is still open, or for lack of output room
-    pub only-first-accepts : (mode : Mode) (ns : Nodes) (q n p : ℕ) (ρ : Path) → reading l name type s words bytes ≡ accepted mode ns q → reading l′ name type s words bytes ≡ declined n p ρ
-        → Excuse (newOf l l′) [] ns n p ρ
+    pub only-first-accepts : (mode : Mode) (ns : Nodes) (q n p : ℕ) (ρ : Path) → reading l party name type s words bytes ≡ accepted mode ns q → reading l′ party name type s words bytes ≡ declined n p ρ
+        → Excuse (newOf l l′ party) [] ns n p ρ
     unfolding payload inMode rootIn replied padded
     only-first-accepts mode ns q n p ρ e e′ =
-        let a = reading-found l name type s words bytes mode ns q e in
-        let i = payload-found (heldOf l) P D s room mode ns q (a .reads) in
+        let a = reading-found l party name type s words bytes mode ns q e in
+        let i = payload-found (heldOf l party) P D s room mode ns q (a .reads) in
         let f = i .found in
-        let read-on : payload (heldOf l′) P D s room ≡ declined n p ρ =
-        sym same-payload ∙ sym (reading-entered l′ name type s words bytes (enters-second (a .enters))) ∙ e′ in
-        go (read (bitAt s) (mode .lengths) (heldOf l′) (P (mode .casting)) room [] (8 * length s) 8)
-        (is-followed (bitAt s) (bit-lt s) (mode .lengths) (heldOf l) (heldOf l′) holds-all (f .is) room [] (8 * length s) q (f .stands) (f .within))
+        let read-on : payload (heldOf l′ party) P D s room ≡ declined n p ρ =
+        sym same-payload ∙ sym (reading-entered l′ party name type s words bytes (enters-second (a .enters))) ∙ e′ in
+        go (read (bitAt s) (mode .lengths) (heldOf l′ party) (P (mode .casting)) room [] (8 * length s) 8)
+        (is-followed (bitAt s) (bit-lt s) (mode .lengths) (heldOf l party) (heldOf l′ party) holds-all (f .is) room [] (8 * length s) q (f .stands) (f .within))
         (padded-then s q (f .within) (i .pads)) (rw (moded-then D s mode (i .mode-byte)) at read-on)
       where
-        go : (o : Answer) → Follows (newOf l l′) [] ns q o → padding s q ≡ true → replied (padding s) mode o ≡ declined n p ρ → Excuse (newOf l l′) [] ns n p ρ
+        go : (o : Answer) → Follows (newOf l l′ party) [] ns q o → padding s q ≡ true → replied (padding s) mode o ≡ declined n p ρ → Excuse (newOf l l′ party) [] ns n p ρ
         go (given ms k) f h e = absurd (let y = rw (f, h) at e in let z : _≡_ {A = ℕ} 0 1 = cc in omega arith)
         go (refused m k π) f h e =
             let x : m ≡ n = cc in

@@ -24,19 +24,19 @@ first-found ((k, ρ) ∷ before) later m π h e = rw (h .0) (first-found before 
 some-first : (L : List (Mark × Path)) (m : Mark) (π : Path) → FirstIs L m π → firstBare L ≡ some (m, π)
 some-first L m π f = ap firstBare (f .splits) ∙ first-found (f .before) (f .later) m π (f .lengths) (f .bare)
 
-module _ (l l′ : List ℕ) (pair : Pair l l′) (name type : ℕ) (s : List ℕ) (words bytes : ℕ) (mode : Mode) (ns : Nodes) (q : ℕ) (e : reading l′ name type s words bytes ≡ accepted mode ns q) where
+module _ (l l′ : List ℕ) (party : ℕ) (pair : Pair l l′ party) (name type : ℕ) (s : List ℕ) (words bytes : ℕ) (mode : Mode) (ns : Nodes) (q : ℕ) (e : reading l′ party name type s words bytes ≡ accepted mode ns q) where
   -- the outermost newly held elements of what the second read, in order, each with the path around it
   abbrev pub Newly : List (Mark × Path)
-  Newly = outermost (newOf l l′) [] ns
+  Newly = outermost (newOf l l′ party) [] ns
 
   abbrev pub first : Reply
-  first = reading l name type s words bytes
+  first = reading l party name type s words bytes
 
-  said : first ≡ saysLess mode (firstBare Newly) (replaced (newOf l l′) ns) q
-  said = second-accepts l l′ pair name type s words bytes mode ns q e
+  said : first ≡ saysLess mode (firstBare Newly) (replaced (newOf l l′ party) ns) q
+  said = second-accepts l l′ party pair name type s words bytes mode ns q e
 
   -- all of them have a length: the second's tree with each replaced; the same mode and bits used
-  pub first-gives : Lengths Newly → first ≡ accepted mode (replaced (newOf l l′) ns) q
+  pub first-gives : Lengths Newly → first ≡ accepted mode (replaced (newOf l l′ party) ns) q
   unfolding saysLess
   first-gives h = said ∙ rw (none-first Newly h)
 
@@ -58,7 +58,7 @@ module _ (l l′ : List ℕ) (pair : Pair l l′) (name type : ℕ) (s : List �
   unfolding saysLess
   refuses-only n p ρ z = go (firstBare Newly) refl (sym z ∙ said)
     where
-      go : (o : Option (Mark × Path)) → firstBare Newly ≡ o → declined n p ρ ≡ saysLess mode o (replaced (newOf l l′) ns) q → Bare n p ρ
+      go : (o : Option (Mark × Path)) → firstBare Newly ≡ o → declined n p ρ ≡ saysLess mode o (replaced (newOf l l′ party) ns) q → Bare n p ρ
       go none y z = absurd (let w : _≡_ {A = ℕ} 0 1 = cc in omega arith)
       go (some (m, π)) y z = record { element = m; around = π; is-first = first-some Newly m π y; number = cc; place = cc; path = cc }
 
@@ -67,14 +67,14 @@ module _ (l l′ : List ℕ) (pair : Pair l l′) (name type : ℕ) (s : List �
   pub record Replaced (mode′ : Mode) (ms : Nodes) (q′ : ℕ) : Type 0 where
     pub lengths : Lengths Newly
     pub modes : mode′ ≡ mode
-    pub tree : ms ≡ replaced (newOf l l′) ns
+    pub tree : ms ≡ replaced (newOf l l′ party) ns
     pub used : q′ ≡ q
 
   pub gives-only : (mode′ : Mode) (ms : Nodes) (q′ : ℕ) → first ≡ accepted mode′ ms q′ → Replaced mode′ ms q′
   unfolding saysLess
   gives-only mode′ ms q′ z = go (firstBare Newly) refl (sym z ∙ said)
     where
-      go : (o : Option (Mark × Path)) → firstBare Newly ≡ o → accepted mode′ ms q′ ≡ saysLess mode o (replaced (newOf l l′) ns) q → Replaced mode′ ms q′
+      go : (o : Option (Mark × Path)) → firstBare Newly ≡ o → accepted mode′ ms q′ ≡ saysLess mode o (replaced (newOf l l′ party) ns) q → Replaced mode′ ms q′
       go none x y = record { lengths = first-none Newly x; modes = cc; tree = cc; used = cc }
       go (some (m, π)) x y = absurd (let w : _≡_ {A = ℕ} 0 1 = cc in omega arith)
 

@@ -13,6 +13,7 @@ pub mod NamedWriting
 mod Neat
 mod One
 mod Own
+pub mod Parties
 mod Parts
 mod Payload
 pub mod Prefix

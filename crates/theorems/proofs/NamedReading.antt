@@ -53,31 +53,31 @@ mode-named D s =
     named-most 1 (length s) 3 _ (omega arith)
     (named-most (length s) 8192 3 _ (omega arith) (by-named modeByte (modesFor D) (getD s 0 0) refusal.modeByte (omega arith)))
 
-pub asked-named : (types name type : ℕ) → Named (asked types name type)
-unfolding asked atMost guard _>>_
-asked-named types name type = go (leb (suc type) types) (leb name 65535)
+pub asked-named : (types party name type : ℕ) → Named (asked types party name type)
+unfolding asked atMost guard
+asked-named types party name type =
+    named-most (suc type) types 2 _ (omega arith) (named-most name 65535 2 _ (omega arith) (guard-named (leb (suc party) 8)))
   where
-    go : (t u : Bool) → Named (guard t 2 >> guard u 2)
-    go true true = tt
-    go true false = omega arith
-    go false u = omega arith
+    guard-named : (t : Bool) → Named (guard t 26)
+    guard-named true = tt
+    guard-named false = omega arith
 
-replies-numbered : {l : List ℕ} {name type : ℕ} {s : List ℕ} {words bytes n p : ℕ} {π : Path}
-    → Replies l name type s words bytes (declined n p π) → 1 ≤ n
+replies-numbered : {l : List ℕ} {party name type : ℕ} {s : List ℕ} {words bytes n p : ℕ} {π : Path}
+    → Replies l party name type s words bytes (declined n p π) → 1 ≤ n
 replies-numbered (no-table v) = omega arith
-replies-numbered {l} {name} {type} (no-root v a) = rw a at (asked-named (tableOf l .types) name type)
+replies-numbered {l} {party} {name} {type} (no-root v a) = rw a at (asked-named (tableOf l .types) party name type)
 replies-numbered {l} {s} (no-mode v a m) = rw m at (mode-named (tableOf l .derivations) s)
 replies-numbered (stopped {mode} i r) = refuses-numbered _ (mode .lengths) _ r
 replies-numbered (unpadded i r e) = omega arith
 
 -- 0 is an acceptance
-pub zero-accepts : (l : List ℕ) (name type : ℕ) (s : List ℕ) (words bytes : ℕ)
-    → outcome (reading l name type s words bytes) .number ≡ 0 → Accepts (reading l name type s words bytes)
+pub zero-accepts : (l : List ℕ) (party name type : ℕ) (s : List ℕ) (words bytes : ℕ)
+    → outcome (reading l party name type s words bytes) .number ≡ 0 → Accepts (reading l party name type s words bytes)
 unfolding outcome
-zero-accepts l name type s words bytes e =
-    go (reading l name type s words bytes) refl (reading-replies l name type s words bytes) e
+zero-accepts l party name type s words bytes e =
+    go (reading l party name type s words bytes) refl (reading-replies l party name type s words bytes) e
   where
-    go : (R : Reply) → reading l name type s words bytes ≡ R → Replies l name type s words bytes R
-        → outcome R .number ≡ 0 → Accepts (reading l name type s words bytes)
+    go : (R : Reply) → reading l party name type s words bytes ≡ R → Replies l party name type s words bytes R
+        → outcome R .number ≡ 0 → Accepts (reading l party name type s words bytes)
     go (accepted mode ns q) x h z = record { mode = mode; list = ns; bits = q; is = x }
     go (declined n p π) x h z = absurd (let k = replies-numbered h in omega arith)

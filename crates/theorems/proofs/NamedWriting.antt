@@ -69,19 +69,19 @@ mode-asked-named : (D n : ℕ) → Named (modeAsked D n)
 unfolding modeAsked
 mode-asked-named D n = by-named modeNumber (modesFor D) n writeMode (omega arith)
 
-pub writing-spoken : (l : List ℕ) (name type mode : ℕ) (L X : List ℕ) (room : ℕ) → Spoken (writing l name type mode L X room)
+pub writing-spoken : (l : List ℕ) (party name type mode : ℕ) (L X : List ℕ) (room : ℕ) → Spoken (writing l party name type mode L X room)
 unfolding writing written
-writing-spoken l name type mode L X room =
+writing-spoken l party name type mode L X room =
     verdict-spoken (verdict l) _
-    (or-spoken (asked (tableOf l .types) name type) _ (asked-named (tableOf l .types) name type)
+    (or-spoken (asked (tableOf l .types) party name type) _ (asked-named (tableOf l .types) party name type)
     (λ u. or-spoken (modeAsked (tableOf l .derivations) mode) _ (mode-asked-named (tableOf l .derivations) mode)
-    (λ m. shaped-spoken L _ (spent-spoken _ _ _ (write-is (m .lengths) (heldOf l) (planOf l name type (m .casting)) (eventsFrom L 0 (length L / 4)) X .numbered) (roomed-spoken room m)))))
+    (λ m. shaped-spoken L _ (spent-spoken _ _ _ (write-is (m .lengths) (heldOf l party) (planOf l name type (m .casting)) (eventsFrom L 0 (length L / 4)) X .numbered) (roomed-spoken room m)))))
 
 -- 0 is a payload
-pub zero-makes : (l : List ℕ) (name type mode : ℕ) (L X : List ℕ) (room events octets : ℕ) → outcomeMade mode events octets (writing l name type mode L X room) .number ≡ 0 → Makes (writing l name type mode L X room)
+pub zero-makes : (l : List ℕ) (party name type mode : ℕ) (L X : List ℕ) (room events octets : ℕ) → outcomeMade mode events octets (writing l party name type mode L X room) .number ≡ 0 → Makes (writing l party name type mode L X room)
 unfolding outcomeMade
-zero-makes l name type mode L X room events octets e = go (writing l name type mode L X room) refl (writing-spoken l name type mode L X room) e
+zero-makes l party name type mode L X room events octets e = go (writing l party name type mode L X room) refl (writing-spoken l party name type mode L X room) e
   where
-    go : (m : Made) → writing l name type mode L X room ≡ m → Spoken m → outcomeMade mode events octets m .number ≡ 0 → Makes (writing l name type mode L X room)
+    go : (m : Made) → writing l party name type mode L X room ≡ m → Spoken m → outcomeMade mode events octets m .number ≡ 0 → Makes (writing l party name type mode L X room)
     go (made s bits) x h z = record { payload = s; bits = bits; is = x }
     go (unmade n p) x h z = absurd (omega arith)

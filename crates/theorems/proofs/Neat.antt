@@ -84,7 +84,7 @@ module _ (T : Table) (P : ℕ) (bounded : Bounded T P) where
   plan-neat zero r h rest k = tt
   plan-neat (suc d) r h rest k = due-neat (plan T d) (plan-neat d) r h rest k
 
-pub right-neat : {l : List ℕ} {name type : ℕ} → Entered l name type → (casting : Bool) → Neat (planOf l name type casting)
+pub right-neat : {l : List ℕ} {party name type : ℕ} → Entered l party name type → (casting : Bool) → Neat (planOf l name type casting)
 right-neat {l} {name} {type} h casting =
     let T = tableIn casting (tableOf l) in
     let P = particlesIn l in

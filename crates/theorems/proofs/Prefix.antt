@@ -86,12 +86,12 @@ module _ {A : Type 0} (f g : A → List ℕ) (filled : (a : A) → 1 ≤ length 
       let rest = append-cancel-left (f b) (flatMap f S) (flatMap f T) (sym (ap (λ (m : List ℕ). m ++ flatMap f S) (z .0)) ∙ e) in
       ap₂ _∷_ (z .1) (apart S T rest)
 
-module _ (l : List ℕ) (name type : ℕ) {words bytes : ℕ} where
-  sound : (s : Payload l name type words bytes) → IsReading l name type (s .octets) words bytes (s .mode) (s .tree) (s .used)
-  sound s = reading-sound l name type (s .octets) words bytes (s .mode) (s .tree) (s .used) (s .reads)
+module _ (l : List ℕ) (party name type : ℕ) {words bytes : ℕ} where
+  sound : (s : Payload l party name type words bytes) → IsReading l party name type (s .octets) words bytes (s .mode) (s .tree) (s .used)
+  sound s = reading-sound l party name type (s .octets) words bytes (s .mode) (s .tree) (s .used) (s .reads)
 
   -- byte 0 is among the used bits, so there is one mode
-  one-mode : (s t : Payload l name type words bytes) → ((i : ℕ) → i < 8 → bitAt (s .octets) i ≡ bitAt (t .octets) i) → s .mode ≡ t .mode
+  one-mode : (s t : Payload l party name type words bytes) → ((i : ℕ) → i < 8 → bitAt (s .octets) i ≡ bitAt (t .octets) i) → s .mode ≡ t .mode
   one-mode s t same =
       let D = tableOf l .derivations in
       let h = sound s .is .mode-byte in
@@ -107,35 +107,35 @@ module _ (l : List ℕ) (name type : ℕ) {words bytes : ℕ} where
       cc
 
   -- what the grammar has for the used bits of s stands in t, where it has nothing else; and bytes are those of their bits
-  never-begins : (s t : Payload l name type words bytes) → ((i : ℕ) → i < s .used → bitAt (s .octets) i ≡ bitAt (t .octets) i) → Same l name type s t
+  never-begins : (s t : Payload l party name type words bytes) → ((i : ℕ) → i < s .used → bitAt (s .octets) i ≡ bitAt (t .octets) i) → Same l party name type s t
   never-begins s t same =
       let h = sound s .is in
       let next = h .found .stands .next in
       let mode = one-mode s t (λ i z. same i (omega arith)) in
-      let reads : reading l name type (t .octets) words bytes ≡ accepted (s .mode) (t .tree) (t .used) =
+      let reads : reading l party name type (t .octets) words bytes ≡ accepted (s .mode) (t .tree) (t .used) =
       t .reads ∙ ap (λ (m : Mode). accepted m (t .tree) (t .used)) (sym mode) in
-      let k = reading-sound l name type (t .octets) words bytes (s .mode) (t .tree) (t .used) reads .is in
+      let k = reading-sound l party name type (t .octets) words bytes (s .mode) (t .tree) (t .used) reads .is in
       let there = at-same (λ i a z. sym (same i z)) (h .found .stands) in
-      let one = unambiguous (s .mode .lengths) (heldOf l) (planOf l name type (s .mode .casting)) (bitAt (t .octets)) (h .found .is) there (k .found .is) (k .found .stands) in
+      let one = unambiguous (s .mode .lengths) (heldOf l party) (planOf l name type (s .mode .casting)) (bitAt (t .octets)) (h .found .is) there (k .found .is) (k .found .stands) in
       let bits = one .bits in
       let room = roomOf words bytes in
-      let a = payload-bytes (heldOf l) (planOf l name type) (tableOf l .derivations) (s .octets) room (s .mode) (s .tree) (s .used) (s .small) h in
-      let b = payload-bytes (heldOf l) (planOf l name type) (tableOf l .derivations) (t .octets) room (s .mode) (t .tree) (t .used) (t .small) k in
+      let a = payload-bytes (heldOf l party) (planOf l name type) (tableOf l .derivations) (s .octets) room (s .mode) (s .tree) (s .used) (s .small) h in
+      let b = payload-bytes (heldOf l party) (planOf l name type) (tableOf l .derivations) (t .octets) room (s .mode) (t .tree) (t .used) (t .small) k in
       record { octets = cc; mode = mode; tree = one .trees; used = one .next }
 
   -- a payload is what is written of its list, in which no fourth word is looked at
-  written-back : (s : Payload l name type words bytes) → NoBlank (events (s .tree)) → Shortest l name type s
-      → written (heldOf l) (planOf l name type (s .mode .casting)) (s .mode) (map bare (events (s .tree))) (texts (s .tree)) mostPayload ≡ made (s .octets) (s .used)
+  written-back : (s : Payload l party name type words bytes) → NoBlank (events (s .tree)) → Shortest l party name type s
+      → written (heldOf l party) (planOf l name type (s .mode .casting)) (s .mode) (map bare (events (s .tree))) (texts (s .tree)) mostPayload ≡ made (s .octets) (s .used)
   written-back s none short =
       let L = eventWords (events (s .tree)) in
-      let r = had l name type (s .octets) words bytes (s .mode) (s .tree) (s .used) (s .reads) in
+      let r = had l party name type (s .octets) words bytes (s .mode) (s .tree) (s .used) (s .reads) in
       let asked = mode-asked (tableOf l .derivations) (s .mode) (r .payload .mode-byte .casts) in
-      let w = writing-entered l name type _ L (texts (s .tree)) mostPayload (s .mode) (r .enters) asked (r .shape) in
-      let m = read-write l name type (s .octets) words bytes mostPayload (s .mode) (s .tree) (s .used) (s .small) (s .reads) none short (r .few) in
+      let w = writing-entered l party name type _ L (texts (s .tree)) mostPayload (s .mode) (r .enters) asked (r .shape) in
+      let m = read-write l party name type (s .octets) words bytes mostPayload (s .mode) (s .tree) (s .used) (s .small) (s .reads) none short (r .few) in
       rw (← (list-back (events (s .tree)))) (sym w ∙ m)
 
   -- the reading goes on past the payload's end no further than it did, and a byte or more is left there
-  rest-is-17 : (s : Payload l name type words bytes) (r : List ℕ) → 1 ≤ length r → length (s .octets ++ r) ≤ mostPayload → Rest l name type s r
+  rest-is-17 : (s : Payload l party name type words bytes) (r : List ℕ) → 1 ≤ length r → length (s .octets ++ r) ≤ mostPayload → Rest l party name type s r
   rest-is-17 s r some few =
       let i = sound s in
       let h = i .is in
@@ -149,16 +149,16 @@ module _ (l : List ℕ) (name type : ℕ) {words bytes : ℕ} where
       let byte : getD all 0 0 ≡ getD (s .octets) 0 0 = List·getD-append (s .octets) r 0 0 (omega arith) in
       let moded : Moded D all (s .mode) = record { filled = omega arith; few = few; byte = byte ∙ h .mode-byte .byte; casts = h .mode-byte .casts } in
       let there = at-same (λ j a z. bits-append (s .octets) r j (omega arith)) (f .stands) in
-      let reads = is-read (bitAt all) (s .mode .lengths) (heldOf l) (f .is) (roomOf words bytes) [] (8 * length all) (s .used) there (omega arith) (f .slots) (f .bytes) in
+      let reads = is-read (bitAt all) (s .mode .lengths) (heldOf l party) (f .is) (roomOf words bytes) [] (8 * length all) (s .used) there (omega arith) (f .slots) (f .bytes) in
       let left = padding-many all (s .used) (omega arith) in
       let size : (s .used + 7) / 8 ≡ length (s .octets) = omega arith in
       record {
-        refuses = reading-left l name type all words bytes (i .enters) (s .mode) (moded-then D all (s .mode) moded) (given (s .tree) (s .used)) reads (s .tree) (s .used) refl left;
+        refuses = reading-left l party name type all words bytes (i .enters) (s .mode) (moded-then D all (s .mode) moded) (given (s .tree) (s .used)) reads (s .tree) (s .used) refl left;
         first = rw size (take-all (s .octets) r);
         second = rw size (drop-all (s .octets) r);
       }
 
-  bytes-never-begin : (s t : Payload l name type words bytes) (r : List ℕ) → t .octets ≡ s .octets ++ r → r ≡ []
+  bytes-never-begin : (s t : Payload l party name type words bytes) (r : List ℕ) → t .octets ≡ s .octets ++ r → r ≡ []
   bytes-never-begin s t [] e = refl
   bytes-never-begin s t (x ∷ r) e =
       let n = ap length e in
@@ -166,37 +166,37 @@ module _ (l : List ℕ) (name type : ℕ) {words bytes : ℕ} where
       let reads = t .reads in
       absurd (let z : _≡_ {A = ℕ} 0 1 = cc in omega arith)
 
-  bytes-alone : (s t : Payload l name type words bytes) → Begins (s .octets) (t .octets) → s .octets ≡ t .octets
+  bytes-alone : (s t : Payload l party name type words bytes) → Begins (s .octets) (t .octets) → s .octets ≡ t .octets
   bytes-alone s t b = sym (b .is ∙ ap (λ (m : List ℕ). s .octets ++ m) (bytes-never-begin s t (b .more) (b .is)) ∙ append-nil (s .octets))
 
-  bits-alone : (s t : Payload l name type words bytes) → Begins (usedBits l name type s) (usedBits l name type t) → Same l name type s t
+  bits-alone : (s t : Payload l party name type words bytes) → Begins (usedBits l party name type s) (usedBits l party name type t) → Same l party name type s t
   bits-alone s t b = never-begins s t go
     where
       go : (i : ℕ) → i < s .used → bitAt (s .octets) i ≡ bitAt (t .octets) i
       go i h =
           let n = ap length (b .is) in
-          let m = length-append (usedBits l name type s) (b .more) in
+          let m = length-append (usedBits l party name type s) (b .more) in
           let p = from-length (s .octets) 0 (s .used) in
           let q = from-length (t .octets) 0 (t .used) in
           sym (from-bit (s .octets) (s .used) i h)
-          ∙ sym (List·getD-append (usedBits l name type s) (b .more) 0 i (omega arith))
+          ∙ sym (List·getD-append (usedBits l party name type s) (b .more) 0 i (omega arith))
           ∙ sym (ap (λ (w : List ℕ). source w i) (b .is))
           ∙ from-bit (t .octets) (t .used) i (omega arith)
 
-pub prefix : (l : List ℕ) (name type : ℕ) → Prefix l name type
-prefix l name type = record {
-  never-begins = never-begins l name type;
+pub prefix : (l : List ℕ) (party name type : ℕ) → Prefix l party name type
+prefix l party name type = record {
+  never-begins = never-begins l party name type;
   same-list-same-bytes = λ s t mode none list text short short′.
       let none′ = none-bare (events (t .tree)) (rw list at (bare-none (events (s .tree)) none)) in
-      let a = written-back l name type s none short in
-      let b = written-back l name type t none′ short′ in
+      let a = written-back l party name type s none short in
+      let b = written-back l party name type t none′ short′ in
       cc;
-  bytes-never-begin = bytes-never-begin l name type;
+  bytes-never-begin = bytes-never-begin l party name type;
   split-once = λ S T e.
-      apart (λ s. s .octets) (λ s. s .octets) (λ s. sound l name type s .is .mode-byte .filled) (λ s t b. let z = bytes-alone l name type s t b in (z, z)) S T e;
+      apart (λ s. s .octets) (λ s. s .octets) (λ s. sound l party name type s .is .mode-byte .filled) (λ s t b. let z = bytes-alone l party name type s t b in (z, z)) S T e;
   split-bits-once = λ S T e.
-      apart (usedBits l name type) (λ s. s .octets)
-      (λ s. omega (arith, from-length (s .octets) 0 (s .used), sound l name type s .is .found .stands .next))
-      (λ s t b. let z = bits-alone l name type s t b in (ap₂ (λ (m : List ℕ) (n : ℕ). bitsFrom m 0 n) (z .octets) (z .used), z .octets)) S T e;
-  rest-is-17 = rest-is-17 l name type;
+      apart (usedBits l party name type) (λ s. s .octets)
+      (λ s. omega (arith, from-length (s .octets) 0 (s .used), sound l party name type s .is .found .stands .next))
+      (λ s t b. let z = bits-alone l party name type s t b in (ap₂ (λ (m : List ℕ) (n : ℕ). bitsFrom m 0 n) (z .octets) (z .used), z .octets)) S T e;
+  rest-is-17 = rest-is-17 l party name type;
 }

@@ -23,30 +23,30 @@ use Rattle.model.proofs.Entries.{reading-entered, reading-found}
 use Rattle.theorems.proofs.Demand2.{sum-used}
 use Rattle.theorems.specs.Reader.{IsReading}
 
-module _ (l : List ℕ) (name type : ℕ) (s : List ℕ) (words bytes : ℕ) (mode : Mode) (ns : Nodes) (used : ℕ) where
-  pub reading-sound : reading l name type s words bytes ≡ accepted mode ns used → IsReading l name type s words bytes mode ns used
+module _ (l : List ℕ) (party name type : ℕ) (s : List ℕ) (words bytes : ℕ) (mode : Mode) (ns : Nodes) (used : ℕ) where
+  pub reading-sound : reading l party name type s words bytes ≡ accepted mode ns used → IsReading l party name type s words bytes mode ns used
   reading-sound e =
-      let f = reading-found l name type s words bytes mode ns used e in
-      record { enters = f .enters; is = payload-found (heldOf l) (planOf l name type) (tableOf l .derivations) s (roomOf words bytes) mode ns used (f .reads) }
+      let f = reading-found l party name type s words bytes mode ns used e in
+      record { enters = f .enters; is = payload-found (heldOf l party) (planOf l name type) (tableOf l .derivations) s (roomOf words bytes) mode ns used (f .reads) }
 
-  pub reading-complete : (IsReading l name type s words bytes mode ns used) → reading l name type s words bytes ≡ accepted mode ns used
+  pub reading-complete : (IsReading l party name type s words bytes mode ns used) → reading l party name type s words bytes ≡ accepted mode ns used
   reading-complete h =
-      reading-entered l name type s words bytes (h .enters) ∙ payload-reads (heldOf l) (planOf l name type) (tableOf l .derivations) s (roomOf words bytes) mode ns used (h .is)
+      reading-entered l party name type s words bytes (h .enters) ∙ payload-reads (heldOf l party) (planOf l name type) (tableOf l .derivations) s (roomOf words bytes) mode ns used (h .is)
 
-  module _ (e : reading l name type s words bytes ≡ accepted mode ns used) where
+  module _ (e : reading l party name type s words bytes ≡ accepted mode ns used) where
     -- content models and occurrence bounds, values of their kinds, held marks, flags, at most 64 rows open
-    pub list-follows : Model (tableIn (mode .casting) (tableOf l)) (mode .lengths) (heldOf l) (mostOpen - 1) (one name (only type)) (map bare (events ns)) (texts ns)
+    pub list-follows : Model (tableIn (mode .casting) (tableOf l)) (mode .lengths) (heldOf l party) (mostOpen - 1) (one name (only type)) (map bare (events ns)) (texts ns)
     list-follows =
         let f = reading-sound e .is .found in
         let T = tableIn (mode .casting) (tableOf l) in
-        one-model (mode .lengths) (heldOf l) T (mostOpen - 1) (row-model (mode .lengths) (heldOf l) T (mostOpen - 1)) name (only type) 8 ns (f .bits) (f .is)
+        one-model (mode .lengths) (heldOf l party) T (mostOpen - 1) (row-model (mode .lengths) (heldOf l party) T (mostOpen - 1)) name (only type) 8 ns (f .bits) (f .is)
 
     -- a Blank only of a type that is not held, an opened element only of one that is
-    pub blanks-exact : Exact (heldOf l) ns
+    pub blanks-exact : Exact (heldOf l party) ns
     blanks-exact = is-exact (reading-sound e .is .found .is)
 
     pub bits-add-up : 8 + total (events ns) ≡ used
-    bits-add-up = sum-used l name type s words bytes mode ns used e
+    bits-add-up = sum-used l party name type s words bytes mode ns used e
 
     -- what is given fits the lent buffers, and what is used the payload
     pub record Fitting : Type 0 where

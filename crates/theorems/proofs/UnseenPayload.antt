@@ -24,9 +24,9 @@ pub first-byte : (s : List ℕ) → AllBytes s → 1 ≤ length s → getD s 0 0
 first-byte [] o h = absurd (omega arith)
 first-byte (x ∷ s) o h = sym (byte-num x s (o .0))
 
-module _ (l : List ℕ) (name type : ℕ) (s s′ : List ℕ) (words bytes : ℕ) (mode : Mode) (ns : Nodes) (used : ℕ) where
-  pub reading-unseen : AllBytes s → AllBytes s′ → length s′ ≡ length s → (h : IsReading l name type s words bytes mode ns used)
-      → ((i : ℕ) → i < 8 * length s → (Unseen (h .is .found .is) i → ⊥) → bitAt s′ i ≡ bitAt s i) → reading l name type s′ words bytes ≡ accepted mode ns used
+module _ (l : List ℕ) (party name type : ℕ) (s s′ : List ℕ) (words bytes : ℕ) (mode : Mode) (ns : Nodes) (used : ℕ) where
+  pub reading-unseen : AllBytes s → AllBytes s′ → length s′ ≡ length s → (h : IsReading l party name type s words bytes mode ns used)
+      → ((i : ℕ) → i < 8 * length s → (Unseen (h .is .found .is) i → ⊥) → bitAt s′ i ≡ bitAt s i) → reading l party name type s′ words bytes ≡ accepted mode ns used
   reading-unseen o o′ long h same =
       let i = h .is in
       let f = i .found in
@@ -37,13 +37,13 @@ module _ (l : List ℕ) (name type : ℕ) (s s′ : List ℕ) (words bytes : ℕ
       let few = i .mode-byte .few in
       let next = f .stands .next in
       let out : (k : ℕ) → Unseen (f .is) k → (8 ≤ k) × (k < used) = λ k z. let y = unseen-within (f .is) k z in omega arith in
-      let r′ = blank-unseen (mode .lengths) (heldOf l) (bitAt s) (bitAt s′) (bit-lt s′) P room [] (8 * length s) 8 ns used f (λ k a d n. same k (omega arith) n) in
-      let g = read-found (bitAt s′) (mode .lengths) (heldOf l) (bit-lt s′) P room [] (8 * length s) 8 ns used (omega arith) r′ in
+      let r′ = blank-unseen (mode .lengths) (heldOf l party) (bitAt s) (bitAt s′) (bit-lt s′) P room [] (8 * length s) 8 ns used f (λ k a d n. same k (omega arith) n) in
+      let g = read-found (bitAt s′) (mode .lengths) (heldOf l party) (bit-lt s′) P room [] (8 * length s) 8 ns used (omega arith) r′ in
       let byte : getD s′ 0 0 ≡ getD s 0 0 =
       first-byte s′ o′ (omega arith)
       ∙ num-moved (bitAt s′) (bitAt s) 0 0 8 (λ j k. same (0 + j) (omega arith) (λ z. let y = out (0 + j) z in omega arith))
       ∙ sym (first-byte s o filled) in
-      reading-complete l name type s′ words bytes mode ns used (record {
+      reading-complete l party name type s′ words bytes mode ns used (record {
         enters = h .enters;
         is = record {
           mode-byte = record { filled = omega arith; few = omega arith; byte = byte ∙ i .mode-byte .byte; casts = i .mode-byte .casts };

@@ -24,7 +24,7 @@ use Rattle.model.proofs.Entries.{events-length, mode-asked, writing-entered}
 use Rattle.theorems.specs.Demand2.{Valid}
 use Rattle.theorems.proofs.Demand2.{valid-bits, any-valid}
 
-module _ (l : List ℕ) (name type : ℕ) (mode : Mode) (L X : List ℕ) where
+module _ (l : List ℕ) (party name type : ℕ) (mode : Mode) (L X : List ℕ) where
   -- the table as the mode has it, and the rows that the root lets be open inside it
   abbrev T : Table
   T = tableIn (mode .casting) (tableOf l)
@@ -32,39 +32,39 @@ module _ (l : List ℕ) (name type : ℕ) (mode : Mode) (L X : List ℕ) where
   abbrev depth : ℕ
   depth = mostOpen - 1
 
-  pub valid-follows : Valid l name type mode L X → Follows l name type mode L X
+  pub valid-follows : Valid l party name type mode L X → Follows l party name type mode L X
   valid-follows h = record {
     enters = h .enters;
     casts = h .casts;
     shape = h .shape;
     no-blank = rw (h .list) (bare-none (events (h .tree)) (h .no-blank));
     model =
-        let rows = row-model (mode .lengths) (heldOf l) T depth in
+        let rows = row-model (mode .lengths) (heldOf l party) T depth in
         rw (h .list, h .text)
-        (one-model (mode .lengths) (heldOf l) T depth rows name (only type) 8 (h .tree) (h .bits) (h .is));
+        (one-model (mode .lengths) (heldOf l party) T depth rows name (only type) 8 (h .tree) (h .bits) (h .is));
   }
 
-  pub follows-valid : Follows l name type mode L X → Valid l name type mode L X
+  pub follows-valid : Follows l party name type mode L X → Valid l party name type mode L X
   follows-valid h =
       let few = h .shape .few in
       let count = events-length L 0 (length L / 4) in
       let bounded = right-bounded l (h .enters .table-right) (mode .casting) in
       let root = only-fine (tableOf l .types) type (h .enters .type-known) in
-      let s = model-is (mode .lengths) (heldOf l) T (particlesIn l) bounded (h .model) root (omega arith) in
+      let s = model-is (mode .lengths) (heldOf l party) T (particlesIn l) bounded (h .model) root (omega arith) in
       let p = s .placed 8 in
       let none = none-bare (events (p .tree)) (rw (p .list) at (h .no-blank)) in
-      any-valid l name type mode L X (h .enters) (h .shape) (h .casts) (p .is) none (p .list) (p .text) .valid
+      any-valid l party name type mode L X (h .enters) (h .shape) (h .casts) (p .is) none (p .list) (p .text) .valid
 
   -- THE THEOREM
-  pub valid-model : Valid l name type mode L X ↔ Follows l name type mode L X
+  pub valid-model : Valid l party name type mode L X ↔ Follows l party name type mode L X
   valid-model = (valid-follows, follows-valid)
 
   -- so whatever follows the models is written, as the bits that it has by the grammar, and refused for nothing but lack
   -- of room (21)
-  pub follows-written : (room : ℕ) (h : Follows l name type mode L X)
-      → writing l name type (modeNumber mode) L X room ≡ roomed room mode (follows-valid h .bits)
+  pub follows-written : (room : ℕ) (h : Follows l party name type mode L X)
+      → writing l party name type (modeNumber mode) L X room ≡ roomed room mode (follows-valid h .bits)
   unfolding written spent
   follows-written room h =
       let asked = mode-asked (tableOf l .derivations) mode (h .casts) in
-      writing-entered l name type (modeNumber mode) L X room mode (h .enters) asked (h .shape)
-      ∙ rw (valid-bits l name type mode L X (follows-valid h))
+      writing-entered l party name type (modeNumber mode) L X room mode (h .enters) asked (h .shape)
+      ∙ rw (valid-bits l party name type mode L X (follows-valid h))

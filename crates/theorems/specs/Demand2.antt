@@ -17,14 +17,14 @@ use Rattle.theorems.specs.Shortest.{flagBits, AllShortest}
 
 -- a list of events and its texts, for a table, a root and a mode: by the grammar some bits are a tree without a Blank whose events these are,
 -- but for their fourth words, and whose texts these are. Of the trees that a list has, as TheLength may be padded, it is the one whose lengths are shortest
-pub record Valid (l : List ℕ) (name type : ℕ) (mode : Mode) (L X : List ℕ) : Type 0 where
-  pub enters : Entered l name type
+pub record Valid (l : List ℕ) (party name type : ℕ) (mode : Mode) (L X : List ℕ) : Type 0 where
+  pub enters : Entered l party name type
   pub shape : Shaped L
   -- type codes are sent only by a table with derivations
   pub casts : mode .casting ≡ true → 0 < tableOf l .derivations
   pub tree : Nodes
   pub bits : List ℕ
-  pub is : Is (mode .lengths) (heldOf l) (planOf l name type (mode .casting)) 8 tree bits
+  pub is : Is (mode .lengths) (heldOf l party) (planOf l name type (mode .casting)) 8 tree bits
   pub no-blank : NoBlank (events tree)
   pub shortest : AllShortest (flagBits (mode .lengths)) (events tree)
   pub list : listOf L ≡ map bare (events tree)

@@ -1,4 +1,4 @@
--- Two tables alike but for held marks, the second holding all that the first holds, and what the first then says.
+-- Two tables alike but for held words, the second's marks of a party including the first's, and what the first then says to that party.
 use Prim.Native.Nat.{ℕ, _<_}
 use mathlib.Core.Path.{_≡_}
 use mathlib.Core.List.{List, [], _∷_, _++_, reverse}
@@ -14,16 +14,16 @@ use Rattle.model.specs.Items.{Mode}
 use Rattle.theorems.specs.Less.{newly}
 use Rattle.model.specs.Whole.{Reply, accepted, declined}
 
--- the two tables
-pub record Pair (l l′ : List ℕ) : Type 0 where
+-- the two tables; the marks of other parties are free
+pub record Pair (l l′ : List ℕ) (party : ℕ) : Type 0 where
   pub first-right : verdict l ≡ right
   pub second-right : verdict l′ ≡ right
   pub alike : Alike l l′
-  pub holds : (t : ℕ) → t < tableOf l .types → heldOf l t ≡ true → heldOf l′ t ≡ true
+  pub holds : (t : ℕ) → t < tableOf l .types → heldOf l party t ≡ true → heldOf l′ party t ≡ true
 
 -- held by the second and not by the first
-abbrev pub newOf : List ℕ → List ℕ → ℕ → Bool
-newOf l l′ t = newly (heldOf l) (heldOf l′) t
+abbrev pub newOf : List ℕ → List ℕ → (party : ℕ) → ℕ → Bool
+newOf l l′ party t = newly (heldOf l party) (heldOf l′ party) t
 
 -- the first's answer: 9 at the first outermost newly held element that has no length; or, where there is none, the second's tree with each of
 -- them replaced by one Blank of the same bit count, and the same bits used

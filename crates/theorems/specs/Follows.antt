@@ -17,11 +17,11 @@ abbrev pub NoBlanks : List Bare → Type 0
 NoBlanks [] = Unit
 NoBlanks (e ∷ L) = (e .kind ≡ kinds.blank → ⊥) × NoBlanks L
 
-pub record Follows (l : List ℕ) (name type : ℕ) (mode : Mode) (L X : List ℕ) : Type 0 where
+pub record Follows (l : List ℕ) (party name type : ℕ) (mode : Mode) (L X : List ℕ) : Type 0 where
   -- 1, 2; 22, as type codes are sent only for a table with derivations; 18 for the list's shape; 19
-  pub enters : Entered l name type
+  pub enters : Entered l party name type
   pub casts : mode .casting ≡ true → 0 < tableOf l .derivations
   pub shape : Shaped L
   pub no-blank : NoBlanks (listOf L)
   -- the root, of its own type and itself one of at most 64 open rows
-  pub model : Model (tableIn (mode .casting) (tableOf l)) (mode .lengths) (heldOf l) (mostOpen - 1) (one name (only type)) (listOf L) X
+  pub model : Model (tableIn (mode .casting) (tableOf l)) (mode .lengths) (heldOf l party) (mostOpen - 1) (one name (only type)) (listOf L) X

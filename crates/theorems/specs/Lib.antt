@@ -9,6 +9,7 @@ pub mod NamedWriting
 pub mod One
 pub mod Open
 pub mod Own
+pub mod Parties
 pub mod Payload
 pub mod Prefix
 pub mod Reader

@@ -20,7 +20,7 @@ unfoldable pub bitsFrom : List ℕ → (at n : ℕ) → List ℕ
 bitsFrom s at zero = []
 bitsFrom s at (suc n) = bitAt s at ∷ bitsFrom s (at + 1) n
 
-module _ (l : List ℕ) (name type : ℕ) where
+module _ (l : List ℕ) (party name type : ℕ) where
   -- octets that are accepted in a room, and what they are accepted as
   pub record Payload (words bytes : ℕ) : Type 0 where
     pub octets : List ℕ
@@ -28,7 +28,7 @@ module _ (l : List ℕ) (name type : ℕ) where
     pub mode : Mode
     pub tree : Nodes
     pub used : ℕ
-    pub reads : reading l name type octets words bytes ≡ accepted mode tree used
+    pub reads : reading l party name type octets words bytes ≡ accepted mode tree used
 
   -- its used bits: the mode byte, every item, every bit inside a Blank, and no padding
   abbrev pub usedBits : {words bytes : ℕ} → Payload words bytes → List ℕ
@@ -47,7 +47,7 @@ module _ (l : List ℕ) (name type : ℕ) where
 
     -- octets r behind a payload: 17 at the payload's end tells where they begin
     pub record Rest (s : Payload words bytes) (r : List ℕ) : Type 0 where
-      pub refuses : reading l name type (s .octets ++ r) words bytes ≡ declined leftOver (s .used) []
+      pub refuses : reading l party name type (s .octets ++ r) words bytes ≡ declined leftOver (s .used) []
       pub first : take ((s .used + 7) / 8) (s .octets ++ r) ≡ s .octets
       pub second : drop ((s .used + 7) / 8) (s .octets ++ r) ≡ r
 

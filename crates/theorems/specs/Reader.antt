@@ -8,8 +8,8 @@ use Rattle.theorems.specs.Payload.{PayloadIs}
 use Rattle.model.specs.Whole.{roomOf}
 use Rattle.model.specs.Entries.{Entered, planOf}
 
-module _ (l : List ℕ) (name type : ℕ) (s : List ℕ) (words bytes : ℕ) (mode : Mode) (ns : Nodes) (used : ℕ) where
+module _ (l : List ℕ) (party name type : ℕ) (s : List ℕ) (words bytes : ℕ) (mode : Mode) (ns : Nodes) (used : ℕ) where
   -- table and root are right; the payload is the mode byte, bits that the grammar lets stand for this tree, and padding; there is room
   pub record IsReading : Type 0 where
-    pub enters : Entered l name type
-    pub is : PayloadIs (heldOf l) (planOf l name type) (tableOf l .derivations) s (roomOf words bytes) mode ns used
+    pub enters : Entered l party name type
+    pub is : PayloadIs (heldOf l party) (planOf l name type) (tableOf l .derivations) s (roomOf words bytes) mode ns used

@@ -196,7 +196,7 @@ module _ (L X : List ℕ) (c : Spot) (N : List ℕ) (r : Ready L X N c) (t : Lis
     left-is = let i = within in omega (arith, events-count L (c .event + 1))
 
     abbrev behind : ℕ → List ℕ → List Bare → Out
-    behind ty w K = allowed (heldOf t ty) (suc (length (eventsAt L (c .event + 1)))) (sealed (len mode) q w (inside· t mode d ty K (textsAt X (c .used))))
+    behind ty w K = allowed (heldOf t (mode .party) ty) (suc (length (eventsAt L (c .event + 1)))) (sealed (len mode) q w (inside· t mode d ty K (textsAt X (c .used))))
 
     element-is : element· t mode d name y (eventsAt L (c .event)) (textsAt X (c .used)) ≡ casts (codes y) y (eventsAt L (c .event + 1)) behind
     unfolding element· elementOut
@@ -216,10 +216,10 @@ module _ (L X : List ℕ) (c : Spot) (N : List ℕ) (r : Ready L X N c) (t : Lis
         abbrev after : Out
         after = sealed (len mode) q (between X M (past c) f) (inside· t mode d ty (eventsAt L (f .event)) (textsAt X (f .used)))
 
-        typed : element· t mode d name y (eventsAt L (c .event)) (textsAt X (c .used)) ≡ allowed (heldOf t ty) (suc (length (eventsAt L (c .event + 1)))) after
+        typed : element· t mode d name y (eventsAt L (c .event)) (textsAt X (c .used)) ≡ allowed (heldOf t (mode .party) ty) (suc (length (eventsAt L (c .event + 1)))) after
         typed = element-is ∙ cast-to .out behind ∙ rw (cast-to .texts)
 
-        module _ (h : Bool) (e : h ≡ heldOf t ty) where
+        module _ (h : Bool) (e : h ≡ heldOf t (mode .party) ty) where
           pub element-unheld : not h ≡ true → Walks L X (element· t mode d name y) c N (Refuse notHeld (c .event)) M
           unfolding allowed
           element-unheld u = let f : h ≡ false = unsaid h u in record { is = record { out = typed ∙ rw (← e, f, left-is); inside = r .inside } }
@@ -261,9 +261,9 @@ module _ (L X : List ℕ) (c : Spot) (N : List ℕ) (t : List ℕ) (mode : Mode)
     inside-as : inside· t mode d ty (eventsAt L (c .event)) (textsAt X (c .used)) ≡ along (attributes· (attributesFrom t (s .count) (s .first)) (eventsAt L (c .event)) (textsAt X (c .used))) (λ A U. content· t mode d ty A U)
     unfolding inside· content·
     inside-as =
-        steps-laws.inside-is (len mode) (heldOf t) (tab t mode) (eventsAt L (c .event)) (textsAt X (c .used)) d ty
-        ∙ ap (λ (o : Out). along o (λ A U. steps.contentOut (len mode) (heldOf t) (tab t mode) d (tableOf t .content ty) A U))
-        (attributes-are (len mode) (heldOf t) (tab t mode) (tableOf t .attributes ty) (eventsAt L (c .event)) (textsAt X (c .used)) ∙ rw (attributes-walk t ty, ← e .first-is, ← e .count-is))
+        steps-laws.inside-is (len mode) (heldOf t (mode .party)) (tab t mode) (eventsAt L (c .event)) (textsAt X (c .used)) d ty
+        ∙ ap (λ (o : Out). along o (λ A U. steps.contentOut (len mode) (heldOf t (mode .party)) (tab t mode) d (tableOf t .content ty) A U))
+        (attributes-are (len mode) (heldOf t (mode .party)) (tab t mode) (tableOf t .attributes ty) (eventsAt L (c .event)) (textsAt X (c .used)) ∙ rw (attributes-walk t ty, ← e .first-is, ← e .count-is))
 
     pub inside-stop : (n at : ℕ) → r ≡ Refuse n at → Walks L X (inside· t mode d ty) c N r M
     inside-stop n at w = walked-as r inside-as (along-stop L X _ _ c N r M h n at w)
@@ -275,22 +275,22 @@ pub ruleset inside-ways = (span-small, inside-stop, inside-go, ready-on)
 
 -- content
 module _ (L X : List ℕ) (c : Spot) (N : List ℕ) (t : List ℕ) (mode : Mode) (d ty : ℕ) (o : contentT.Content) (e : contentIs o ≡ tableOf t .content ty) where
-  content-as : (x : Content) → contentIs o ≡ x → content· t mode d ty (eventsAt L (c .event)) (textsAt X (c .used)) ≡ steps.contentOut (len mode) (heldOf t) (tab t mode) d x (eventsAt L (c .event)) (textsAt X (c .used))
+  content-as : (x : Content) → contentIs o ≡ x → content· t mode d ty (eventsAt L (c .event)) (textsAt X (c .used)) ≡ steps.contentOut (len mode) (heldOf t (mode .party)) (tab t mode) d x (eventsAt L (c .event)) (textsAt X (c .used))
   unfolding content·
   content-as x f = rw (← e, f)
 
   pub content-none : o ≡ ov.Empty → Ready L X N c → Walks L X (content· t mode d ty) c N (Go c) N
-  content-none w r = walked-as (Go c) (content-as Content.empty (rw w) ∙ steps-laws.content-empty (len mode) (heldOf t) (tab t mode) (eventsAt L (c .event)) (textsAt X (c .used)) d) (stays L X c N r)
+  content-none w r = walked-as (Go c) (content-as Content.empty (rw w) ∙ steps-laws.content-empty (len mode) (heldOf t (mode .party)) (tab t mode) (eventsAt L (c .event)) (textsAt X (c .used)) d) (stays L X c N r)
 
   pub content-value : (k x y : ℕ) → o ≡ ov.Simple k x y → (s : Judgement) (M : List ℕ) → Walks L X (alone (valued k x y)) c N s M → Walks L X (content· t mode d ty) c N s M
   unfolding alone
   content-value k x y w s M h =
-      walked-as s (content-as (Content.simple k x y) (rw w) ∙ steps-laws.content-simple (len mode) (heldOf t) (tab t mode) (eventsAt L (c .event)) (textsAt X (c .used)) d k x y
-      ∙ steps-laws.value-is (len mode) (heldOf t) (tab t mode) (eventsAt L (c .event)) (textsAt X (c .used)) k x y) h
+      walked-as s (content-as (Content.simple k x y) (rw w) ∙ steps-laws.content-simple (len mode) (heldOf t (mode .party)) (tab t mode) (eventsAt L (c .event)) (textsAt X (c .used)) d k x y
+      ∙ steps-laws.value-is (len mode) (heldOf t (mode .party)) (tab t mode) (eventsAt L (c .event)) (textsAt X (c .used)) k x y) h
 
   pub content-particle : (i : ℕ) → o ≡ ov.Particles i → (s : Judgement) (M : List ℕ) → Walks L X (particle· t mode d i) c N s M → Walks L X (content· t mode d ty) c N s M
   unfolding particle·
-  content-particle i w s M h = walked-as s (content-as (Content.particles i) (rw w) ∙ steps-laws.content-particles (len mode) (heldOf t) (tab t mode) (eventsAt L (c .event)) (textsAt X (c .used)) d i) h
+  content-particle i w s M h = walked-as s (content-as (Content.particles i) (rw w) ∙ steps-laws.content-particles (len mode) (heldOf t (mode .party)) (tab t mode) (eventsAt L (c .event)) (textsAt X (c .used)) d i) h
 
   pub content-row : Right t mode → ty < typesIn t → (i : ℕ) → o ≡ ov.Particles i → i < particlesIn t
   content-row r h i w = let k : ContentOk (particlesIn t) (contentIs o) = rw e (content-ok t (r .is) ty h) in rw w at k
@@ -321,10 +321,10 @@ module _ (t : List ℕ) (mode : Mode) (i : ℕ) (p : particleT.Particle) (e : ro
 module _ (L X : List ℕ) (c : Spot) (N : List ℕ) (t : List ℕ) (mode : Mode) (d i : ℕ) where
   pub particle-deep : d ≡ 0 → Ready L X N c → (s : Judgement) → s ≡ deepAt L (c .event) → Walks L X (particle· t mode d i) c N s N
   unfolding particle·
-  particle-deep z r s e = rw z (walked-as s (steps-laws.particle-deep (len mode) (heldOf t) (tab t mode) (eventsAt L (c .event)) (textsAt X (c .used)) (tableOf t .row i)) (deep-walked L X c N r s e))
+  particle-deep z r s e = rw z (walked-as s (steps-laws.particle-deep (len mode) (heldOf t (mode .party)) (tab t mode) (eventsAt L (c .event)) (textsAt X (c .used)) (tableOf t .row i)) (deep-walked L X c N r s e))
 
   module _ (z : d ≡ 0 → ⊥) (p : particleT.Particle) (e : rowIs p ≡ tableOf t .row i) where
-    particle-as : (x : Row) → rowIs p ≡ x → particle· t mode d i (eventsAt L (c .event)) (textsAt X (c .used)) ≡ steps.particleOut (len mode) (heldOf t) (tab t mode) (suc (d - 1)) x (eventsAt L (c .event)) (textsAt X (c .used))
+    particle-as : (x : Row) → rowIs p ≡ x → particle· t mode d i (eventsAt L (c .event)) (textsAt X (c .used)) ≡ steps.particleOut (len mode) (heldOf t (mode .party)) (tab t mode) (suc (d - 1)) x (eventsAt L (c .event)) (textsAt X (c .used))
     unfolding particle·
     particle-as x f = let m : suc (d - 1) ≡ d = omega arith in rw (← e, f, m)
 
@@ -334,26 +334,26 @@ module _ (L X : List ℕ) (c : Spot) (N : List ℕ) (t : List ℕ) (mode : Mode)
       unfolding element· inside·
       particle-element r h name ty row w x =
           let k = row-known t mode i p e r h name ty row w in
-          walked-as s (particle-as (Row.element name ty row) (rw w) ∙ steps-laws.particle-element (len mode) (heldOf t) (tab t mode) (eventsAt L (c .event)) (textsAt X (c .used)) (d - 1) name ty row)
+          walked-as s (particle-as (Row.element name ty row) (rw w) ∙ steps-laws.particle-element (len mode) (heldOf t (mode .party)) (tab t mode) (eventsAt L (c .event)) (textsAt X (c .used)) (d - 1) name ty row)
           (rw (types-by t (mode .choices) (r .is) (r .choosing) ty row k) at x)
 
       pub particle-sequence : (first count : ℕ) → p ≡ pv.Sequence first count → Walks L X (rounds· t mode (d - 1) first 1 count) c N s M → Walks L X (particle· t mode d i) c N s M
       unfolding rounds·
       particle-sequence first count w h =
           let one : (a : ℕ) → first + a ≡ first + 1 * a = λ a. omega arith in
-          walked-as s (particle-as (Row.sequence first count) (rw w) ∙ steps-laws.particle-sequence (len mode) (heldOf t) (tab t mode) (eventsAt L (c .event)) (textsAt X (c .used)) (d - 1) first count
-          ∙ (λ j. steps.roundsOut (len mode) (heldOf t) (tab t mode) (d - 1) count (λ a. tableOf t .row (one a j)) (eventsAt L (c .event)) (textsAt X (c .used)))) h
+          walked-as s (particle-as (Row.sequence first count) (rw w) ∙ steps-laws.particle-sequence (len mode) (heldOf t (mode .party)) (tab t mode) (eventsAt L (c .event)) (textsAt X (c .used)) (d - 1) first count
+          ∙ (λ j. steps.roundsOut (len mode) (heldOf t (mode .party)) (tab t mode) (d - 1) count (λ a. tableOf t .row (one a j)) (eventsAt L (c .event)) (textsAt X (c .used)))) h
 
       pub particle-choice : (first count : ℕ) → p ≡ pv.Choice first count → Walks L X (choose· t mode (d - 1) first count) c N s M → Walks L X (particle· t mode d i) c N s M
       unfolding choose· particle·
-      particle-choice first count w h = walked-as s (particle-as (Row.choice first count) (rw w) ∙ steps-laws.particle-choice (len mode) (heldOf t) (tab t mode) (eventsAt L (c .event)) (textsAt X (c .used)) (d - 1) first count) h
+      particle-choice first count w h = walked-as s (particle-as (Row.choice first count) (rw w) ∙ steps-laws.particle-choice (len mode) (heldOf t (mode .party)) (tab t mode) (eventsAt L (c .event)) (textsAt X (c .used)) (d - 1) first count) h
 
       pub particle-occurs : (child least most : ℕ) → p ≡ pv.Occurs child least most → Walks L X (occur· t mode (d - 1) child least most) c N s M → Walks L X (particle· t mode d i) c N s M
       unfolding occur· rounds·
       particle-occurs child least most w h =
           let none : (a : ℕ) → child ≡ child + 0 * a = λ a. omega arith in
-          walked-as s (particle-as (Row.occurs child least most) (rw w) ∙ steps-laws.particle-occurs (len mode) (heldOf t) (tab t mode) (eventsAt L (c .event)) (textsAt X (c .used)) (d - 1) child least most
-          ∙ (λ j. steps.itemThen (counted least most) (eventsAt L (c .event)) (textsAt X (c .used)) (λ v A U. steps.roundsOut (len mode) (heldOf t) (tab t mode) (d - 1) v (λ a. tableOf t .row (none a j)) A U))) h
+          walked-as s (particle-as (Row.occurs child least most) (rw w) ∙ steps-laws.particle-occurs (len mode) (heldOf t (mode .party)) (tab t mode) (eventsAt L (c .event)) (textsAt X (c .used)) (d - 1) child least most
+          ∙ (λ j. steps.itemThen (counted least most) (eventsAt L (c .event)) (textsAt X (c .used)) (λ v A U. steps.roundsOut (len mode) (heldOf t (mode .party)) (tab t mode) (d - 1) v (λ a. tableOf t .row (none a j)) A U))) h
 
 pub row-chosen : (t : List ℕ) (mode : Mode) (row : ℕ) → Right t mode → row < particlesIn t → Rowed t (mode .choices) row
 row-chosen t mode row r h = record { known = λ e. h; neither = r .choosing .neither }
@@ -413,7 +413,7 @@ module _ (L X : List ℕ) (t : List ℕ) (mode : Mode) (d n step : ℕ) where
 
   rounds-over : (j i : ℕ) (c : Spot) → n ≤ j → leftR j i c ≡ wrote [] (eventsAt L (c .event)) (textsAt X (c .used))
   unfolding rounds·
-  rounds-over j i c h = let m : n - j ≡ 0 = omega arith in rw m (steps-laws.rounds-none (len mode) (heldOf t) (tab t mode) (eventsAt L (c .event)) (textsAt X (c .used)) d (λ a. tableOf t .row (i + step * a)))
+  rounds-over j i c h = let m : n - j ≡ 0 = omega arith in rw m (steps-laws.rounds-none (len mode) (heldOf t (mode .party)) (tab t mode) (eventsAt L (c .event)) (textsAt X (c .used)) d (λ a. tableOf t .row (i + step * a)))
 
   rounds-next : (j i : ℕ) (c : Spot) → j < n → leftR j i c ≡ along (particle· t mode d i (eventsAt L (c .event)) (textsAt X (c .used))) (λ A U. rounds· t mode d (i + step) step (n - (j + 1)) A U)
   unfolding rounds· particle·
@@ -421,9 +421,9 @@ module _ (L X : List ℕ) (t : List ℕ) (mode : Mode) (d n step : ℕ) where
       let m : n - j ≡ suc (n - (j + 1)) = omega arith in
       let none : i + step * 0 ≡ i = omega arith in
       let on : (a : ℕ) → i + step * suc a ≡ i + step + step * a = λ a. omega arith in
-      ap (λ (k : ℕ). steps.roundsOut (len mode) (heldOf t) (tab t mode) d k (λ a. tableOf t .row (i + step * a)) (eventsAt L (c .event)) (textsAt X (c .used))) m
-      ∙ steps-laws.rounds-more (len mode) (heldOf t) (tab t mode) (eventsAt L (c .event)) (textsAt X (c .used)) d (n - (j + 1)) (λ a. tableOf t .row (i + step * a))
-      ∙ (λ x. along (steps.particleOut (len mode) (heldOf t) (tab t mode) d (tableOf t .row (none x)) (eventsAt L (c .event)) (textsAt X (c .used))) (λ A U. steps.roundsOut (len mode) (heldOf t) (tab t mode) d (n - (j + 1)) (λ a. tableOf t .row (on a x)) A U))
+      ap (λ (k : ℕ). steps.roundsOut (len mode) (heldOf t (mode .party)) (tab t mode) d k (λ a. tableOf t .row (i + step * a)) (eventsAt L (c .event)) (textsAt X (c .used))) m
+      ∙ steps-laws.rounds-more (len mode) (heldOf t (mode .party)) (tab t mode) (eventsAt L (c .event)) (textsAt X (c .used)) d (n - (j + 1)) (λ a. tableOf t .row (i + step * a))
+      ∙ (λ x. along (steps.particleOut (len mode) (heldOf t (mode .party)) (tab t mode) d (tableOf t .row (none x)) (eventsAt L (c .event)) (textsAt X (c .used))) (λ A U. steps.roundsOut (len mode) (heldOf t (mode .party)) (tab t mode) d (n - (j + 1)) (λ a. tableOf t .row (on a x)) A U))
 
   module _ (o₀ : Out) (c₀ : Spot) (N₀ : List ℕ) (j i : ℕ) (c : Spot) (N : List ℕ) (l : Leads L X o₀ c₀ N₀ (leftR j i c) c N) where
     pub rounds-end : n ≤ j → Ready L X N c → Walked L X o₀ c₀ N₀ (Go c) N

@@ -84,17 +84,17 @@ finish-room L X N c r = let i = r .inside in let d = r .sized in omega arith
 pub ruleset finish-ways = (finish-refused, finish-fits, finish-short, finish-done, finish-place, finish-used, finish-bits, finish-room)
 
 -- write
-module _ (t : List ℕ) (name ty mode : ℕ) (L X : List ℕ) (room : ℕ) (f : faultT.Fault) (h : Fronted t name ty mode L f) where
+module _ (t : List ℕ) (party name ty mode : ℕ) (L X : List ℕ) (room : ℕ) (f : faultT.Fault) (h : Fronted t party name ty mode L f) where
   pub write-refused : (n p : ℕ) → f ≡ fv.At n p → (a : code.Answer) → answerIs a ≡ declines n p [] → (P : List ℕ) → P ≡ replicate room 0
-      → Writes (writing t name ty mode L X room) mode (eventsIn L) (length X) room a P
+      → Writes (writing t party name ty mode L X room) mode (eventsIn L) (length X) room a P
   write-refused n p w a e P z = unmade-writes _ mode (eventsIn L) (length X) room n p a P ((rw w at (h .is)) X room) e z
 
-pub write-fine : (t : List ℕ) (name ty mode : ℕ) (L : List ℕ) (f : faultT.Fault) → Fronted t name ty mode L f → f ≡ fv.No → Fine t name ty mode L
-write-fine t name ty mode L f h w = rw w at (h .is)
+pub write-fine : (t : List ℕ) (party name ty mode : ℕ) (L : List ℕ) (f : faultT.Fault) → Fronted t party name ty mode L f → f ≡ fv.No → Fine t party name ty mode L
+write-fine t party name ty mode L f h w = rw w at (h .is)
 
 -- no event too many, so there is room for each one's note
-pub write-room : (t : List ℕ) (name ty mode : ℕ) (L : List ℕ) → Fine t name ty mode L → 4 * eventsIn L ≤ 8192
-write-room t name ty mode L h = let s = h .shape .few in omega arith
+pub write-room : (t : List ℕ) (party name ty mode : ℕ) (L : List ℕ) → Fine t party name ty mode L → 4 * eventsIn L ≤ 8192
+write-room t party name ty mode L h = let s = h .shape .few in omega arith
 
 -- the root has nothing to choose from
 abbrev nothing : Choices
@@ -107,37 +107,37 @@ abbrev rootOut : List ℕ → Mode → (name ty : ℕ) → List Bare → List �
 rootOut t mode name ty = element· t mode (mostOpen - 1) name (typesBy t nothing ty 0)
 
 -- the walk
-module _ (t : List ℕ) (name ty number : ℕ) (L X : List ℕ) (room : ℕ) (fine : Fine t name ty number L) where
+module _ (t : List ℕ) (party name ty number : ℕ) (L X : List ℕ) (room : ℕ) (fine : Fine t party name ty number L) where
   pub write-ready : (N : List ℕ) → 4 * eventsIn L ≤ length N → Ready L X N origin
   write-ready N e = let s = fine .shape in record { sized = e; few = s .few; inside = omega arith; used = omega arith; short = omega arith; small = omega arith }
 
   pub write-type : ty < typesIn t
   write-type = let k = fine .enters .type-known in omega (arith, types-are t)
 
-  module _ (mode : Mode) (moded : Moded t number mode) where
+  module _ (mode : Mode) (moded : Moded t party number mode) where
     pub write-right : Right t mode
     write-right = record { is = fine .enters .table-right; choosing = moded .choosing }
 
     asked-is : modeAsked (tableOf t .derivations) number ≡ got (modeIs mode)
     asked-is = let a = fine .asks in a .is ∙ ap got (sym (moded .is (a .way) (a .is)))
 
-    root : write (lengthsIs (mode .lengths)) (heldOf t) (planOf t name ty (mode .choices .derived)) (listOf L) X ≡ rootOut t mode name ty (eventsAt L 0) (textsAt X 0)
+    root : write (lengthsIs (mode .lengths)) (heldOf t party) (planOf t name ty (mode .choices .derived)) (listOf L) X ≡ rootOut t mode name ty (eventsAt L 0) (textsAt X 0)
     unfolding element· inside· eventsAt textsAt
     root =
         let n : eventsIn L - 0 ≡ eventsIn L = omega arith in
-        rw n (steps.root-element (lengthsIs (mode .lengths)) (heldOf t) (tableIn (mode .choices .derived) (tableOf t)) (listOf L) X name ty)
+        rw (← moded .party-is, n) (steps.root-element (lengthsIs (mode .lengths)) (heldOf t (mode .party)) (tableIn (mode .choices .derived) (tableOf t)) (listOf L) X name ty)
 
     count : length (listOf L) ≡ eventsIn L
     unfolding eventsAt
     count = let n : eventsIn L - 0 ≡ eventsIn L = omega arith in rw n at (events-count L 0)
 
-    walked : writing t name ty number L X room ≡ spent (eventsIn L) (rootOut t mode name ty (eventsAt L 0) (textsAt X 0)) (roomed room (modeIs mode))
+    walked : writing t party name ty number L X room ≡ spent (eventsIn L) (rootOut t mode name ty (eventsAt L 0) (textsAt X 0)) (roomed room (modeIs mode))
     unfolding written
-    walked = writing-entered t name ty number L X room (modeIs mode) (fine .enters) asked-is (fine .shape) ∙ rw (root, count)
+    walked = writing-entered t party name ty number L X room (modeIs mode) (fine .enters) asked-is (fine .shape) ∙ rw (root, count)
 
     module _ (N : List ℕ) (r : Judgement) (M : List ℕ) (g : Walks L X (rootOut t mode name ty) origin N r M) where
       pub write-stopped : (n p : ℕ) → r ≡ Refuse n p → (a : code.Answer) → answerIs a ≡ declines n p [] → (P : List ℕ) → P ≡ replicate room 0
-          → Writes (writing t name ty number L X room) number (eventsIn L) (length X) room a P
+          → Writes (writing t party name ty number L X room) number (eventsIn L) (length X) room a P
       unfolding spent
       write-stopped n p y a e P z =
           let k = stopped g n p y in
@@ -147,11 +147,11 @@ module _ (t : List ℕ) (name ty number : ℕ) (L X : List ℕ) (room : ℕ) (fi
 
       module _ (c : Spot) (y : r ≡ Go c) where
         pub write-done : (same : ℕ) → same ≡ room → (a : code.Answer) (P : List ℕ) → Writes (ends L X c same (modeIs mode) (between X M origin c)) number (eventsIn L) (length X) same a P
-            → Writes (writing t name ty number L X room) number (eventsIn L) (length X) room a P
+            → Writes (writing t party name ty number L X room) number (eventsIn L) (length X) room a P
         write-done same e a P v =
             let u : Writes (ends L X c room (modeIs mode) (between X M origin c)) number (eventsIn L) (length X) room a P = rw e at v in
             let k = went g c y .out in
-            let z : writing t name ty number L X room ≡ ends L X c room (modeIs mode) (between X M origin c) = walked ∙ ap (λ (o : Out). spent (eventsIn L) o (roomed room (modeIs mode))) k in
+            let z : writing t party name ty number L X room ≡ ends L X c room (modeIs mode) (between X M origin c) = walked ∙ ap (λ (o : Out). spent (eventsIn L) o (roomed room (modeIs mode))) k in
             rw z u
 
 module _ (L X : List ℕ) (o : Out) (N : List ℕ) (r : Judgement) (M : List ℕ) (g : Walked L X o origin N r M) (c : Spot) (y : r ≡ Go c) where
@@ -162,9 +162,9 @@ module _ (L X : List ℕ) (o : Out) (N : List ℕ) (r : Judgement) (M : List ℕ
   write-on = went g c y .ready
 
 -- into a payload that is as long
-pub write-into : (t : List ℕ) (name ty mode : ℕ) (L X : List ℕ) (same room E T : ℕ) (a : code.Answer) (P : List ℕ) → same ≡ room
-    → Writes (writing t name ty mode L X same) mode E T same a P → Writes (writing t name ty mode L X room) mode E T room a P
-write-into t name ty mode L X same room E T a P e v = rw e at v
+pub write-into : (t : List ℕ) (party name ty mode : ℕ) (L X : List ℕ) (same room E T : ℕ) (a : code.Answer) (P : List ℕ) → same ≡ room
+    → Writes (writing t party name ty mode L X same) mode E T same a P → Writes (writing t party name ty mode L X room) mode E T room a P
+write-into t party name ty mode L X same room E T a P e v = rw e at v
 
 pub zeros-are : (s : List ℕ) (n : ℕ) → s ≡ replicate n 0 → Zeros s
 zeros-are s n e = record { is = e ∙ ap (λ (k : ℕ). replicate k 0) (sym (ap length e ∙ length-replicate n 0)) }

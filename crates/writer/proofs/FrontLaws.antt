@@ -10,9 +10,8 @@ use lib.ListN.{length, getD}
 use lib.Seq.{drop-length, drop-cons}
 use Rattle.numbers.specs.Refusal as refusal
 use Rattle.numbers.specs.Refusal.{noReading, payloadRoom, writeMode, textBytes}
-use Rattle.numbers.specs.Limit.{mostEvents, mostName, mostPayload}
-use Rattle.wire.specs.Res.{got, fault, atMost, guard}
-use Rattle.wire.proofs.Res.{under-then, under-fault}
+use Rattle.numbers.specs.Limit.{mostEvents, mostName, mostPayload, parties}
+use Rattle.wire.specs.Res.{got, fault}
 use Rattle.table.specs.First.{Verdict}
 use Rattle.table.specs.First.Verdict.{right, wrong}
 use Rattle.table.specs.Valid.{verdict}
@@ -27,6 +26,7 @@ use Rattle.model.specs.declared.Choices.{Choices}
 use Rattle.model.specs.declared.Lengths as lengthsT
 use Rattle.model.specs.declared.Lengths.the-variants as lv
 use Rattle.model.proofs.ModeLaws.{offers-neither}
+use Rattle.model.proofs.EntryWays.{asked-type, asked-name, asked-party}
 use Rattle.model.proofs.Entries.{asked-then, mode-asked, asked-mode}
 use Rattle.model.specs.Whole.{mode, lengthsNumber, modeNumber, modesFor, modeBy, unmade, asked, modeAsked, roomed, spent, shaped, orUnmade, verdictMade, writing}
 use Rattle.writer_parts.specs.declared.Spot.{Spot}
@@ -34,15 +34,6 @@ use Rattle.writer_parts.specs.Walk.{eventsIn, eventsAt, textsAt}
 use Rattle.writer_parts.proofs.WalkLaws.{events-next, events-none, events-count}
 use Rattle.writer.specs.declared.front.Fault.the-variants as fv
 use Rattle.writer.specs.Front.{Asked, Judged, Numbered, Moded, Fronted, ends, Settled}
-
--- the root: first the type, then the name
-asked-type : (types name type : ℕ) → types ≤ type → asked types name type ≡ fault refusal.root
-unfolding asked
-asked-type types name type h = under-fault refusal.root _ (omega arith)
-
-asked-name : (types name type : ℕ) → type < types → mostName < name → asked types name type ≡ fault refusal.root
-unfolding asked atMost guard
-asked-name types name type h k = under-then refusal.root h (rw (lt-leb name mostName k))
 
 -- known_mode
 module _ (D : ℕ) where
@@ -123,10 +114,10 @@ module _ (n : ℕ) where
 pub ruleset lengths-ways = (lengths-never, lengths-optional, lengths-always)
 
 -- mode_of
-pub moded : (t : List ℕ) (n : ℕ) (k : lengthsT.Lengths) → Numbered (n % 4) k → (s : ℕ) (c : Choices) → s ≡ substitutesIn t → c ≡ offers (ltb 0 s) (leb 4 n)
-    → Moded t n (record { lengths = k; choices = c })
+pub moded : (t : List ℕ) (party n : ℕ) (k : lengthsT.Lengths) → Numbered (n % 4) k → (s : ℕ) (c : Choices) → s ≡ substitutesIn t → c ≡ offers (ltb 0 s) (leb 4 n)
+    → Moded t party n (record { lengths = k; choices = c; party = party })
 unfolding modeNumber lengthsNumber
-moded t n k h s c e c-is = rw c-is (record { is = λ way f. go (way .lengths) (way .casting) (asked-mode (tableOf t .derivations) n .says way f .is); choosing = record { none = λ f. let z = ltb-false 0 s f in omega arith; neither = offers-neither (ltb 0 s) (leb 4 n) } })
+moded t party n k h s c e c-is = rw c-is (record { is = λ way f. go (way .lengths) (way .casting) (asked-mode (tableOf t .derivations) n .says way f .is); choosing = record { none = λ f. let z = ltb-false 0 s f in omega arith; neither = offers-neither (ltb 0 s) (leb 4 n) }; party-is = refl })
   where
     go : (l : Lengths) (c : Bool) → n ≡ modeNumber (mode l c) → _≡_ {A = Mode} (mode (lengthsIs k) (leb 4 n)) (mode l c)
     go l false f = λ i. mode (h .is l (small l f) i) (lt-leb 4 n (below l f) i)
@@ -152,8 +143,8 @@ moded t n k h s c e c-is = rw c-is (record { is = λ way f. go (way .lengths) (w
         small Lengths.optional f = omega arith
         small Lengths.always f = omega arith
 
-module _ (t : List ℕ) (name ty mode : ℕ) (L : List ℕ) where
-  pub front-wrong : (v : verdictT.Verdict) → verdictIs v ≡ verdict t → (i : ℕ) → v ≡ vv.Wrong i → Fronted t name ty mode L (fv.At refusal.table i)
+module _ (t : List ℕ) (party name ty mode : ℕ) (L : List ℕ) where
+  pub front-wrong : (v : verdictT.Verdict) → verdictIs v ≡ verdict t → (i : ℕ) → v ≡ vv.Wrong i → Fronted t party name ty mode L (fv.At refusal.table i)
   unfolding writing verdictMade
   front-wrong v e i w = record { is = λ X room. let z : verdict t ≡ wrong i = sym e ∙ rw w in rw z }
 
@@ -161,20 +152,24 @@ module _ (t : List ℕ) (name ty mode : ℕ) (L : List ℕ) where
   front-right v e w = sym e ∙ rw w
 
   module _ (v : verdict t ≡ right) (k : ℕ) (e : k ≡ tableOf t .types) where
-    pub front-type : k ≤ ty → Fronted t name ty mode L (fv.At refusal.root 0)
+    pub front-type : k ≤ ty → Fronted t party name ty mode L (fv.At refusal.root 0)
     unfolding writing verdictMade orUnmade
-    front-type h = record { is = λ X room. rw (v, asked-type (tableOf t .types) name ty (rw e at h)) }
+    front-type h = record { is = λ X room. rw (v, asked-type (tableOf t .types) party name ty (rw e at h)) }
 
     module _ (h : ty < k) where
-      pub front-name : mostName < name → Fronted t name ty mode L (fv.At refusal.root 0)
+      pub front-name : mostName < name → Fronted t party name ty mode L (fv.At refusal.root 0)
       unfolding writing verdictMade orUnmade
-      front-name g = record { is = λ X room. rw (v, asked-name (tableOf t .types) name ty (rw e at h) g) }
+      front-name g = record { is = λ X room. rw (v, asked-name (tableOf t .types) party name ty (rw e at h) g) }
 
-      module _ (g : name ≤ mostName) where
-        ok : asked (tableOf t .types) name ty ≡ got tt
-        ok = asked-then (tableOf t .types) name ty (rw e at h) g
+      pub front-party : name ≤ mostName → parties ≤ party → Fronted t party name ty mode L (fv.At refusal.party 0)
+      unfolding writing verdictMade orUnmade
+      front-party g i = record { is = λ X room. rw (v, asked-party (tableOf t .types) party name ty (rw e at h) g (omega arith)) }
 
-        pub front-mode : (u : Bool) → Judged (tableOf t .derivations) mode u → not u ≡ true → Fronted t name ty mode L (fv.At writeMode 0)
+      module _ (g : name ≤ mostName) (i : party < parties) where
+        ok : asked (tableOf t .types) party name ty ≡ got tt
+        ok = asked-then (tableOf t .types) party name ty (rw e at h) g i
+
+        pub front-mode : (u : Bool) → Judged (tableOf t .derivations) mode u → not u ≡ true → Fronted t party name ty mode L (fv.At writeMode 0)
         unfolding writing verdictMade orUnmade
         front-mode false m z = record { is = λ X room. rw (v, ok, m .is) }
         front-mode true m z = absurd (true≢false (sym z))
@@ -187,19 +182,19 @@ module _ (t : List ℕ) (name ty mode : ℕ) (L : List ℕ) where
               go true m y = m .is
               go false m y = absurd (true≢false y)
 
-          pub front-parts : (n : ℕ) → n ≡ length L / 4 → 0 < length L % 4 → Fronted t name ty mode L (fv.At noReading n)
+          pub front-parts : (n : ℕ) → n ≡ length L / 4 → 0 < length L % 4 → Fronted t party name ty mode L (fv.At noReading n)
           unfolding writing verdictMade orUnmade shaped
           front-parts n z p = record { is = λ X room. rw (v, ok, asks .is, ne-eqb (length L % 4) 0 (λ q. omega arith), z) }
 
           module _ (p : length L % 4 ≤ 0) where
-            pub front-many : (n : ℕ) → n ≡ length L / 4 → mostEvents < n → Fronted t name ty mode L (fv.At noReading n)
+            pub front-many : (n : ℕ) → n ≡ length L / 4 → mostEvents < n → Fronted t party name ty mode L (fv.At noReading n)
             unfolding writing verdictMade orUnmade shaped
             front-many n z q = record { is = λ X room. rw (v, ok, asks .is, eq-eqb (length L % 4) 0 (omega arith), lt-leb (length L / 4) mostEvents (omega arith), z) }
 
-            pub front-fine : (n : ℕ) → n ≡ length L / 4 → n ≤ mostEvents → Fronted t name ty mode L fv.No
-            front-fine n z q = record { is = record { enters = record { table-right = v; type-known = rw e at h; name-small = g }; asks = asks; shape = record { whole = omega arith; few = omega arith } } }
+            pub front-fine : (n : ℕ) → n ≡ length L / 4 → n ≤ mostEvents → Fronted t party name ty mode L fv.No
+            front-fine n z q = record { is = record { enters = record { table-right = v; type-known = rw e at h; name-small = g; party-known = i }; asks = asks; shape = record { whole = omega arith; few = omega arith } } }
 
-pub ruleset checked-ways = (front-type, front-name, front-mode, front-parts, front-many, front-fine)
+pub ruleset checked-ways = (front-type, front-name, front-party, front-mode, front-parts, front-many, front-fine)
 
 pub ruleset asked-ways = (front-wrong, front-right)
 

@@ -37,22 +37,23 @@ pub record Judged (derivations number : ℕ) (r : Bool) : Type 0 where
 pub record Numbered (number : ℕ) (r : lengthsT.Lengths) : Type 0 where
   pub is : (k : Lengths) → number ≡ lengthsNumber k → lengthsIs r ≡ k
 
-pub record Moded (t : List ℕ) (number : ℕ) (r : modeT.Mode) : Type 0 where
+pub record Moded (t : List ℕ) (party number : ℕ) (r : modeT.Mode) : Type 0 where
   pub is : (way : Mode) → modeAsked (tableOf t .derivations) number ≡ got way → modeIs r ≡ way
   pub choosing : Choosing t (r .choices)
+  pub party-is : r .party ≡ party
 
--- nothing applies: a known root, a mode, a list of whole events
-pub record Fine (t : List ℕ) (name ty mode : ℕ) (L : List ℕ) : Type 0 where
-  pub enters : Entered t name ty
+-- nothing applies: a known root, a party, a mode, a list of whole events
+pub record Fine (t : List ℕ) (party name ty mode : ℕ) (L : List ℕ) : Type 0 where
+  pub enters : Entered t party name ty
   pub asks : Asked (tableOf t .derivations) mode
   pub shape : Shaped L
 
-abbrev pub FrontIs : List ℕ → ℕ → ℕ → ℕ → List ℕ → faultT.Fault → Type 0
-FrontIs t name ty mode L fv.No = Fine t name ty mode L
-FrontIs t name ty mode L (fv.At n p) = (X : List ℕ) (room : ℕ) → writing t name ty mode L X room ≡ unmade n p
+abbrev pub FrontIs : List ℕ → ℕ → ℕ → ℕ → ℕ → List ℕ → faultT.Fault → Type 0
+FrontIs t party name ty mode L fv.No = Fine t party name ty mode L
+FrontIs t party name ty mode L (fv.At n p) = (X : List ℕ) (room : ℕ) → writing t party name ty mode L X room ≡ unmade n p
 
-pub record Fronted (t : List ℕ) (name ty mode : ℕ) (L : List ℕ) (r : faultT.Fault) : Type 0 where
-  pub is : FrontIs t name ty mode L r
+pub record Fronted (t : List ℕ) (party name ty mode : ℕ) (L : List ℕ) (r : faultT.Fault) : Type 0 where
+  pub is : FrontIs t party name ty mode L r
 
 -- after the walk, which gave the bits w
 abbrev pub ends : List ℕ → List ℕ → Spot → ℕ → Mode → List ℕ → Made

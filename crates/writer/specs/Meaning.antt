@@ -1,7 +1,7 @@
 -- One meaning for each function of the walk, by the table's words and the mode as the code has them.
 use Prim.Native.Nat.{ℕ, zero, suc, _+_, _*_, _<_}
 use mathlib.Core.Path.{_≡_}
-use mathlib.Core.Bool.{cond}
+use mathlib.Core.Bool.{Bool, cond}
 use mathlib.Core.List.{List, [], _∷_}
 use lib.Dec.{ltb}
 use Rattle.numbers.specs.Refusal as refusal
@@ -57,26 +57,30 @@ module _ (t : List ℕ) (mode : Mode) (d : ℕ) where
   abbrev lengths : Lengths
   lengths = lengthsIs (mode .lengths)
 
+  -- by the party's marks
+  abbrev held : ℕ → Bool
+  held = heldOf t (mode .party)
+
   abbrev T : Table
   T = tableIn (mode .choices .derived) (tableOf t)
 
   unfoldable pub particle· : ℕ → List Bare → List ℕ → Out
-  particle· i M X = particleOut lengths (heldOf t) T d (T .row i) M X
+  particle· i M X = particleOut lengths held T d (T .row i) M X
 
   unfoldable pub inside· : ℕ → List Bare → List ℕ → Out
-  inside· ty M X = insideOut lengths (heldOf t) T d ty M X
+  inside· ty M X = insideOut lengths held T d ty M X
 
   unfoldable pub content· : ℕ → List Bare → List ℕ → Out
-  content· ty M X = contentOut lengths (heldOf t) T d (T .content ty) M X
+  content· ty M X = contentOut lengths held T d (T .content ty) M X
 
   unfoldable pub element· : ℕ → Types → List Bare → List ℕ → Out
-  element· name y M X = elementOut lengths (heldOf t) (λ ty N U. inside· ty N U) name y M X
+  element· name y M X = elementOut lengths held (λ ty N U. inside· ty N U) name y M X
 
   unfoldable pub choose· : (first count : ℕ) → List Bare → List ℕ → Out
   choose· first count M X = itemThen (picked count) M X (λ v N U. particle· (first + v) N U)
 
   unfoldable pub rounds· : (first step n : ℕ) → List Bare → List ℕ → Out
-  rounds· first step n M X = roundsOut lengths (heldOf t) T d n (λ a. T .row (first + step * a)) M X
+  rounds· first step n M X = roundsOut lengths held T d n (λ a. T .row (first + step * a)) M X
 
   unfoldable pub occur· : (child least most : ℕ) → List Bare → List ℕ → Out
   occur· child least most M X = itemThen (counted least most) M X (λ v N U. rounds· child 0 v N U)

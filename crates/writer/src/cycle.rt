@@ -83,7 +83,8 @@ pub fn element(
     match note_codes(table, events, texts, notes, choices, o, t, row) {
         Cast::Refuse(e, i) => Judgement::Refuse(e, i),
         Cast::To(ty, f) => {
-            let held = rows::held(table, ty);
+            let party = mode.party;
+            let held = rows::held(table, party, ty);
             if !held {
                 return Judgement::Refuse(refusal::NOT_HELD, at);
             }

@@ -1,4 +1,4 @@
-// What is judged before the walk: table, root, mode, the list's shape; and after it: what is left over, the room.
+// What is judged before the walk: table, root, party, mode, the list's shape; and after it: what is left over, the room.
 use model::Lengths;
 use model::Mode;
 use model::offered;
@@ -57,19 +57,23 @@ fn lengths_of(number: u32) -> Lengths
     Lengths::Always
 }
 
-// The mode of a number, as a walk over a table goes by it.
-pub fn mode_of(table: &[u32], number: u32) -> Mode
-    ensures { λ r. ⌜ Moded (now (table .entry)) number r ⌝ }
+// The mode of a number, as a walk over a table goes by it for a party.
+pub fn mode_of(table: &[u32], party: u32, number: u32) -> Mode
+    ensures { λ r. ⌜ Moded (now (table .entry)) party number r ⌝ }
 {
     let lengths = lengths_of(number % numbers::mode::CASTING);
     let choices = offered(0 < swaps(table), numbers::mode::CASTING <= number);
-    Mode { lengths, choices }
+    Mode {
+        lengths,
+        choices,
+        party,
+    }
 }
 
-// By a table that is right: root, mode, the list's shape.
-fn judge_checked(table: &[u32], name: u32, t: u32, mode: u32, events: &[u32]) -> Fault
+// By a table that is right: root, party, mode, the list's shape.
+fn judge_checked(table: &[u32], party: u32, name: u32, t: u32, mode: u32, events: &[u32]) -> Fault
     requires { ⌜ verdict (now table) ≡ right ⌝ }
-    ensures { λ r. ⌜ Fronted (now (table .entry)) name t mode (now (events .entry)) r ⌝ }
+    ensures { λ r. ⌜ Fronted (now (table .entry)) party name t mode (now (events .entry)) r ⌝ }
 {
     let known = types(table);
     if known <= t {
@@ -77,6 +81,9 @@ fn judge_checked(table: &[u32], name: u32, t: u32, mode: u32, events: &[u32]) ->
     }
     if limit::MOST_NAME < name {
         return Fault::At(refusal::ROOT, 0);
+    }
+    if limit::PARTIES <= party {
+        return Fault::At(refusal::PARTY, 0);
     }
     if !known_mode(table, mode) {
         return Fault::At(refusal::WRITE_MODE, 0);
@@ -92,13 +99,20 @@ fn judge_checked(table: &[u32], name: u32, t: u32, mode: u32, events: &[u32]) ->
 }
 
 // The table, then the rest.
-pub fn judge_before(table: &[u32], name: u32, t: u32, mode: u32, events: &[u32]) -> Fault
-    ensures { λ r. ⌜ Fronted (now (table .entry)) name t mode (now (events .entry)) r ⌝ }
+pub fn judge_before(
+    table: &[u32],
+    party: u32,
+    name: u32,
+    t: u32,
+    mode: u32,
+    events: &[u32],
+) -> Fault
+    ensures { λ r. ⌜ Fronted (now (table .entry)) party name t mode (now (events .entry)) r ⌝ }
 {
     let v = check(table);
     match v {
         Verdict::Wrong(i) => Fault::At(refusal::TABLE, i),
-        Verdict::Right => judge_checked(table, name, t, mode, events),
+        Verdict::Right => judge_checked(table, party, name, t, mode, events),
     }
 }
 

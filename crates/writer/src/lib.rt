@@ -108,6 +108,7 @@ const FEW_WORDS: usize = 512;
 // The walk from the root, which has no choice, with room for every event's note, then what it came to, into a payload that is zero.
 fn write_with_notes(
     table: &[u32],
+    party: u32,
     root_name: u32,
     root_type: u32,
     mode: u32,
@@ -117,12 +118,12 @@ fn write_with_notes(
     payload: &mut [u8],
 ) -> Answer
     requires { ⌜
-        (Fine (now table) «root_name» «root_type» mode (now events))
+        (Fine (now table) party «root_name» «root_type» mode (now events))
         × (Zeros (now payload))
         × (4 * eventsIn (now events) ≤ length (now notes)) ⌝ }
     ensures { λ r. ⌜
         Writes
-        (writing (now (table .entry)) «root_name» «root_type» mode (now (events .entry)) (now (texts .entry))
+        (writing (now (table .entry)) party «root_name» «root_type» mode (now (events .entry)) (now (texts .entry))
         (length (now (payload .entry))))
         mode (eventsIn (now (events .entry))) (length (now (texts .entry))) (length (now (payload .entry))) r
         (now (payload .exit)) ⌝ }
@@ -137,7 +138,7 @@ fn write_with_notes(
         substitutes: false,
         derived: false,
     };
-    let way = mode_of(table, mode);
+    let way = mode_of(table, party, mode);
     let r = element(
         table,
         events,
@@ -157,9 +158,10 @@ fn write_with_notes(
     }
 }
 
-// THE WRITER: a list of events and texts, into a payload whose root has a name and a type of the table. It asks nothing of what it is given.
+// THE WRITER: a list of events and texts, for a party, into a payload whose root has a name and a type of the table. It asks nothing of what it is given.
 pub fn write(
     table: &[u32],
+    party: u32,
     root_name: u32,
     root_type: u32,
     mode: u32,
@@ -169,13 +171,13 @@ pub fn write(
 ) -> Answer
     ensures { λ r. ⌜
         Writes
-        (writing (now (table .entry)) «root_name» «root_type» mode (now (events .entry)) (now (texts .entry))
+        (writing (now (table .entry)) party «root_name» «root_type» mode (now (events .entry)) (now (texts .entry))
         (length (now (payload .entry))))
         mode (eventsIn (now (events .entry))) (length (now (texts .entry))) (length (now (payload .entry))) r
         (now (payload .exit)) ⌝ }
 {
     clear(payload);
-    let f = judge_before(table, root_name, root_type, mode, events);
+    let f = judge_before(table, party, root_name, root_type, mode, events);
     if let Fault::At(n, p) = f {
         return refused(n, p);
     }
@@ -183,6 +185,7 @@ pub fn write(
         let mut few = [0u32; FEW_WORDS];
         return write_with_notes(
             table,
+            party,
             root_name,
             root_type,
             mode,
@@ -195,6 +198,7 @@ pub fn write(
     let mut all = [0u32; limit::MOST_EVENT_WORDS];
     write_with_notes(
         table,
+        party,
         root_name,
         root_type,
         mode,

@@ -55,7 +55,7 @@ fn main() -> ExitCode {
     }
     println!("named cases {}, sides of limits {}", cases.len(), sides.len());
     report(&tally, &kinds);
-    if !tally.is_whole() || !tally.casts_are_whole() || !tally.pairs.are_whole() {
+    if !tally.is_whole() || !tally.casts_are_whole() || !tally.pairs.are_whole() || !tally.parties_are_whole() {
         faults.push("not all was met".to_string());
     }
     println!("time {:.1} s", begun.elapsed().as_secs_f64());
@@ -80,4 +80,5 @@ fn report(tally: &Tally, kinds: &[u64]) {
     println!("accepted with Blanks {}, with a padded TheLength {}", tally.blanks, tally.padded);
     println!("written back identically {}, in fewer bits {}", tally.identical, tally.shorter);
     println!("demand 3: {}", tally.pairs);
+    println!("settings by others {}, in both orders {}", tally.others, tally.commuted);
 }

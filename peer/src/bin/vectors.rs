@@ -11,7 +11,7 @@ use std::path::{Path, PathBuf};
 use std::process::ExitCode;
 use std::{fs, io};
 
-const FILES: [&str; 4] = ["codes.txt", "tables.txt", "payloads.txt", "lists.txt"];
+const FILES: [&str; 5] = ["codes.txt", "tables.txt", "payloads.txt", "lists.txt", "settings.txt"];
 
 fn main() -> ExitCode {
     let words: Vec<_> = std::env::args().skip(1).collect();
@@ -51,7 +51,7 @@ fn write_all() -> io::Result<()> {
 fn check_all() -> io::Result<Vec<String>> {
     let mut faults = vec![];
     // 24 is the C boundary's, which no vector asks.
-    let mut numbers = [false; bim::CONTROL as usize + 1];
+    let mut numbers = [false; bim::PARTY as usize + 1];
     numbers[bim::AREA_SIZE as usize] = true;
     for file in FILES {
         let text = fs::read_to_string(examples(file))?;

@@ -149,7 +149,11 @@ impl<'a> Bench<'a> {
     /// Asks the calls on trial; tells what they touched outside of what is theirs to write.
     fn lent(&mut self, case: &Case) -> (Left, Option<String>) {
         let mut inputs: Vec<_> = case.inputs.iter().map(|bytes| Lent::holding(&mut self.junk, bytes)).collect();
-        let mut outputs: Vec<_> = case.rooms.iter().map(|&room| Lent::of_junk(&mut self.junk, room)).collect();
+        let junk = std::cell::RefCell::new(&mut self.junk);
+        let mut outputs = case.lent(
+            |bytes| Lent::holding(&mut junk.borrow_mut(), bytes),
+            |room| Lent::of_junk(&mut junk.borrow_mut(), room),
+        );
         let number = case.ask(self.calls, &inputs, &mut outputs);
         // Whatever the call did, the buffers are looked at again: the compiler may not count on them.
         black_box((&mut inputs, &mut outputs));
@@ -208,7 +212,7 @@ impl<'a> Bench<'a> {
 
 /// What the peer leaves.
 pub fn on_peer(case: &Case) -> Left {
-    let mut outputs: Vec<_> = case.rooms.iter().map(|&room| vec![DIRT; room]).collect();
+    let mut outputs = case.lent(<[u8]>::to_vec, |room| vec![DIRT; room]);
     let number = case.ask(&Judge, &case.inputs, &mut outputs);
     Left { number, outputs }
 }

@@ -1,9 +1,9 @@
 //! One call's input, and what the peer or another answers.
 
-use super::{Calls, Reading, Writing};
+use super::{Calls, Reading, Setting, Writing};
 use crate::answer::{refusal, Answer, Path};
 use crate::bim;
-use crate::call::{self, Read, Write};
+use crate::call::{self, Read, Set, Write};
 use crate::demands::Outcome;
 use crate::gen::Sample;
 use crate::words::{big_endian, hex, words_of};
@@ -19,15 +19,17 @@ pub enum Call {
     Write,
     /// `bim_write_lengths`.
     WriteLengths,
+    /// `bim_set_held`.
+    SetHeld,
 }
 
 impl Call {
-    /// All four.
-    pub const ALL: [Call; 4] = [Call::Check, Call::Read, Call::Write, Call::WriteLengths];
+    /// All five.
+    pub const ALL: [Call; 5] = [Call::Check, Call::Read, Call::Write, Call::WriteLengths, Call::SetHeld];
 
     /// The call's C name.
     pub fn name(self) -> &'static str {
-        ["bim_check_table", "bim_read", "bim_write", "bim_write_lengths"][self as usize]
+        ["bim_check_table", "bim_read", "bim_write", "bim_write_lengths", "bim_set_held"][self as usize]
     }
 
     /// The numbers that it can answer.
@@ -37,13 +39,14 @@ impl Call {
             Call::Read => &call::READER,
             Call::Write => &call::WRITER,
             Call::WriteLengths => &call::SHORT_WRITER,
+            Call::SetHeld => &call::SETTER,
         }
     }
 
     /// What it takes, by name.
     fn input_names(self) -> &'static [&'static str] {
         match self {
-            Call::Check => &["table"],
+            Call::Check | Call::SetHeld => &["table"],
             Call::Read => &["table", "payload"],
             Call::Write | Call::WriteLengths => &["table", "events", "texts"],
         }
@@ -55,6 +58,7 @@ impl Call {
             Call::Check => &["area"],
             Call::Read => &["events", "texts", "area"],
             Call::Write | Call::WriteLengths => &["payload", "area"],
+            Call::SetHeld => &["table", "area"],
         }
     }
 }
@@ -64,42 +68,48 @@ impl Call {
 pub struct Case {
     /// Which call.
     pub call: Call,
-    /// Root name and type.
+    /// Who asks; 0 for a check, which is nobody's.
+    pub party: u32,
+    /// Root name and type; of a setting 0 and the type.
     pub root: (u32, u32),
-    /// The mode that `bim_write` is told; 0 for every other call.
+    /// The mode that `bim_write` is told, the mark that `bim_set_held` is; 0 for every other call.
     pub mode: u32,
     /// The bytes given, in the call's order.
     pub inputs: Vec<Vec<u8>>,
-    /// The bytes lent for what is written, in the call's order.
+    /// The bytes lent for what is written, in the call's order. The table of a setting is given, and is changed where it lies.
     pub rooms: Vec<usize>,
 }
 
 impl Case {
     /// A table to check.
     pub fn check(table: Vec<u8>) -> Self {
-        Case { call: Call::Check, root: (0, 0), mode: 0, inputs: vec![table], rooms: vec![bim::AREA] }
+        Case { call: Call::Check, party: 0, root: (0, 0), mode: 0, inputs: vec![table], rooms: vec![bim::AREA] }
     }
 
-    /// A payload to read.
-    pub fn read(table: &[u32], root: (u32, u32), payload: Vec<u8>, events: usize, texts: usize) -> Self {
+    /// A payload for a party to read.
+    pub fn read(table: &[u32], party: u32, root: (u32, u32), payload: Vec<u8>, events: usize, texts: usize) -> Self {
         let inputs = vec![big_endian(table), payload];
-        Case { call: Call::Read, root, mode: 0, inputs, rooms: vec![events, texts, bim::AREA] }
+        Case { call: Call::Read, party, root, mode: 0, inputs, rooms: vec![events, texts, bim::AREA] }
     }
 
     /// A call in words.
     pub fn of(call: &call::Call) -> Self {
         match call {
             call::Call::Table(table) => Case::check(big_endian(table)),
-            call::Call::Read(Read { table, root, payload, event_words, text_room }) => {
-                Case::read(table, *root, payload.clone(), 4 * event_words, *text_room)
+            call::Call::Read(Read { table, party, root, payload, event_words, text_room }) => {
+                Case::read(table, *party, *root, payload.clone(), 4 * event_words, *text_room)
             }
-            call::Call::Write(Write { table, root, mode, events, texts, room }) => {
-                let case = Case::write(table, *root, mode.unwrap_or(0), big_endian(events), texts.clone(), *room);
+            call::Call::Write(Write { table, party, root, mode, events, texts, room }) => {
+                let (told, events) = (mode.unwrap_or(0), big_endian(events));
+                let case = Case::write(table, *party, *root, told, events, texts.clone(), *room);
                 if mode.is_some() {
                     case
                 } else {
                     case.without_mode()
                 }
+            }
+            call::Call::Set(Set { table, party, of_type, mark }) => {
+                Case::set(big_endian(table), [*party, *of_type, *mark])
             }
         }
     }
@@ -110,10 +120,30 @@ impl Case {
         Case::of(&call::Call::Read(sample.reading(table, words, texts)))
     }
 
-    /// A list to write.
-    pub fn write(table: &[u32], root: (u32, u32), mode: u32, list: Vec<u8>, texts: Vec<u8>, room: usize) -> Self {
+    /// A list for a party to write.
+    pub fn write(
+        table: &[u32],
+        party: u32,
+        root: (u32, u32),
+        mode: u32,
+        list: Vec<u8>,
+        texts: Vec<u8>,
+        room: usize,
+    ) -> Self {
         let inputs = vec![big_endian(table), list, texts];
-        Case { call: Call::Write, root, mode, inputs, rooms: vec![room, bim::AREA] }
+        Case { call: Call::Write, party, root, mode, inputs, rooms: vec![room, bim::AREA] }
+    }
+
+    /// A mark to set: party, type, and the mark.
+    pub fn set(table: Vec<u8>, [party, of_type, mark]: [u32; 3]) -> Self {
+        let (inputs, rooms) = (vec![table], vec![bim::AREA]);
+        Case { call: Call::SetHeld, party, root: (0, of_type), mode: mark, inputs, rooms }
+    }
+
+    /// What the call is lent to be filled or changed, in its order: given bytes, or so many of any.
+    pub fn lent<T>(&self, mut given: impl FnMut(&[u8]) -> T, mut any: impl FnMut(usize) -> T) -> Vec<T> {
+        let changed = (self.call == Call::SetHeld).then(|| given(&self.inputs[0]));
+        changed.into_iter().chain(self.rooms.iter().map(|&room| any(room))).collect()
     }
 
     /// The same list to write by the short call.
@@ -141,22 +171,26 @@ impl Case {
         I: AsRef<[u8]>,
         O: AsMut<[u8]>,
     {
-        let root = self.root;
+        let (party, root) = (self.party, self.root);
         let given = |index: usize| inputs[index].as_ref();
         match (self.call, outputs) {
             (Call::Check, [area]) => calls.check_table(given(0), area.as_mut()),
             (Call::Read, [events, texts, area]) => {
                 let (events, texts, area) = (events.as_mut(), texts.as_mut(), area.as_mut());
-                calls.read(Reading { table: given(0), root, payload: given(1), events, texts, area })
+                calls.read(Reading { table: given(0), party, root, payload: given(1), events, texts, area })
             }
             (Call::Write | Call::WriteLengths, [payload, area]) => {
                 let (payload, area) = (payload.as_mut(), area.as_mut());
-                let lent = Writing { table: given(0), root, events: given(1), texts: given(2), payload, area };
+                let lent = Writing { table: given(0), party, root, events: given(1), texts: given(2), payload, area };
                 if self.call == Call::Write {
                     calls.write(self.mode, lent)
                 } else {
                     calls.write_lengths(lent)
                 }
+            }
+            (Call::SetHeld, [table, area]) => {
+                let (table, area) = (table.as_mut(), area.as_mut());
+                calls.set_held(Setting { table, party, of_type: root.1, mark: self.mode, area })
             }
             _ => panic!("{self:?} has not the buffers of its call"),
         }
@@ -197,7 +231,9 @@ impl Case {
 
     /// The whole input in hex.
     pub fn shown(&self) -> String {
-        let mut text = format!("{} root {} {} mode {}", self.call.name(), self.root.0, self.root.1, self.mode);
+        let (name, of_type) = self.root;
+        let what = if self.call == Call::SetHeld { "mark" } else { "mode" };
+        let mut text = format!("{} party {} root {name} {of_type} {what} {}", self.call.name(), self.party, self.mode);
         for (name, bytes) in self.call.input_names().iter().zip(&self.inputs) {
             text += &format!("\n  {name}, {} bytes: {}", bytes.len(), hex(bytes));
         }

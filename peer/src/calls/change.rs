@@ -10,11 +10,13 @@ use crate::gen::{self, damage_list, damage_payload, damage_table, let_go, padded
 use crate::host;
 use crate::padding::padded;
 use crate::rng::Rng;
+use crate::trials::any_setting;
 use crate::words::{big_endian, words_of};
 
 /// Changes the case.
 pub fn change(rng: &mut Rng, case: &mut Case) {
-    match rng.below(16) {
+    match rng.below(18) {
+        16..=17 => other_party(rng, case),
         0 => other_mode(rng, case),
         1 => case.root = root(rng, case.root, case.inputs[0].get(7).map_or(1, |&types| u32::from(types).max(1))),
         2 => other_room(rng, case),
@@ -25,6 +27,17 @@ pub fn change(rng: &mut Rng, case: &mut Case) {
         12..=13 => pad_lengths(rng, case),
         14..=15 => put_control(rng, case),
         _ => change_content(rng, case),
+    }
+}
+
+/// Another party, or another party's mark of a type; now and then a table to be set in place of the call.
+fn other_party(rng: &mut Rng, case: &mut Case) {
+    let types = case.inputs[0].get(7).map_or(1, |&types| u32::from(types).max(1));
+    let setting @ [party, ..] = any_setting(rng, types);
+    match (case.call, rng.below(4)) {
+        (Call::SetHeld, _) | (_, 0) => *case = Case::set(std::mem::take(&mut case.inputs[0]), setting),
+        (_, 1) => case.party = party,
+        _ => case.inputs[0] = on_peer(&Case::set(std::mem::take(&mut case.inputs[0]), setting)).outputs.swap_remove(0),
     }
 }
 
@@ -70,7 +83,8 @@ fn change_table(rng: &mut Rng, case: &mut Case) {
     let right = host::check_table(&case.inputs[0], &mut [0; bim::AREA]) == 0;
     let mut words: Vec<_> = words_of(&case.inputs[0]);
     if right && rng.one_in(2) {
-        words = let_go(rng, &words, 5);
+        let party = gen::any_party(rng);
+        words = let_go(rng, party, &words, 5);
     } else if !words.is_empty() {
         damage_table(rng, &mut words);
     }
@@ -81,12 +95,12 @@ fn change_table(rng: &mut Rng, case: &mut Case) {
 fn turn(rng: &mut Rng, case: &mut Case) {
     let left = on_peer(case);
     let mut turned = match case.call {
-        Call::Check => Case::read(&[], (1, 0), gen::noise(rng), 1600, 100),
+        Call::Check | Call::SetHeld => Case::read(&[], case.party, (1, 0), gen::noise(rng), 1600, 100),
         Call::Read => match (left.events(), left.texts()) {
             (Some(events), Some(texts)) if left.is_accepted() => {
                 let room = case.inputs[1].len() + rng.below(60);
                 let mode = if rng.one_in(2) { left.word(1) as u32 } else { rng.below(7) as u32 };
-                let list = Case::write(&[], case.root, mode, events.to_vec(), texts.to_vec(), room);
+                let list = Case::write(&[], case.party, case.root, mode, events.to_vec(), texts.to_vec(), room);
                 if rng.one_in(4) {
                     list.without_mode()
                 } else {
@@ -97,7 +111,7 @@ fn turn(rng: &mut Rng, case: &mut Case) {
         },
         Call::Write | Call::WriteLengths => match left.outputs[0].get(..left.word(4).div_ceil(8)) {
             Some(payload) if left.is_accepted() => {
-                Case::read(&[], case.root, payload.to_vec(), case.inputs[1].len(), case.inputs[2].len())
+                Case::read(&[], case.party, case.root, payload.to_vec(), case.inputs[1].len(), case.inputs[2].len())
             }
             _ => return change_content(rng, case),
         },
@@ -112,7 +126,9 @@ fn pad_lengths(rng: &mut Rng, case: &mut Case) {
         turn(rng, case);
     }
     let read = (case.call == Call::Read).then(|| (words_of(&case.inputs[0]), &case.inputs[1]));
-    match read.and_then(|(table, payload)| padded(&table, case.root, payload, |length| padded_groups(rng, length))) {
+    match read.and_then(|(table, payload)| {
+        padded(&table, case.party, case.root, payload, |length| padded_groups(rng, length))
+    }) {
         Some(payload) => case.inputs[1] = payload,
         None => change_content(rng, case),
     }
@@ -159,7 +175,7 @@ fn other_flags(rng: &mut Rng, case: &mut Case) {
 
 fn change_content(rng: &mut Rng, case: &mut Case) {
     match case.call {
-        Call::Check => change_table(rng, case),
+        Call::Check | Call::SetHeld => change_table(rng, case),
         Call::Read => damage_payload(rng, &mut case.inputs[1]),
         Call::Write | Call::WriteLengths => {
             let mut events: Vec<_> = words_of(&case.inputs[1])

@@ -24,21 +24,23 @@ const ODD_AREA: usize = 240;
 pub fn decode(bytes: &[u8]) -> Case {
     let mut rest = Rest(bytes);
     let call = Call::ALL[usize::from(rest.byte()) % Call::ALL.len()];
+    let party = rest.word();
     let root = (rest.word(), rest.word());
     let mode = rest.word();
     let area = area(rest.word());
     let (first, second) = (within(rest.word()), within(rest.word()));
     let table = rest.table();
     match call {
-        Call::Check => Case { call, root: (0, 0), mode: 0, inputs: vec![table], rooms: vec![area] },
+        Call::Check => Case { call, party: 0, root: (0, 0), mode: 0, inputs: vec![table], rooms: vec![area] },
+        Call::SetHeld => Case { call, party, root: (0, root.1), mode, inputs: vec![table], rooms: vec![area] },
         Call::Read => {
-            Case { call, root, mode: 0, inputs: vec![table, rest.0.to_vec()], rooms: vec![first, second, area] }
+            Case { call, party, root, mode: 0, inputs: vec![table, rest.0.to_vec()], rooms: vec![first, second, area] }
         }
         Call::Write | Call::WriteLengths => {
             let odd = rest.byte() % 16;
             let list = rest.words(odd);
             let mode = if call == Call::Write { mode } else { 0 };
-            Case { call, root, mode, inputs: vec![table, list, rest.0.to_vec()], rooms: vec![first, area] }
+            Case { call, party, root, mode, inputs: vec![table, list, rest.0.to_vec()], rooms: vec![first, area] }
         }
     }
 }
@@ -54,7 +56,7 @@ fn encode(case: &Case, named: Option<usize>) -> Vec<u8> {
     let mut bytes = vec![case.call as u8];
     let (rooms, area) = case.rooms.split_at(case.rooms.len() - 1);
     let room = |index: usize| rooms.get(index).map_or(0, |&room| room as u32);
-    for word in [case.root.0, case.root.1, case.mode, area_word(area[0]), room(0), room(1)] {
+    for word in [case.party, case.root.0, case.root.1, case.mode, area_word(area[0]), room(0), room(1)] {
         put_word(&mut bytes, word);
     }
     match named {
@@ -65,7 +67,7 @@ fn encode(case: &Case, named: Option<usize>) -> Vec<u8> {
         None => put_words(&mut bytes, &case.inputs[0]),
     }
     match case.call {
-        Call::Check => {}
+        Call::Check | Call::SetHeld => {}
         Call::Read => bytes.extend(&case.inputs[1]),
         Call::Write | Call::WriteLengths => {
             put_words(&mut bytes, &case.inputs[1]);
@@ -148,7 +150,7 @@ fn named_tables() -> &'static [Vec<u8>] {
     static TABLES: OnceLock<Vec<Vec<u8>>> = OnceLock::new();
     TABLES.get_or_init(|| {
         let mut tables = vec![];
-        for case in super::named().into_iter().filter(|case| case.call != Call::Check) {
+        for case in super::named().into_iter().filter(|case| !matches!(case.call, Call::Check | Call::SetHeld)) {
             if !tables.contains(&case.inputs[0]) {
                 tables.push(case.inputs[0].clone());
             }

@@ -8,6 +8,7 @@ mod change;
 mod coded;
 mod pairs;
 mod reading;
+mod setting;
 mod tally;
 mod writing;
 
@@ -25,6 +26,8 @@ use crate::rng::Rng;
 pub struct Reading<'a> {
     /// Given: the table's bytes.
     pub table: &'a [u8],
+    /// Given: who reads.
+    pub party: u32,
     /// Given: root name and type.
     pub root: (u32, u32),
     /// Given: the payload.
@@ -41,6 +44,8 @@ pub struct Reading<'a> {
 pub struct Writing<'a> {
     /// Given: the table's bytes.
     pub table: &'a [u8],
+    /// Given: who writes.
+    pub party: u32,
     /// Given: root name and type.
     pub root: (u32, u32),
     /// Given: the list's bytes.
@@ -53,7 +58,21 @@ pub struct Writing<'a> {
     pub area: &'a mut [u8],
 }
 
-/// The four C calls.
+/// What `bim_set_held` is given and lent.
+pub struct Setting<'a> {
+    /// Changed: the table's bytes.
+    pub table: &'a mut [u8],
+    /// Given: whose mark.
+    pub party: u32,
+    /// Given: of which type.
+    pub of_type: u32,
+    /// Given: 0 clears, any other sets.
+    pub mark: u32,
+    /// Lent for the answer.
+    pub area: &'a mut [u8],
+}
+
+/// The five C calls.
 pub trait Calls {
     /// `bim_check_table`.
     fn check_table(&self, table: &[u8], area: &mut [u8]) -> u32;
@@ -63,12 +82,14 @@ pub trait Calls {
     fn write(&self, mode: u32, lent: Writing<'_>) -> u32;
     /// `bim_write_lengths`.
     fn write_lengths(&self, lent: Writing<'_>) -> u32;
+    /// `bim_set_held`.
+    fn set_held(&self, lent: Setting<'_>) -> u32;
 }
 
-/// Makes a type of four functions that have the calls' arguments in their order.
+/// Makes a type of five functions that have the calls' arguments in their order.
 #[macro_export]
 macro_rules! calls_of {
-    ($(#[$meta:meta])* $name:ident = $check:path, $read:path, $write:path, $write_lengths:path) => {
+    ($(#[$meta:meta])* $name:ident = $check:path, $read:path, $write:path, $write_lengths:path, $set:path) => {
         $(#[$meta])*
         pub struct $name;
 
@@ -79,20 +100,26 @@ macro_rules! calls_of {
 
             #[inline(always)]
             fn read(&self, lent: $crate::calls::Reading<'_>) -> u32 {
-                let $crate::calls::Reading { table, root, payload, events, texts, area } = lent;
-                $read(table, root.0, root.1, payload, events, texts, area)
+                let $crate::calls::Reading { table, party, root, payload, events, texts, area } = lent;
+                $read(table, party, root.0, root.1, payload, events, texts, area)
             }
 
             #[inline(always)]
             fn write(&self, mode: u32, lent: $crate::calls::Writing<'_>) -> u32 {
-                let $crate::calls::Writing { table, root, events, texts, payload, area } = lent;
-                $write(table, root.0, root.1, mode, events, texts, payload, area)
+                let $crate::calls::Writing { table, party, root, events, texts, payload, area } = lent;
+                $write(table, party, root.0, root.1, mode, events, texts, payload, area)
             }
 
             #[inline(always)]
             fn write_lengths(&self, lent: $crate::calls::Writing<'_>) -> u32 {
-                let $crate::calls::Writing { table, root, events, texts, payload, area } = lent;
-                $write_lengths(table, root.0, root.1, events, texts, payload, area)
+                let $crate::calls::Writing { table, party, root, events, texts, payload, area } = lent;
+                $write_lengths(table, party, root.0, root.1, events, texts, payload, area)
+            }
+
+            #[inline(always)]
+            fn set_held(&self, lent: $crate::calls::Setting<'_>) -> u32 {
+                let $crate::calls::Setting { table, party, of_type, mark, area } = lent;
+                $set(table, party, of_type, mark, area)
             }
         }
     };
@@ -100,16 +127,17 @@ macro_rules! calls_of {
 
 calls_of! {
     /// The peer's own calls, which judge the others.
-    Judge = host::check_table, host::read, host::write, host::write_lengths
+    Judge = host::check_table, host::read, host::write, host::write_lengths, host::set_held
 }
 
-/// The named cases, then at least `cases` seeded calls to read and check, as many to write, and as many pairs of tables
-/// for demand 3.
+/// The named cases, then at least `cases` seeded calls to read and check, as many to write, as many pairs of tables
+/// for demand 3, and as many calls between which marks are set.
 pub fn run(calls: &dyn Calls, cases: u64, seed: u64) -> Bench<'_> {
     let mut bench = Bench::new(calls, seed);
     bench.begin_part("named");
     reading::named(&mut bench);
     writing::named(&mut bench);
+    setting::named(&mut bench);
     bench.count_casts();
     all_seeded(&mut bench, cases, seed);
     bench
@@ -127,6 +155,7 @@ fn all_seeded(bench: &mut Bench<'_>, cases: u64, seed: u64) {
     seeded(bench, "reading", seed.wrapping_mul(4), cases, reading::round);
     seeded(bench, "writing", seed.wrapping_mul(4) + 1, cases, writing::round);
     seeded(bench, "pairs", seed.wrapping_mul(4) + 2, cases, pairs::round);
+    seeded(bench, "settings", seed.wrapping_mul(4) + 3, cases, setting::round);
 }
 
 /// Rounds of `part`, each from a seed of its own, until it has had `cases` cases.
@@ -140,12 +169,13 @@ fn seeded(bench: &mut Bench<'_>, part: &'static str, seed: u64, cases: u64, roun
     }
 }
 
-/// Asks one case, and holds demand 2 of what it gives.
+/// Asks one case, and holds demand 2 of what it gives, or *own* of a setting.
 pub fn ask(bench: &mut Bench<'_>, case: &Case) {
     match case.call {
         Call::Check => drop(bench.ask("tables", case)),
         Call::Read => drop(reading::ask(bench, "payloads", case)),
         Call::Write | Call::WriteLengths => drop(writing::ask(bench, "lists", case)),
+        Call::SetHeld => drop(setting::ask(bench, "settings", case)),
     }
 }
 

@@ -1,4 +1,4 @@
-//! Demand 3 on the answers of the calls on trial: pairs of tables alike but for held marks.
+//! Demand 3 on the answers of the calls on trial: pairs of tables alike but for held words, and one party.
 
 use super::bench::Bench;
 use super::case::Case;
@@ -15,11 +15,12 @@ const ENOUGH: u64 = 20;
 
 /// One pair: whole, odd, padded and damaged payloads, deep ones and noise, in enough room, just enough, and less.
 pub fn round(bench: &mut Bench<'_>, rng: &mut Rng) {
+    let party = gen::any_party(rng);
     let (kind, table, sample) = match rng.below(16) {
-        0 => ("noise", gen::table(rng), None),
+        0 => ("noise", gen::table(rng, party), None),
         1 => {
-            let table = gen::deep_table(rng);
-            let sample = gen::deep_sample(rng, &table);
+            let table = gen::deep_table(rng, party);
+            let sample = gen::deep_sample(rng, &table, party);
             ("deep payloads", table, sample)
         }
         2..=3 => {
@@ -43,7 +44,7 @@ pub fn round(bench: &mut Bench<'_>, rng: &mut Rng) {
         Some(sample) => Case::read_sample(&table, sample),
         None => {
             let root = (rng.below(50) as u32, rng.below(table[1] as usize) as u32);
-            Case::read(&table, root, gen::noise(rng), bim::EVENT * rng.below(100), rng.below(40))
+            Case::read(&table, party, root, gen::noise(rng), bim::EVENT * rng.below(100), rng.below(40))
         }
     };
     let types = sample.map_or(vec![], |sample| element_types(&table, sample.root, &sample.events));
@@ -53,8 +54,8 @@ pub fn round(bench: &mut Bench<'_>, rng: &mut Rng) {
         case.rooms[0] += 160;
         case.rooms[1] += 40;
     }
-    let second_table = if rng.one_in(2) { table } else { let_go(rng, &table, 12) };
-    let first_table = holds_less(rng, &second_table, &types);
+    let second_table = if rng.one_in(2) { table } else { let_go(rng, case.party, &table, 12) };
+    let first_table = holds_less(rng, case.party, &second_table, &types);
     let room = rng.below(8);
     if room == 0 {
         case.rooms[0] = rng.below(case.rooms[0] + 20);
@@ -92,7 +93,7 @@ fn judged(
         return None;
     }
     let judge = || match (first.reading(), second.reading()) {
-        (Some(first), Some(second)) => judge_pair(first_table, second_table, case.root, &first, &second),
+        (Some(first), Some(second)) => judge_pair([first_table, second_table], case.party, case.root, &first, &second),
         _ => Err("demand 3: an area counts more than there is".to_string()),
     };
     // Only a list that is no reading of the table stops the judge, and the peer gives none.
@@ -128,16 +129,17 @@ fn nested(rng: &mut Rng, quirk: usize) -> (Vec<u32>, Sample) {
     made
 }
 
-/// The table with some held marks cleared, at least one where there is any, mostly one of `types`.
-fn holds_less(rng: &mut Rng, table: &[u32], types: &[usize]) -> Vec<u32> {
+/// The table with some of a party's marks cleared, at least one where there is any, mostly one of `types`; the others' marks may be others.
+fn holds_less(rng: &mut Rng, party: u32, table: &[u32], types: &[usize]) -> Vec<u32> {
     let times = rng.within(3, 12);
-    let mut less = let_go(rng, table, times);
-    let held: Vec<_> = marks(table).filter(|&at| table[at] == 1).collect();
+    let mut less = let_go(rng, party, table, times);
+    let bit = 1 << party;
+    let held: Vec<_> = marks(table).filter(|&at| table[at] & bit != 0).collect();
     let wanted: Vec<_> = types.iter().map(|&of_type| held_word(of_type)).filter(|at| held.contains(at)).collect();
     if !wanted.is_empty() && !rng.one_in(4) {
-        less[rng.pick(&wanted)] = 0;
-    } else if less == table && !held.is_empty() {
-        less[rng.pick(&held)] = 0;
+        less[rng.pick(&wanted)] &= !bit;
+    } else if held.iter().all(|&at| less[at] & bit != 0) && !held.is_empty() {
+        less[rng.pick(&held)] &= !bit;
     }
     less
 }

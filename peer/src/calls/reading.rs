@@ -66,7 +66,7 @@ fn written_back(bench: &mut Bench<'_>, case: &Case, left: &Left) {
     if blanks {
         return;
     }
-    let mut back = Case::write(&[], case.root, left.word(1) as u32, events.to_vec(), texts.to_vec(), 0);
+    let mut back = Case::write(&[], case.party, case.root, left.word(1) as u32, events.to_vec(), texts.to_vec(), 0);
     back.inputs[0].clone_from(&case.inputs[0]);
     back.rooms[0] = case.inputs[1].len();
     let written = bench.ask_aside("written back", &back);
@@ -100,7 +100,7 @@ fn check(bench: &mut Bench<'_>, kind: &'static str, table: &[u8]) {
 fn held_in_part(rng: &mut Rng, quirk: usize) -> Case {
     let (table, sample) =
         if quirk == 0 && rng.one_in(4) { table_and_padded(rng) } else { table_and_sample(rng, quirk) };
-    let table = if rng.one_in(2) { table } else { let_go(rng, &table, 5) };
+    let table = if rng.one_in(2) { table } else { let_go(rng, sample.party, &table, 5) };
     Case::read_sample(&table, &sample)
 }
 
@@ -111,7 +111,7 @@ fn valid(bench: &mut Bench<'_>, rng: &mut Rng) {
     let mut left = ask(bench, "valid payloads", &case);
     for times in [2, 5] {
         if rng.one_in(2) {
-            case.inputs[0] = big_endian(&let_go(rng, &table, times));
+            case.inputs[0] = big_endian(&let_go(rng, case.party, &table, times));
             left = ask(bench, "valid payloads, types not held", &case);
         }
     }
@@ -124,7 +124,7 @@ fn padded(bench: &mut Bench<'_>, rng: &mut Rng) {
     let mut case = Case::read_sample(&table, &sample);
     let left = ask(bench, "padded lengths", &case);
     rooms_around(bench, rng, &mut case.clone(), &left);
-    case.inputs[0] = big_endian(&let_go(rng, &table, 4));
+    case.inputs[0] = big_endian(&let_go(rng, case.party, &table, 4));
     ask(bench, "padded lengths, types not held", &case);
     case.rooms[0] += 64;
     case.rooms[1] += 8;
@@ -152,7 +152,7 @@ fn controls(bench: &mut Bench<'_>, rng: &mut Rng) {
     ask(bench, "control characters, short rooms", &case);
     case.rooms = all;
     for times in [2, 5] {
-        case.inputs[0] = big_endian(&let_go(rng, &table, times));
+        case.inputs[0] = big_endian(&let_go(rng, case.party, &table, times));
         ask(bench, "control characters, types not held", &case);
     }
 }
@@ -331,13 +331,25 @@ fn roots(bench: &mut Bench<'_>, rng: &mut Rng) {
         case.root = root(rng, old, types);
         ask(bench, "roots of any size", &case);
     }
+    parties(bench, rng, case);
+}
+
+/// Parties of any size, with a right root and a wrong one, a whole payload and none.
+fn parties(bench: &mut Bench<'_>, rng: &mut Rng, case: Case) {
+    for _ in 0..4 {
+        let mut other = Case { party: gen::edge_party(rng), ..case.clone() };
+        ask(bench, "parties of any size", &other);
+        other.inputs[1].truncate(rng.below(2));
+        ask(bench, "parties of any size, no payload", &other);
+    }
 }
 
 fn noise(bench: &mut Bench<'_>, rng: &mut Rng) {
-    let table = gen::table(rng);
-    let table = let_go(rng, &table, 4);
+    let party = gen::any_party(rng);
+    let table = gen::table(rng, party);
+    let table = let_go(rng, party, &table, 4);
     let root = (rng.below(50) as u32, rng.below(table[1] as usize) as u32);
-    let mut case = Case::read(&table, root, gen::noise(rng), bim::EVENT * rng.below(100), rng.below(60));
+    let mut case = Case::read(&table, party, root, gen::noise(rng), bim::EVENT * rng.below(100), rng.below(60));
     for _ in 0..3 {
         ask(bench, "noise as payload", &case);
         case.inputs[1] = gen::noise(rng);
@@ -354,8 +366,9 @@ fn noise(bench: &mut Bench<'_>, rng: &mut Rng) {
 }
 
 fn deep(bench: &mut Bench<'_>, rng: &mut Rng) {
-    let table = gen::deep_table(rng);
-    let Some(mut sample) = gen::deep_sample(rng, &table) else {
+    let party = gen::any_party(rng);
+    let table = gen::deep_table(rng, party);
+    let Some(mut sample) = gen::deep_sample(rng, &table, party) else {
         return;
     };
     if rng.one_in(3) {
@@ -363,7 +376,7 @@ fn deep(bench: &mut Bench<'_>, rng: &mut Rng) {
     }
     let mut case = Case::read_sample(&table, &sample);
     ask(bench, "deep payloads", &case);
-    case.inputs[0] = big_endian(&let_go(rng, &table, 12));
+    case.inputs[0] = big_endian(&let_go(rng, party, &table, 12));
     ask(bench, "deep payloads", &case);
     damage_payload(rng, &mut case.inputs[1]);
     ask(bench, "deep payloads, damaged", &case);
@@ -422,7 +435,7 @@ pub fn named(bench: &mut Bench<'_>) {
                 ask(bench, "named payloads, tables of odd length", &longer);
                 rooms_around(bench, &mut rng, &mut base.clone(), &left);
             }
-            Call::Write | Call::WriteLengths => {}
+            Call::Write | Call::WriteLengths | Call::SetHeld => {}
         }
     }
 }

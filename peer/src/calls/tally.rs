@@ -45,13 +45,15 @@ impl Tally {
         let words = |index: usize| words_of(&case.inputs[index]);
         let (table, (name, of_type)) = (words(0), case.root);
         let item = match case.call {
+            Call::SetHeld => "",
             Call::Check => model::check_table(&table).and_then(|word| model::part(&table, word)).unwrap_or(""),
             Call::Read => {
-                model::read(&table, name, of_type, &case.inputs[1], case.rooms[0] / bim::EVENT, case.rooms[1]).item
+                let (events, texts) = (case.rooms[0] / bim::EVENT, case.rooms[1]);
+                model::read(&table, case.party, name, of_type, &case.inputs[1], events, texts).item
             }
             Call::Write | Call::WriteLengths => {
                 let mode = case.mode_in_effect();
-                model::write(&table, name, of_type, mode, &words(1), &case.inputs[2], case.rooms[0]).1
+                model::write(&table, case.party, name, of_type, mode, &words(1), &case.inputs[2], case.rooms[0]).1
             }
         };
         if !item.is_empty() {

@@ -58,7 +58,7 @@ fn read_back(bench: &mut Bench<'_>, case: &Case, left: &Left) {
     let [table, list, texts] = &case.inputs[..] else {
         return;
     };
-    let mut back = Case::read(&[], case.root, payload.to_vec(), list.len(), texts.len());
+    let mut back = Case::read(&[], case.party, case.root, payload.to_vec(), list.len(), texts.len());
     back.inputs[0].clone_from(table);
     let read = bench.ask_aside("read back", &back);
     let alike = |(got, given): (&[u8], &[u8])| got[..12] == given[..12];
@@ -178,7 +178,7 @@ fn blanks(bench: &mut Bench<'_>, rng: &mut Rng) {
     }
     put_list(&mut case, &sample.events);
     for times in [2, 5] {
-        case.inputs[0] = big_endian(&let_go(rng, &table, times));
+        case.inputs[0] = big_endian(&let_go(rng, case.party, &table, times));
         ask(bench, "types not held", &case);
     }
 }
@@ -282,6 +282,16 @@ fn roots(bench: &mut Bench<'_>, rng: &mut Rng) {
         case.root = root(rng, sample.root, table[1]);
         ask(bench, "roots of any size", &case);
     }
+    // Parties of any size: before 22 and 18, and after 2.
+    for _ in 0..4 {
+        case.party = gen::edge_party(rng);
+        case.root = sample.root;
+        ask(bench, "parties of any size", &case);
+        let mut other = Case { mode: rng.pick(&[3, 9]), ..case.clone() };
+        ask(bench, "parties of any size, no such mode", &other);
+        other.inputs[1].truncate(rng.below(16));
+        ask(bench, "parties of any size, no list", &other);
+    }
 }
 
 fn malformed_tables(bench: &mut Bench<'_>, rng: &mut Rng) {
@@ -296,7 +306,8 @@ fn malformed_tables(bench: &mut Bench<'_>, rng: &mut Rng) {
 }
 
 fn noise(bench: &mut Bench<'_>, rng: &mut Rng) {
-    let table = gen::table(rng);
+    let party = gen::any_party(rng);
+    let table = gen::table(rng, party);
     for _ in 0..4 {
         let root = (rng.below(9) as u32, rng.below(table[1] as usize) as u32);
         let mut list: Vec<_> = (0..4 * rng.below(7)).map(|_| rng.below(9) as u32).collect();
@@ -308,13 +319,14 @@ fn noise(bench: &mut Bench<'_>, rng: &mut Rng) {
             list = (0..rng.below(100)).map(|_| rng.word() as u8).collect();
         }
         let texts = (0..rng.below(9)).map(|_| rng.word() as u8).collect();
-        ask(bench, "noise", &Case::write(&table, root, rng.below(8) as u32, list, texts, rng.below(60)));
+        ask(bench, "noise", &Case::write(&table, party, root, rng.below(8) as u32, list, texts, rng.below(60)));
     }
 }
 
 fn deep(bench: &mut Bench<'_>, rng: &mut Rng) {
-    let table = gen::deep_table(rng);
-    let Some(mut sample) = gen::deep_sample(rng, &table) else {
+    let party = gen::any_party(rng);
+    let table = gen::deep_table(rng, party);
+    let Some(mut sample) = gen::deep_sample(rng, &table, party) else {
         return;
     };
     let mut case = Case::write_sample(&table, &sample);

@@ -50,18 +50,18 @@ impl Input {
 
     /// The reading, into buffers of a full receiver's size.
     pub fn reading(&self, table: &[u32]) -> Case {
-        Case::read(table, self.root, self.payload.clone(), bim::EVENT * bim::MOST_EVENTS, bim::MOST_PAYLOAD)
+        Case::read(table, 0, self.root, self.payload.clone(), bim::EVENT * bim::MOST_EVENTS, bim::MOST_PAYLOAD)
     }
 
     /// The writing, into a buffer of the largest payload.
     pub fn writing(&self, table: &[u32]) -> Case {
-        Case::write(table, self.root, self.mode, self.list.clone(), self.texts.clone(), bim::MOST_PAYLOAD)
+        Case::write(table, 0, self.root, self.mode, self.list.clone(), self.texts.clone(), bim::MOST_PAYLOAD)
     }
 
     /// The same but for the payload's TheLengths, each of which has eight groups.
     fn padded(mut self) -> Self {
         self.name = format!("{}, lengths padded", self.name);
-        self.payload = padded(&self.rows.words(), self.root, &self.payload, |_| 8).unwrap_or_default();
+        self.payload = padded(&self.rows.words(), 0, self.root, &self.payload, |_| 8).unwrap_or_default();
         self
     }
 

@@ -25,6 +25,35 @@ pub fn check_table(table: &[u8], area: &mut [u8]) -> u32 {
     }
 }
 
+/// Sets or clears a party's mark of a type where it lies; `area` is written.
+pub fn set_held(table: &mut [u8], party: u32, of_type: u32, mark: u32, area: &mut [u8]) -> u32 {
+    let Some(area) = whole_area(area) else {
+        return bim::AREA_SIZE;
+    };
+    let right = table::Table::new(table).map_err(|word| (bim::TABLE, word)).and_then(|table| {
+        table.check_root(0, of_type)?;
+        check_party(party)
+    });
+    if let Err(refused) = right {
+        return refuse(area, refused, &[]);
+    }
+    // The lowest byte of the held word has all eight marks.
+    let byte = &mut table[4 * (bim::HEADER + bim::TYPE_ROW * of_type as usize) + 3];
+    let bit = 1 << party;
+    *byte = (*byte & !bit) | if mark == 0 { 0 } else { bit };
+    fill_area(area, [0; 6], &[]);
+    bim::ACCEPTED
+}
+
+/// 26 for a party that there is not.
+#[inline(always)]
+fn check_party(party: u32) -> Result<(), (u32, usize)> {
+    if party >= bim::PARTIES {
+        return Err((bim::PARTY, 0));
+    }
+    Ok(())
+}
+
 /// Fills the area of a refusal, and gives its number.
 fn refuse(area: &mut [u8; bim::AREA], (number, place): (u32, usize), names: &[u16]) -> u32 {
     // Places stop at 2^32 - 1.

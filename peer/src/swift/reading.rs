@@ -2,7 +2,7 @@
 
 use super::bits::{any_five, copy_text, five, front, width, window};
 use super::table::{word, Casts, Table};
-use super::{fill_area, refuse, whole_area};
+use super::{check_party, fill_area, refuse, whole_area};
 use crate::bim;
 use crate::reader::mode_of;
 use crate::utf8;
@@ -11,6 +11,7 @@ use crate::utf8;
 #[allow(clippy::too_many_arguments)] // the boundary's names and order are fixed
 pub fn read(
     table: &[u8],
+    party: u32,
     root_name: u32,
     root_type: u32,
     payload: &[u8],
@@ -23,7 +24,7 @@ pub fn read(
         texts.fill(0);
         return bim::AREA_SIZE;
     };
-    let (table, mode) = match begin(table, root_name, root_type, payload) {
+    let (table, mode) = match begin(table, party, root_name, root_type, payload) {
         Ok(begun) => begun,
         Err(refused) => {
             events.fill(0);
@@ -35,6 +36,7 @@ pub fn read(
     let room = slots.len().min(bim::MOST_EVENTS);
     let mut reader = Reader {
         table,
+        mark: 1 << party,
         payload,
         lengths: mode % bim::CASTING,
         casting: mode >= bim::CASTING,
@@ -63,17 +65,17 @@ pub fn read(
     bim::ACCEPTED
 }
 
-/// What comes before the first item: 1, 2, 3, 4 with their places.
+/// What comes before the first item: 1, 2, 26, 3, 4 with their places.
 fn begin<'a>(
     table: &'a [u8],
+    party: u32,
     root_name: u32,
     root_type: u32,
     payload: &[u8],
 ) -> Result<(Table<'a>, u32), (u32, usize)> {
     let table = Table::new(table).map_err(|word| (bim::TABLE, word))?;
-    if root_type as usize >= table.types.len() || root_name > bim::MOST_NAME {
-        return Err((bim::ROOT, 0));
-    }
+    table.check_root(root_name, root_type)?;
+    check_party(party)?;
     if payload.is_empty() || payload.len() > bim::MOST_PAYLOAD {
         return Err((bim::PAYLOAD_SIZE, 0));
     }
@@ -83,6 +85,8 @@ fn begin<'a>(
 
 struct Reader<'a> {
     table: Table<'a>,
+    /// The party's bit of a held word.
+    mark: u32,
     payload: &'a [u8],
     /// Of the mode, length coding.
     lengths: u32,
@@ -179,7 +183,7 @@ impl Reader<'_> {
         }
         let of_type = cast.of_type;
         let row = &self.table.types[of_type as usize];
-        if word(row, 0) == 0 {
+        if word(row, 0) & self.mark == 0 {
             if !coded {
                 return self.refuse(bim::NOT_HELD, first);
             }

@@ -88,6 +88,15 @@ impl<'a> Table<'a> {
         })
     }
 
+    /// 2 for a root of no such type, or of too large a name.
+    #[inline(always)]
+    pub fn check_root(&self, root_name: u32, root_type: u32) -> Result<(), (u32, usize)> {
+        if root_type as usize >= self.types.len() || root_name > bim::MOST_NAME {
+            return Err((bim::ROOT, 0));
+        }
+        Ok(())
+    }
+
     /// D.
     #[inline(always)]
     pub fn derivations(&self) -> usize {
@@ -140,7 +149,7 @@ impl<'a> Table<'a> {
     fn type_right(&self, row: &TypeRow) -> bool {
         let [held, inside, first, count, a, b, c] = [0, 1, 2, 3, 4, 5, 6].map(|index| word(row, index));
         let attributes = self.attributes.len() as u32;
-        let front = (held <= 1) & (first <= attributes) & (count <= attributes.wrapping_sub(first));
+        let front = (held <= bim::MOST_HELD) & (first <= attributes) & (count <= attributes.wrapping_sub(first));
         front
             && match inside {
                 bim::EMPTY => a | b | c == 0,

@@ -2,13 +2,14 @@
 
 use super::bits::{code5, text_fault, width, Pen};
 use super::table::{word, Casts, Table};
-use super::{fill_area, refuse, whole_area};
+use super::{check_party, fill_area, refuse, whole_area};
 use crate::bim;
 
 /// Writes a list; `payload` and `area` are written.
 #[allow(clippy::too_many_arguments)] // the boundary's names and order are fixed
 pub fn write(
     table: &[u8],
+    party: u32,
     root_name: u32,
     root_type: u32,
     mode: u32,
@@ -22,11 +23,11 @@ pub fn write(
         return bim::AREA_SIZE;
     };
     let (list, rest) = events.as_chunks::<{ bim::EVENT }>();
-    let written = begin(table, root_name, root_type, mode).and_then(|table| {
+    let written = begin(table, party, root_name, root_type, mode).and_then(|table| {
         if !rest.is_empty() || list.len() > bim::MOST_EVENTS {
             return Err((bim::NO_READING, list.len()));
         }
-        let call = Call { table, mode, list, texts, root_name, root_type };
+        let call = Call { table, party, mode, list, texts, root_name, root_type };
         // The place for the codes is no larger than the list asks: it is cleared first.
         match list.len() {
             0..=32 => call.run::<32>(payload),
@@ -48,8 +49,10 @@ pub fn write(
 }
 
 /// The short call: writes a list in mode 2, whatever the table has.
+#[allow(clippy::too_many_arguments)] // the boundary's names and order are fixed
 pub fn write_lengths(
     table: &[u8],
+    party: u32,
     root_name: u32,
     root_type: u32,
     events: &[u8],
@@ -57,15 +60,14 @@ pub fn write_lengths(
     payload: &mut [u8],
     area: &mut [u8],
 ) -> u32 {
-    write(table, root_name, root_type, bim::MODE_ALWAYS, events, texts, payload, area)
+    write(table, party, root_name, root_type, bim::MODE_ALWAYS, events, texts, payload, area)
 }
 
-/// What comes before the list: 1, 2, 22.
-fn begin(table: &[u8], root_name: u32, root_type: u32, mode: u32) -> Result<Table<'_>, (u32, usize)> {
+/// What comes before the list: 1, 2, 26, 22.
+fn begin(table: &[u8], party: u32, root_name: u32, root_type: u32, mode: u32) -> Result<Table<'_>, (u32, usize)> {
     let table = Table::new(table).map_err(|word| (bim::TABLE, word))?;
-    if root_type as usize >= table.types.len() || root_name > bim::MOST_NAME {
-        return Err((bim::ROOT, 0));
-    }
+    table.check_root(root_name, root_type)?;
+    check_party(party)?;
     let casting = mode >= bim::CASTING;
     if mode & 3 > bim::MODE_ALWAYS || casting && (mode >= 2 * bim::CASTING || table.derivations() == 0) {
         return Err((bim::WRITE_MODE, 0));
@@ -95,6 +97,7 @@ impl Piece {
 /// What was asked.
 struct Call<'a> {
     table: Table<'a>,
+    party: u32,
     mode: u32,
     list: &'a [[u8; bim::EVENT]],
     texts: &'a [u8],
@@ -107,11 +110,12 @@ impl Call<'_> {
     #[inline(never)]
     fn run<const MOST: usize>(&self, payload: &mut [u8]) -> Result<usize, (u32, usize)> {
         let mut pieces = [Piece(0); MOST];
-        let &Call { table, mode, list, texts, root_name, root_type } = self;
+        let &Call { table, party, mode, list, texts, root_name, root_type } = self;
         let pieces = &mut pieces[..list.len()];
         let casting = mode >= bim::CASTING;
         let mut walk = Walk {
             table,
+            mark: 1 << party,
             lengths: mode % bim::CASTING,
             casting,
             codes: table.codes(casting),
@@ -163,6 +167,8 @@ fn put_out(pieces: &[Piece], mut texts: &[u8], mode_byte: u8, payload: &mut [u8]
 
 struct Walk<'a> {
     table: Table<'a>,
+    /// The party's bit of a held word.
+    mark: u32,
     /// Of the mode, length coding.
     lengths: u32,
     casting: bool,
@@ -265,7 +271,7 @@ impl Walk<'_> {
             of_type = self.cast(particle, of_type)?;
         }
         let row = &self.table.types[of_type as usize];
-        if word(row, 0) == 0 {
+        if word(row, 0) & self.mark == 0 {
             self.next = start;
             return self.refuse(bim::NOT_HELD);
         }

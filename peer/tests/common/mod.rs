@@ -89,12 +89,17 @@ impl Read {
     }
 }
 
-/// Reads with room for `room` events and `text_room` text bytes.
+/// Reads as party 0, with room for `room` events and `text_room` text bytes.
 pub fn read(table: &[u32], root_name: u32, root_type: u32, payload: &[u8], room: usize, text_room: usize) -> Read {
+    read_by(0, table, (root_name, root_type), payload, room, text_room)
+}
+
+/// Reads as this party.
+pub fn read_by(party: u32, table: &[u32], root: (u32, u32), payload: &[u8], room: usize, text_room: usize) -> Read {
     // Three odd words behind the last whole event must be cleared too.
     let mut events = vec![0xdddd_dddd; 4 * room + 3];
     let mut texts = vec![0xdd; text_room];
-    let answer = peer::reader::read(table, root_name, root_type, payload, &mut events, &mut texts);
+    let answer = peer::reader::read(table, party, root.0, root.1, payload, &mut events, &mut texts);
     Read { answer, events, texts }
 }
 
@@ -115,7 +120,7 @@ impl Written {
     }
 }
 
-/// Writes into `room` bytes.
+/// Writes as party 0, into `room` bytes.
 pub fn write(
     table: &[u32],
     root_name: u32,
@@ -125,8 +130,21 @@ pub fn write(
     texts: &[u8],
     room: usize,
 ) -> Written {
+    write_by(0, table, (root_name, root_type), mode, events, texts, room)
+}
+
+/// Writes as this party.
+pub fn write_by(
+    party: u32,
+    table: &[u32],
+    root: (u32, u32),
+    mode: u32,
+    events: &[[u32; 4]],
+    texts: &[u8],
+    room: usize,
+) -> Written {
     let mut payload = vec![0xdd; room];
     let words = events.concat();
-    let answer = peer::writer::write(table, root_name, root_type, mode, &words, texts, &mut payload);
+    let answer = peer::writer::write(table, party, root.0, root.1, mode, &words, texts, &mut payload);
     Written { answer, payload }
 }

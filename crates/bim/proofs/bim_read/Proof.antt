@@ -30,7 +30,7 @@ returns c =
     let e = d .before .before in
     let a = e .before .before .before .before .before .before .args in
     let k = e .before .before .before .before .shared-slice-known2 in (
-      read-unlent _ _ _ _ (a .events .now) (a .texts .now) (a .area .now) _ _ _ (e .if1 .taken) (d .clear .ensures)
+      read-unlent _ _ _ _ _ (a .events .now) (a .texts .now) (a .area .now) _ _ _ (e .if1 .taken) (d .clear .ensures)
           (c .before .before .before .before .before .before .clear2 .ensures) (c .before .before .clear3 .ensures),
       octets (now (a .payload)) (λ i. omega (arith, k .given i)),
     )
@@ -41,7 +41,7 @@ read-bytes-requires c κs = search needs
 tell-answer-requires : tie.Need-tell-answer-requires
 tell-answer-requires c κs =
     let b = c .before .before .before .before .before in
-    (omega arith, path-fits _ _ _ _ _ _ (b .read-bytes .result) _ _ (b .read-bytes .ensures))
+    (omega arith, path-fits _ _ _ _ _ _ _ (b .read-bytes .result) _ _ (b .read-bytes .ensures))
 
 same-length-4 : tie.Need-same-length-4
 same-length-4 c = search needs
@@ -58,7 +58,7 @@ returns-2 c =
     let e = b .before .before .before in
     let a = e .before .before .before .before .before .before .args in
     let k = e .before .before .before .before .shared-slice-known2 in (
-      read-told _ _ _ _ (a .events .now) (a .texts .now) (a .area .now) _ _ _ (b .read-bytes .result) _ (e .if1 .left) (b .read-bytes .ensures) (c .before .before .tell-answer .ensures),
+      read-told _ _ _ _ _ (a .events .now) (a .texts .now) (a .area .now) _ _ _ (b .read-bytes .result) _ (e .if1 .left) (b .read-bytes .ensures) (c .before .before .tell-answer .ensures),
       octets (now (a .payload)) (λ i. omega (arith, k .given i)),
     )
 

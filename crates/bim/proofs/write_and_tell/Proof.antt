@@ -21,7 +21,7 @@ returns c =
     let d = c .before .before .before .before .before .before in
     let e = d .before .before in
     let a = e .before .before .before .before .before .before .args in
-    write-unlent _ _ _ _ _ _ (a .payload .now) (a .area .now) _ _ (e .if1 .taken) (d .clear .ensures) (c .before .before .clear2 .ensures)
+    write-unlent _ _ _ _ _ _ _ (a .payload .now) (a .area .now) _ _ (e .if1 .taken) (d .clear .ensures) (c .before .before .clear2 .ensures)
 
 write-bytes-requires : tie.Need-write-bytes-requires
 write-bytes-requires c κs = search needs
@@ -40,7 +40,7 @@ returns-2 c =
     let d = c .before .before .before .before .before .before in
     let e = d .before .before in
     let a = e .before .before .before .before .before .before .args in
-    write-told _ _ _ _ _ _ (a .payload .now) (a .area .now) _ _ (d .write-bytes .result) _ (e .if1 .left) (d .write-bytes .ensures) (c .before .before .tell-written .ensures)
+    write-told _ _ _ _ _ _ _ (a .payload .now) (a .area .now) _ _ (d .write-bytes .result) _ (e .if1 .left) (d .write-bytes .ensures) (c .before .before .tell-written .ensures)
 
 pub write-and-tell-spec : {M : Type 1} → statement M
 write-and-tell-spec =

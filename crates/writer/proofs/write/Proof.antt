@@ -34,7 +34,7 @@ write-with-notes-requires c κs =
     let at-enum-told = c .before .before .before in
     let at-asked = at-enum-told .before .before in
     let at-clear = at-asked .before .before .before in
-    (write-fine _ _ _ _ _ _ (at-asked .judge-before .ensures) (at-enum-told .enum-told .given .1), search (zeros-are, at-clear .clear .ensures), omega arith)
+    (write-fine _ _ _ _ _ _ _ (at-asked .judge-before .ensures) (at-enum-told .enum-told .given .1), search (zeros-are, at-clear .clear .ensures), omega arith)
 
 same-length-2 : tie.Need-same-length-2
 same-length-2 c = search needs
@@ -50,8 +50,8 @@ slice-aggregate-write-with-notes-2 c = search needs
 
 write-with-notes-requires-2 : tie.Need-write-with-notes-requires-2
 write-with-notes-requires-2 c κs =
-    let f = write-fine _ _ _ _ _ _ (c .before .before .before .before .before .judge-before .ensures) (c .before .before .before .enum-told .given .1) in
-    (f, search (zeros-are, c .before .before .before .before .before .before .before .before .clear .ensures), omega (arith, write-room _ _ _ _ _ f))
+    let f = write-fine _ _ _ _ _ _ _ (c .before .before .before .before .before .judge-before .ensures) (c .before .before .before .enum-told .given .1) in
+    (f, search (zeros-are, c .before .before .before .before .before .before .before .before .clear .ensures), omega (arith, write-room _ _ _ _ _ _ f))
 
 same-length-3 : tie.Need-same-length-3
 same-length-3 c = search needs

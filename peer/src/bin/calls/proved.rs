@@ -3,7 +3,7 @@
 //! SAFETY, of every call below: the archive's functions are proved safe for all arguments of their types, with no
 //! `requires`; a slice passes as its pointer and its length, and no two of them overlap.
 
-use peer::calls::{BitCalls, Calls, Reading, Writing};
+use peer::calls::{BitCalls, Calls, Reading, Setting, Writing};
 use peer::lent::Coding;
 use std::cell::Cell;
 
@@ -12,6 +12,7 @@ extern "C" {
     fn bim_read(
         table: *const u8,
         table_len: usize,
+        party: u32,
         root_name: u32,
         root_type: u32,
         payload: *const u8,
@@ -37,6 +38,7 @@ extern "C" {
     fn bim_write(
         table: *const u8,
         table_len: usize,
+        party: u32,
         root_name: u32,
         root_type: u32,
         mode: u32,
@@ -52,6 +54,7 @@ extern "C" {
     fn bim_write_lengths(
         table: *const u8,
         table_len: usize,
+        party: u32,
         root_name: u32,
         root_type: u32,
         events: *const u8,
@@ -60,6 +63,15 @@ extern "C" {
         texts_len: usize,
         payload: *mut u8,
         payload_len: usize,
+        area: *mut u8,
+        area_len: usize,
+    ) -> u32;
+    fn bim_set_held(
+        table: *mut u8,
+        table_len: usize,
+        party: u32,
+        of_type: u32,
+        mark: u32,
         area: *mut u8,
         area_len: usize,
     ) -> u32;
@@ -94,11 +106,12 @@ impl Calls for Library {
     }
 
     fn read(&self, lent: Reading<'_>) -> u32 {
-        let Reading { table, root, payload, events, texts, area } = lent;
+        let Reading { table, party, root, payload, events, texts, area } = lent;
         unsafe {
             bim_read(
                 self.given(table),
                 table.len(),
+                party,
                 root.0,
                 root.1,
                 self.given(payload),
@@ -114,11 +127,12 @@ impl Calls for Library {
     }
 
     fn write(&self, mode: u32, lent: Writing<'_>) -> u32 {
-        let Writing { table, root, events, texts, payload, area } = lent;
+        let Writing { table, party, root, events, texts, payload, area } = lent;
         unsafe {
             bim_write(
                 self.given(table),
                 table.len(),
+                party,
                 root.0,
                 root.1,
                 mode,
@@ -135,11 +149,12 @@ impl Calls for Library {
     }
 
     fn write_lengths(&self, lent: Writing<'_>) -> u32 {
-        let Writing { table, root, events, texts, payload, area } = lent;
+        let Writing { table, party, root, events, texts, payload, area } = lent;
         unsafe {
             bim_write_lengths(
                 self.given(table),
                 table.len(),
+                party,
                 root.0,
                 root.1,
                 self.given(events),
@@ -152,6 +167,11 @@ impl Calls for Library {
                 area.len(),
             )
         }
+    }
+
+    fn set_held(&self, lent: Setting<'_>) -> u32 {
+        let Setting { table, party, of_type, mark, area } = lent;
+        unsafe { bim_set_held(self.lent(table), table.len(), party, of_type, mark, self.lent(area), area.len()) }
     }
 }
 

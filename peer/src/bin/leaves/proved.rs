@@ -156,7 +156,7 @@ extern "C" {
     fn probe_table(words: *const u32, count: usize, place: &mut usize) -> u32;
     fn probe_table_word(words: *const u32, count: usize, at: usize) -> u32;
     fn probe_types(words: *const u32, count: usize) -> u32;
-    fn probe_held(words: *const u32, count: usize, row: u32) -> u32;
+    fn probe_held(words: *const u32, count: usize, party: u32, row: u32) -> u32;
     fn probe_bit(s: *const u8, count: usize, at: u32, out: *mut u32) -> u32;
     fn probe_byte(s: *const u8, count: usize, at: u32, out: *mut u32) -> u32;
     fn probe_text_fault(s: *const u8, count: usize, at: u32, bytes: u32, out: *mut u32) -> u32;
@@ -217,6 +217,6 @@ pub fn types(words: &[u32]) -> u32 {
     unsafe { probe_types(words.as_ptr(), words.len()) }
 }
 
-pub fn held(words: &[u32], row: usize) -> u32 {
-    unsafe { probe_held(words.as_ptr(), words.len(), row as u32) }
+pub fn held(words: &[u32], party: u32, row: usize) -> u32 {
+    unsafe { probe_held(words.as_ptr(), words.len(), party, row as u32) }
 }

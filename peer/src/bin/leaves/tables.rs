@@ -4,7 +4,7 @@ use crate::proved;
 use peer::bim;
 use peer::call::Call;
 use peer::cases;
-use peer::gen::{damage_table, deep_table, edge_word, let_go, table};
+use peer::gen::{any_party, damage_table, deep_table, edge_word, let_go, table};
 use peer::rng::Rng;
 use peer::table::{check, Particle, Table};
 use peer::tally::Tally;
@@ -38,9 +38,10 @@ pub fn named(tally: &mut Tally) {
 
 /// A seeded table, and the same damaged once, twice and three times; now and then any words.
 pub fn round(rng: &mut Rng, tally: &mut Tally) {
-    let mut words = if rng.one_in(30) { deep_table(rng) } else { table(rng) };
+    let party = any_party(rng);
+    let mut words = if rng.one_in(30) { deep_table(rng, party) } else { table(rng, party) };
     ask(tally, &words);
-    ask(tally, &let_go(rng, &words, 3));
+    ask(tally, &let_go(rng, party, &words, 3));
     for _ in 0..3 {
         if !words.is_empty() {
             damage_table(rng, &mut words);
@@ -74,8 +75,10 @@ fn rows(tally: &mut Tally, words: &[u32], table: &Table<'_>) {
     tally.hold("types", 0, proved::types(words), table.types() as u32, || shown("types", 0));
     for row in 0..table.types() {
         let of_type = table.type_row(row);
-        let held = u32::from(of_type.held);
-        tally.hold("held", held, proved::held(words, row), held, || shown("type", row));
+        for party in 0..bim::PARTIES {
+            let held = u32::from(of_type.held_by(party));
+            tally.hold("held", held, proved::held(words, party, row), held, || shown("type", row));
+        }
         let expected = match of_type.content {
             bim::EMPTY => (bim::EMPTY, [0; 4]),
             bim::SIMPLE => (bim::SIMPLE, [of_type.a, of_type.b, of_type.c, 0]),

@@ -37,7 +37,7 @@ pub struct Buffers {
 
 impl Buffers {
     pub fn of(case: &Case) -> Self {
-        let outputs = case.rooms.iter().map(|&room| vec![0xdd; room]).collect();
+        let outputs = case.lent(<[u8]>::to_vec, |room| vec![0xdd; room]);
         Buffers {
             inputs: case.inputs.clone(),
             outputs,
@@ -107,6 +107,7 @@ macro_rules! counted {
         #[allow(clippy::too_many_arguments)] // the boundary's names and order are fixed
         fn $read(
             table: &[u8],
+            party: u32,
             root_name: u32,
             root_type: u32,
             payload: &[u8],
@@ -114,7 +115,7 @@ macro_rules! counted {
             texts: &mut [u8],
             area: &mut [u8],
         ) -> u32 {
-            $module::read(table, root_name, root_type, payload, events, texts, area)
+            $module::read(table, party, root_name, root_type, payload, events, texts, area)
         }
 
         #[no_mangle]
@@ -122,6 +123,7 @@ macro_rules! counted {
         #[allow(clippy::too_many_arguments)] // the boundary's names and order are fixed
         fn $write(
             table: &[u8],
+            party: u32,
             root_name: u32,
             root_type: u32,
             mode: u32,
@@ -130,13 +132,15 @@ macro_rules! counted {
             payload: &mut [u8],
             area: &mut [u8],
         ) -> u32 {
-            $module::write(table, root_name, root_type, mode, events, texts, payload, area)
+            $module::write(table, party, root_name, root_type, mode, events, texts, payload, area)
         }
 
         #[no_mangle]
         #[inline(never)]
+        #[allow(clippy::too_many_arguments)] // the boundary's names and order are fixed
         fn $write_lengths(
             table: &[u8],
+            party: u32,
             root_name: u32,
             root_type: u32,
             events: &[u8],
@@ -144,10 +148,10 @@ macro_rules! counted {
             payload: &mut [u8],
             area: &mut [u8],
         ) -> u32 {
-            $module::write_lengths(table, root_name, root_type, events, texts, payload, area)
+            $module::write_lengths(table, party, root_name, root_type, events, texts, payload, area)
         }
 
-        calls_of!($name = $module::check_table, $read, $write, $write_lengths);
+        calls_of!($name = $module::check_table, $read, $write, $write_lengths, $module::set_held);
     };
 }
 

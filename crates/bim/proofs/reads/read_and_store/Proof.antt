@@ -21,19 +21,19 @@ mul-k c = search needs
 slice-reshare-prefix-store : tie.Need-slice-reshare-prefix-store
 slice-reshare-prefix-store c =
     let r = c .before .before .before .before .before .before .before .before .before .read in
-    words-fit _ _ _ _ (r .ensures .answer) (r .ensures .events-left) (r .kept .1 .1 .1 .1 .0)
+    words-fit _ _ _ _ (r .ensures .answer) (r .ensures .events-left) (r .kept .1 .1 .1 .1 .1 .0)
 
 slice-aggregate-store : tie.Need-slice-aggregate-store
 slice-aggregate-store c =
     let r = c .before .before .before .before .before .before .before .before .before .before .read in
-    let h = words-fit _ _ _ _ (r .ensures .answer) (r .ensures .events-left) (r .kept .1 .1 .1 .1 .0) in
+    let h = words-fit _ _ _ _ (r .ensures .answer) (r .ensures .events-left) (r .kept .1 .1 .1 .1 .1 .0) in
     simp length-take (omega arith)
 
 store-requires : tie.Need-store-requires
 store-requires c κs =
     let b = c .before .before .before .before .before .before .before .before .before .before .before in
     let r = b .read in
-    let h = words-fit _ _ _ _ (r .ensures .answer) (r .ensures .events-left) (r .kept .1 .1 .1 .1 .0) in
+    let h = words-fit _ _ _ _ (r .ensures .answer) (r .ensures .events-left) (r .kept .1 .1 .1 .1 .1 .0) in
     simp length-take (omega arith)
 
 same-length : tie.Need-same-length
@@ -51,7 +51,7 @@ returns c =
     let d = b .before .before .before .before .before .before in
     let entry = d .before .before .before .before .before .before .before .before in
     let r = d .read in
-    words-read _ _ _ _ (entry .args .events .now) _ _ _ _ (r .ensures .answer) (r .ensures .events-left) (r .ensures .texts-left) (r .kept .1 .1 .1 .1 .0)
+    words-read _ _ _ _ (entry .args .events .now) _ _ _ _ (r .ensures .answer) (r .ensures .events-left) (r .ensures .texts-left) (r .kept .1 .1 .1 .1 .1 .0)
     (b .clear .ensures) (c .before .before .store .ensures)
 
 pub read-and-store-spec : {M : Type 1} → statement M

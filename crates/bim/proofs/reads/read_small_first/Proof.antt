@@ -19,7 +19,7 @@ same-length-2 : tie.Need-same-length-2
 same-length-2 c = search needs
 
 returns : tie.Need-returns
-returns c = few-read _ _ _ _ fewEventWords _ _ _ _ _ _ (omega arith) (c .if1 .taken) (c .before .before .before .before .before .before .before .read-and-store .ensures)
+returns c = few-read _ _ _ _ _ fewEventWords _ _ _ _ _ _ (omega arith) (c .if1 .taken) (c .before .before .before .before .before .before .before .read-and-store .ensures)
 
 read-with-most-events-requires : tie.Need-read-with-most-events-requires
 read-with-most-events-requires c κs = search needs
@@ -33,7 +33,7 @@ same-length-4 c = search needs
 returns-2 : tie.Need-returns-2
 returns-2 c =
     let r = c .before .before .before .before .before .before .before .before .before .before .before .before .before .before .read-and-store in
-    again-read _ _ _ _ _ _ _ _ _ _ _ _ (r .kept .1 .1 .1 .1 .1 .0) (r .kept .1 .1 .1 .1 .1 .1 .0) (c .before .before .before .before .read-with-most-events .ensures)
+    again-read _ _ _ _ _ _ _ _ _ _ _ _ _ (r .kept .1 .1 .1 .1 .1 .1 .0) (r .kept .1 .1 .1 .1 .1 .1 .1 .0) (c .before .before .before .before .read-with-most-events .ensures)
 
 pub read-small-first-spec : {M : Type 1} → statement M
 read-small-first-spec =

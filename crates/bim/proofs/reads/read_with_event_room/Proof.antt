@@ -25,7 +25,7 @@ same-length-2 : tie.Need-same-length-2
 same-length-2 c = search needs
 
 returns : tie.Need-returns
-returns c = slots-read _ _ _ _ _ _ _ _ _ _ _ (simp length-take (omega (arith, c .before .before .before .before .before .before .before .before .before .before .slot-words .ensures))) (c .before .before .before .before .before .read-and-store .ensures)
+returns c = slots-read _ _ _ _ _ _ _ _ _ _ _ _ (simp length-take (omega (arith, c .before .before .before .before .before .before .before .before .before .before .slot-words .ensures))) (c .before .before .before .before .before .read-and-store .ensures)
 
 read-small-first-requires : tie.Need-read-small-first-requires
 read-small-first-requires c κs = search needs
@@ -37,7 +37,7 @@ same-length-4 : tie.Need-same-length-4
 same-length-4 c = search needs
 
 returns-2 : tie.Need-returns-2
-returns-2 c = slots-read _ _ _ _ _ _ _ _ _ _ _ (c .before .before .before .before .before .before .before .before .before .slot-words .ensures .0) (c .before .before .before .before .read-small-first .ensures)
+returns-2 c = slots-read _ _ _ _ _ _ _ _ _ _ _ _ (c .before .before .before .before .before .before .before .before .before .slot-words .ensures .0) (c .before .before .before .before .read-small-first .ensures)
 
 read-with-most-events-requires : tie.Need-read-with-most-events-requires
 read-with-most-events-requires c κs = search needs
@@ -49,7 +49,7 @@ same-length-6 : tie.Need-same-length-6
 same-length-6 c = search needs
 
 returns-3 : tie.Need-returns-3
-returns-3 c = slots-read _ _ _ _ _ _ _ _ _ _ _ (c .before .before .before .before .before .before .before .before .before .slot-words .ensures .0) (c .before .before .before .before .read-with-most-events .ensures)
+returns-3 c = slots-read _ _ _ _ _ _ _ _ _ _ _ _ (c .before .before .before .before .before .before .before .before .before .slot-words .ensures .0) (c .before .before .before .before .read-with-most-events .ensures)
 
 pub read-with-event-room-spec : {M : Type 1} → statement M
 read-with-event-room-spec =

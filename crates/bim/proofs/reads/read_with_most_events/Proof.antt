@@ -22,7 +22,7 @@ same-length-2 : tie.Need-same-length-2
 same-length-2 c = search needs
 
 returns : tie.Need-returns
-returns c = slots-read _ _ _ _ _ _ _ _ _ _ _ (simp length-take (omega arith)) (c .before .before .before .before .before .read-and-store .ensures)
+returns c = slots-read _ _ _ _ _ _ _ _ _ _ _ _ (simp length-take (omega arith)) (c .before .before .before .before .before .read-and-store .ensures)
 
 pub read-with-most-events-spec : {M : Type 1} → statement M
 read-with-most-events-spec =

@@ -36,7 +36,7 @@ returns c =
     let b = c .before .before .before .before .before in
     let d = b .before .before .before .before .before .before in
     let entry = d .before .before .before .before .before .before .before in
-    bytes-read _ _ _ _ _ _ _ _ (b .read-with-event-room .result) _ _ _ (seen _ _ _ _ (entry .pre) (d .load .ensures))
+    bytes-read _ _ _ _ _ _ _ _ _ (b .read-with-event-room .result) _ _ _ (seen _ _ _ _ (entry .pre) (d .load .ensures))
     (b .read-with-event-room .ensures) (c .place-in-table .ensures)
 
 pub read-with-table-room-spec : {M : Type 1} → statement M

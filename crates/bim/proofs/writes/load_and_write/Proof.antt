@@ -32,7 +32,7 @@ returns c =
     let b = c .before .before .before .before .before .before .before in
     let entry = b .before .before .before .before .before .before .before in
     let e = entry .args .events .now in
-    list-whole _ _ _ _ _ _ _ _ _ _ _ _ (entry .pre .0) refl (loaded-front e _ _ (length e / 4) (b .load .ensures) (omega arith)) (c .before .before .write .ensures)
+    list-whole _ _ _ _ _ _ _ _ _ _ _ _ _ (entry .pre .0) refl (loaded-front e _ _ (length e / 4) (b .load .ensures) (omega arith)) (c .before .before .write .ensures)
 
 pub load-and-write-spec : {M : Type 1} → statement M
 load-and-write-spec =

@@ -14,13 +14,13 @@ same-length : tie.Need-same-length
 same-length c = search needs
 
 returns : tie.Need-returns
-returns c = none-late _ _ _ _ _ _ _ _ _ _ (c .before .before .before .before .write .result) _ (c .before .before .before .before .write .ensures) (c .if1 .taken)
+returns c = none-late _ _ _ _ _ _ _ _ _ _ _ (c .before .before .before .before .write .result) _ (c .before .before .before .before .write .ensures) (c .if1 .taken)
 
 same-length-2 : tie.Need-same-length-2
 same-length-2 c = search needs
 
 returns-2 : tie.Need-returns-2
-returns-2 c = none-early _ _ _ _ _ _ _ _ _ _ (c .before .before .before .before .write .result) _ (c .before .before .before .before .write .ensures) (c .if1 .left)
+returns-2 c = none-early _ _ _ _ _ _ _ _ _ _ _ (c .before .before .before .before .write .result) _ (c .before .before .before .before .write .ensures) (c .if1 .left)
 
 pub refuse-unlisted-spec : {M : Type 1} → statement M
 refuse-unlisted-spec =

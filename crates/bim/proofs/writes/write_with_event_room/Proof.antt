@@ -11,7 +11,7 @@ same-length : tie.Need-same-length
 same-length c = search needs
 
 returns : tie.Need-returns
-returns c = list-odd _ _ _ _ _ _ _ _ _ _ (c .before .before .before .before .if1 .taken) (c .before .before .refuse-unlisted .ensures)
+returns c = list-odd _ _ _ _ _ _ _ _ _ _ _ (c .before .before .before .before .if1 .taken) (c .before .before .refuse-unlisted .ensures)
 
 refuse-unlisted-requires-2 : tie.Need-refuse-unlisted-requires-2
 refuse-unlisted-requires-2 c κs = search needs
@@ -20,7 +20,7 @@ same-length-2 : tie.Need-same-length-2
 same-length-2 c = search needs
 
 returns-2 : tie.Need-returns-2
-returns-2 c = list-long _ _ _ _ _ _ _ _ _ _ (c .before .before .before .before .before .if1 .left) (c .before .before .before .before .if2 .taken) (c .before .before .refuse-unlisted2 .ensures)
+returns-2 c = list-long _ _ _ _ _ _ _ _ _ _ _ (c .before .before .before .before .before .if1 .left) (c .before .before .before .before .if2 .taken) (c .before .before .refuse-unlisted2 .ensures)
 
 slice-aggregate-load-and-write : tie.Need-slice-aggregate-load-and-write
 slice-aggregate-load-and-write c = search needs

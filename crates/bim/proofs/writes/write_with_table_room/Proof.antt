@@ -33,7 +33,7 @@ returns c =
     let d = c .before .before .before in
     let e = d .before .before .before .before .before in
     let entry = e .before .before .before .before .before .before .before in
-    bytes-written _ _ _ _ _ _ _ _ _ _ _ (d .write-with-event-room .result) _ _ (seen _ _ _ _ (entry .pre) (e .load .ensures))
+    bytes-written _ _ _ _ _ _ _ _ _ _ _ _ (d .write-with-event-room .result) _ _ (seen _ _ _ _ (entry .pre) (e .load .ensures))
     (d .write-with-event-room .ensures) (c .place-in-table .ensures)
 
 pub write-with-table-room-spec : {M : Type 1} → statement M

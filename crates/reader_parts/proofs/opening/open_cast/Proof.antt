@@ -1,5 +1,5 @@
 use borrow.Author.Needs.{needs}
-use Rattle.reader_parts.proofs.OpeningWays.{cast-ways}
+use Rattle.reader_parts.proofs.OpeningWays.{cast-ways, cast-open}
 use Rattle.reader_parts.proofs.opening.open_cast.Statement.{statement}
 use Rattle.reader_parts.proofs.opening.open_cast.Tie as tie
 
@@ -73,7 +73,14 @@ same-length-5 : tie.Need-same-length-5
 same-length-5 c = search needs
 
 returns-6 : tie.Need-returns-6
-returns-6 c = search (needs, cast-ways)
+returns-6 c =
+    let at-tell = c .before .before .before .before .before in
+    let at-o = at-tell .before .before .before .before in
+    let at-begin = at-o .before .before .before .before in
+    let at-held = at-begin .before .before in
+    let at-k = at-held .before .before in
+    let at-codes = at-k .before .before in
+    search (cast-open, at-codes .before .choices-of .ensures, at-codes .codes .ensures, at-k .k2 .given .1, at-held .held .ensures, at-begin .begin .ensures, at-o .o4 .given .1, at-tell .tell .ensures, c .before .s2 .given .1)
 
 pub open-cast-spec : {M : Type 1} → statement M
 open-cast-spec =

@@ -13,11 +13,11 @@ returns c = search (needs, checked-ways)
 returns-2 : tie.Need-returns-2
 returns-2 c = search (needs, checked-ways)
 
-known-mode-requires : tie.Need-known-mode-requires
-known-mode-requires c κs = search (needs, checked-ways)
-
 returns-3 : tie.Need-returns-3
 returns-3 c = search (needs, checked-ways)
+
+known-mode-requires : tie.Need-known-mode-requires
+known-mode-requires c κs = search (needs, checked-ways)
 
 returns-4 : tie.Need-returns-4
 returns-4 c = search (needs, checked-ways)
@@ -28,6 +28,9 @@ returns-5 c = search (needs, checked-ways)
 returns-6 : tie.Need-returns-6
 returns-6 c = search (needs, checked-ways)
 
+returns-7 : tie.Need-returns-7
+returns-7 c = search (needs, checked-ways)
+
 pub judge-checked-spec : {M : Type 1} → statement M
 judge-checked-spec =
-    tie.close (tie.spec types-requires returns returns-2 known-mode-requires returns-3 returns-4 returns-5 returns-6)
+    tie.close (tie.spec types-requires returns returns-2 returns-3 known-mode-requires returns-4 returns-5 returns-6 returns-7)
