@@ -4,7 +4,8 @@
  *
  * It reads as the party named, 0 where none is. A names file has a number and a word on each line; without one, names are shown as numbers.
  * An element whose type the party does not hold is shown as what it is, a hole: [not held: name, type, n bits]. Beside an element that is cast
- * or substituted stands what is in effect: [type 2], or [as name, type 2]. An enumeration is shown as #index.
+ * or substituted stands what is in effect: [type 2], or [as name, type 2]. An enumeration is shown as #index, a dateTime as
+ * 2026-11-15 18:30:00.000, in GMT.
  * Exit status: 0 all were read, 1 some were refused, 2 a file or the table is no good, 3 a list does not fit its table (never seen). */
 #include <stdio.h>
 #include <stdlib.h>
@@ -71,6 +72,16 @@ static void show_float(uint32_t bits)
     printf("%s", digits);
 }
 
+/* A date, and the time of day where there is one. */
+static void show_date(uint32_t p, uint32_t q, int has_time)
+{
+    const uint32_t ms = bim_date_ms(q);
+    printf("%04lu-%02lu-%02lu", (unsigned long)bim_date_year(p), (unsigned long)bim_date_month(p), (unsigned long)bim_date_day(q));
+    if (has_time)
+        printf(" %02lu:%02lu:%02lu.%03lu", (unsigned long)(ms / 3600000), (unsigned long)(ms / 60000 % 60), (unsigned long)(ms / 1000 % 60),
+               (unsigned long)(ms % 1000));
+}
+
 /* The value of a type of simple content. */
 static void show_value(uint32_t type)
 {
@@ -83,6 +94,8 @@ static void show_value(uint32_t type)
     case BIM_ENUMERATION: printf("#%lu", (unsigned long)value); break;
     case BIM_TEXT: show_text(value); break;
     case BIM_FLOAT: show_float(value); break;
+    case BIM_DATE_TIME:
+    case BIM_DATE: show_date(value, bim_event_q(events, at - 1), row.a == BIM_DATE_TIME); break;
     default: printf("%lu", (unsigned long)value);
     }
 }

@@ -84,7 +84,8 @@ enum {
 enum {
     BIM_KIND_START = 1,     /* an element begins: p its name, q 1 where a length is coded; bits of flag and length as they are there */
     BIM_KIND_ATTRIBUTE = 2, /* p its name, q 1 present (its Value follows) or 0 absent (none does); bits of its flag */
-    BIM_KIND_VALUE = 3,     /* p the value as its simple kind has it (bim_table.h); of a text its bytes, next in the texts */
+    BIM_KIND_VALUE = 3,     /* p the value as its simple kind has it (bim_table.h); of a text its bytes, next in the texts; of a dateTime or a
+                             * date, and of no other, q is more of it: p has year and month, q day and milliseconds */
     BIM_KIND_PICK = 4,      /* p the branch of a choice, from 0 */
     BIM_KIND_TIMES = 5,     /* p how often the row occurs that comes next */
     BIM_KIND_END = 6,       /* the element that was begun last ends */
@@ -109,13 +110,13 @@ enum {
     BIM_CONTENT_SHORT = 11, /* content ends before its declared end: the first bit after TheLength */
     BIM_NOT_SHORTEST = 12,  /* number not in shortest form, but not of a TheLength, which may be padded: item */
     BIM_TOO_LARGE = 13,     /* number too large: item */
-    BIM_NO_SUCH_CODE = 14,  /* code names nothing: item */
+    BIM_NO_SUCH_CODE = 14,  /* code names nothing, or a dateTime has a day or more of milliseconds: item */
     BIM_MINUS_ZERO = 15,    /* minus zero: item */
     BIM_NOT_UTF8 = 16,      /* text not UTF-8: item */
     BIM_LEFT_OVER = 17,     /* 8 or more bits left, or a 1 among them: the first left bit */
     BIM_NO_READING = 18,    /* list is no reading of the content model, or no whole list of at most 2,048 events: event */
     BIM_BLANK = 19,         /* Blank in a list to be written: event */
-    BIM_OUTSIDE_ROW = 20,   /* value, branch or count outside its row, or a Cast's type or substitute: event */
+    BIM_OUTSIDE_ROW = 20,   /* value, branch or count outside its row, words that are no date, or a Cast's type or substitute: event */
     BIM_PAYLOAD_ROOM = 21,  /* payload over 8,192 bytes or the lent room: 0 */
     BIM_WRITE_MODE = 22,    /* write mode other than 0, 1, 2 and, with derivations in the table, 4, 5, 6: 0 */
     BIM_TEXT_BYTES = 23,    /* text bytes short, or left over: event, or the event count */

@@ -19,7 +19,7 @@ extern "C" {
 /* What a type's elements contain. */
 enum { BIM_EMPTY = 0, BIM_SIMPLE = 1, BIM_PARTICLES = 2 };
 
-/* The simple kinds, and what the word p of a Value is. */
+/* The simple kinds, and what the word p of a Value is; its q is 0 but for a dateTime and a date. */
 enum {
     BIM_BOOLEAN = 0,     /* 0 or 1 */
     BIM_RANGED = 1,      /* from b to c, all three in two's complement: bim_signed */
@@ -27,7 +27,9 @@ enum {
     BIM_SIGNED = 3,      /* in two's complement: bim_signed */
     BIM_ENUMERATION = 4, /* one of b, from 0 */
     BIM_TEXT = 5,        /* its bytes, which stand in the texts: UTF-8, and below 32 only 9, 10, 13 */
-    BIM_FLOAT = 6        /* the bits of an IEEE 754 single */
+    BIM_FLOAT = 6,       /* the bits of an IEEE 754 single */
+    BIM_DATE_TIME = 7,   /* 16 * year + month, and q is 2^27 * day + milliseconds since 00:00:00, fewer than 86,400,000: bim_date_year .. */
+    BIM_DATE = 8         /* the same, with 0 milliseconds */
 };
 
 /* The particle rows, and their words p, q and r (else 0). */
@@ -210,6 +212,13 @@ static inline uint32_t bim_name_in_effect(const uint8_t *table, uint32_t row, ui
     return substitute == 0 ? bim_particle_row(table, row).p
                            : bim_substitute(table, bim_row_substitutes(table, row).first + substitute - 1).name;
 }
+
+/* The fields of a dateTime or a date, of a Value's words p and q: a day of the Gregorian calendar from 1858-11-17 to 11761079-12-06, months
+ * and days from 1, in GMT. bim_write refuses any other (BIM_OUTSIDE_ROW): p is 16 * year + month, q is 134217728 * day + milliseconds. */
+static inline uint32_t bim_date_year(uint32_t p) { return p >> 4; }
+static inline uint32_t bim_date_month(uint32_t p) { return p & 15; }
+static inline uint32_t bim_date_day(uint32_t q) { return q >> 27; }
+static inline uint32_t bim_date_ms(uint32_t q) { return q & 0x7FFFFFF; }
 
 /* The number that a word is in two's complement. */
 static inline int64_t bim_signed(uint32_t word)

@@ -30,7 +30,7 @@ static int wrong(size_t bytes, struct sentence *why)
 /* Of a word's wrong values, from 0 up, the first, and the first that is blamed on another word. */
 static void try_word(uint32_t at, size_t bytes)
 {
-    static const uint32_t values[] = {0, 1, 2, 3, 4, 5, 7, 18, 63, 64, 65, 256, 257, 1025, 65536, 65537, 0x7fffffff, 0x80000000u,
+    static const uint32_t values[] = {0, 1, 2, 3, 4, 5, 9, 18, 63, 64, 65, 256, 257, 1025, 65536, 65537, 0x7fffffff, 0x80000000u,
                                       0xffffffffu};
     const uint32_t right = bim_table_word(table, at);
     struct sentence why;

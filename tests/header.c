@@ -77,6 +77,16 @@ static void try_rows(void)
     same("particle p", bim_particle_row(table, 1).p, 26);
     same("particle q", bim_particle_row(table, 1).q, 27);
     same("particle r", bim_particle_row(table, 1).r, 28);
+    same("year", bim_date_year(31684), 1980);
+    same("month", bim_date_month(31684), 4);
+    same("day", bim_date_day(141417728), 1);
+    same("milliseconds", bim_date_ms(141417728), 7200000);
+    same("the last year", bim_date_year(188177276), 11761079);
+    same("the last month", bim_date_month(188177276), 12);
+    same("the last day", bim_date_day(891706367), 6);
+    same("the last millisecond", bim_date_ms(891706367), 86399999);
+    same("day 31", bim_date_day(0xffffffffu), 31);
+    same("all bits of milliseconds", bim_date_ms(0xffffffffu), 134217727);
     same("signed 2^31 - 1", bim_signed(0x7fffffff), 2147483647);
     same("signed 2^31", bim_signed(0x80000000u), -2147483648LL);
     same("signed 2^32 - 1", bim_signed(0xffffffffu), -1);

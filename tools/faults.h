@@ -29,8 +29,8 @@ static void say(struct sentence *it, const char *format, ...)
 /* The simple kinds by name. */
 static inline const char *simple_name(uint32_t kind)
 {
-    static const char *const words[] = {"boolean", "ranged", "unsigned", "signed", "enumeration", "text", "float"};
-    return kind <= BIM_FLOAT ? words[kind] : "unknown";
+    static const char *const words[] = {"boolean", "ranged", "unsigned", "signed", "enumeration", "text", "float", "dateTime", "date"};
+    return kind <= BIM_DATE ? words[kind] : "unknown";
 }
 
 /* Each of these says what its word has to be where it is not, and answers whether it said so. */
@@ -145,9 +145,9 @@ static int fault_content(struct sentence *s, const uint8_t *table, struct bim_ty
     if (type.content == BIM_PARTICLES)
         return i == 4 ? fault_below(s, "row", word, bim_particles(table)) : fault_zero(s, word, "a", "type of particles");
     if (i == 4) {
-        if (word <= BIM_FLOAT)
+        if (word <= BIM_DATE)
             return 0;
-        say(s, "simple kind %lu is over 6", (unsigned long)word);
+        say(s, "simple kind %lu is over %d", (unsigned long)word, BIM_DATE);
         return 1;
     }
     if (type.a == BIM_RANGED) {

@@ -64,7 +64,7 @@ pub const PARTY: u32 = 26;
 pub const KIND_START: u32 = 1;
 /// Name, 1 present or 0 absent.
 pub const KIND_ATTRIBUTE: u32 = 2;
-/// Value word, 0.
+/// Value word, 0; of a date its year and month, its day and milliseconds.
 pub const KIND_VALUE: u32 = 3;
 /// Branch from 0, 0.
 pub const KIND_PICK: u32 = 4;
@@ -102,6 +102,10 @@ pub const ENUMERATION: u32 = 4;
 pub const TEXT: u32 = 5;
 /// 32 bits, kept as they are.
 pub const FLOAT: u32 = 6;
+/// 32 bits of days since 1858-11-17, then 32 of milliseconds since midnight (001, 10.7.5.5).
+pub const DATE_TIME: u32 = 7;
+/// 32 bits of days (001, 10.7.5.6).
+pub const DATE: u32 = 8;
 
 // The particle rows.
 
@@ -204,5 +208,11 @@ pub const MOST_VALUES: u32 = 65_536;
 pub const MOST_FIXED: u32 = 65_535;
 /// The most bytes of a text.
 pub const MOST_TEXT: u32 = 4095;
+/// The milliseconds of a day: a clock has fewer.
+pub const DAY_MS: u32 = 86_400_000;
+/// In the first word of a date, the bits of its month; the year stands above them.
+pub const MONTH_BITS: u32 = 4;
+/// In the second word of a date, the bits of its milliseconds; the day stands above them.
+pub const MS_BITS: u32 = 27;
 /// The most elements and particle rows open at once.
 pub const MOST_OPEN: usize = 64;

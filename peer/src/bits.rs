@@ -64,7 +64,12 @@ pub fn put_byte(payload: &mut [u8], at: usize, byte: u8) {
     }
 }
 
-/// Bits not yet in a payload: the low `width` bits of `bits`, most significant first. No code takes more than 41.
+/// Puts a word over the 32 bits from `at` on.
+pub fn put_word(payload: &mut [u8], at: usize, word: u32) {
+    word.to_be_bytes().into_iter().enumerate().for_each(|(index, byte)| put_byte(payload, at + 8 * index, byte));
+}
+
+/// Bits not yet in a payload: the low `width` bits of `bits`, most significant first. No code but a dateTime's 64 takes more than 41.
 #[derive(Clone, Copy, Debug, PartialEq, Eq)]
 pub struct Code {
     /// The bits; those above `width` are 0.
@@ -85,7 +90,7 @@ impl Code {
 
     /// This code, then `next`.
     pub fn then(self, next: Code) -> Self {
-        debug_assert!(self.width + next.width <= 56);
+        debug_assert!(self.width + next.width <= 64 && next.width < 64);
         Code { bits: (self.bits << next.width) | next.bits, width: self.width + next.width }
     }
 }
@@ -104,10 +109,13 @@ impl<'a> BitWriter<'a> {
         BitWriter { out, next: 0, waiting: 0, count: 0 }
     }
 
-    /// Appends a code of at most 56 bits; fewer than 8 bits wait between calls, so 64 hold both.
+    /// Appends a code. Fewer than 8 bits wait between calls, so that 64 hold them and 56 more: a longer code is put in two parts.
     #[inline]
     pub fn put(&mut self, code: Code) {
-        debug_assert!(code.width <= 56);
+        if code.width > 56 {
+            self.put(Code { bits: code.bits >> 32, width: code.width - 32 });
+            return self.put(Code { bits: code.bits & u64::from(u32::MAX), width: 32 });
+        }
         self.waiting = (self.waiting << code.width) | code.bits;
         self.count += code.width;
         while self.count >= 8 {

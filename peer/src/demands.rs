@@ -13,9 +13,9 @@ use crate::rows::{held, held_word};
 use crate::tally::Numbers;
 use crate::{reader, table, tally, writer};
 
-/// The refusals that substitution and casting have of their own, by the item that is refused as `model` names it.
+/// The refusals that substitution, casting and dates have of their own, by the item that is refused as `model` names it.
 #[rustfmt::skip]
-pub const CASTS: [Numbers; 29] = [
+pub const ITEMS: [Numbers; 34] = [
     ("table: D", &[bim::TABLE]), ("table: S", &[bim::TABLE]), ("table: derived entry", &[bim::TABLE]),
     ("table: substitute's name", &[bim::TABLE]), ("table: substitute's type", &[bim::TABLE]),
     ("table: first derived", &[bim::TABLE]), ("table: derived past D", &[bim::TABLE]),
@@ -31,6 +31,9 @@ pub const CASTS: [Numbers; 29] = [
     ("no event for the codes", &[bim::NO_READING]), ("no cast", &[bim::NO_READING, bim::BLANK]),
     ("written element with codes", &[bim::NOT_HELD]), ("written element of another type", &[bim::NOT_HELD]),
     ("stray cast", &[bim::NO_READING]), ("substitute", &[bim::OUTSIDE_ROW]), ("effective type", &[bim::OUTSIDE_ROW]),
+    ("dateTime", &[bim::PAST_END, bim::NO_SUCH_CODE, bim::EVENT_ROOM]), ("date", &[bim::PAST_END, bim::EVENT_ROOM]),
+    ("written dateTime", &[bim::OUTSIDE_ROW]), ("written date", &[bim::OUTSIDE_ROW]),
+    ("second word of no date", &[bim::NO_READING]),
 ];
 
 /// Who answers where a list is to be written and no mode is asked.
@@ -45,8 +48,8 @@ pub struct Tally {
     pub tables: [u64; 2],
     /// Accepted readings with a Blank.
     pub blanks: u64,
-    /// What was refused of substitution and casting.
-    pub casts: tally::Tally,
+    /// What was refused of substitution, casting and dates.
+    pub items: tally::Tally,
     /// Accepted readings with a padded TheLength, those with a Blank among them.
     pub padded: u64,
     /// Accepted readings without a Blank, written back to the same bytes.
@@ -62,9 +65,9 @@ pub struct Tally {
 }
 
 impl Tally {
-    /// Whether every refusal that substitution and casting have of their own was met; tells those that were not.
-    pub fn casts_are_whole(&self) -> bool {
-        self.casts.has_met(&CASTS)
+    /// Whether every refusal that substitution, casting and dates have of their own was met; tells those that were not.
+    pub fn items_are_whole(&self) -> bool {
+        self.items.has_met(&ITEMS)
     }
 
     /// Whether the promises that parties have among them were tried; tells where one was not.
@@ -144,7 +147,7 @@ pub fn check_table(tally: &mut Tally, words: &[u32]) -> Result<Option<usize>, St
     let expected = model::check_table(words);
     demand(fault == expected, || format!("table check says {fault:?}, the model {expected:?}"))?;
     if let Some(part) = fault.and_then(|word| model::part(words, word)) {
-        tally.casts.count(part, bim::TABLE);
+        tally.items.count(part, bim::TABLE);
     }
     Ok(fault)
 }
@@ -168,7 +171,7 @@ pub fn read(tally: &mut Tally, call: &Read) -> Result<Outcome, String> {
     let got = reading_of(&outcome);
     demand(got == expected, || format!("demand 2: the reader gives {got:?}, the model {expected:?}"))?;
     if !item.is_empty() {
-        tally.casts.count(item, answer.number);
+        tally.items.count(item, answer.number);
     }
     if answer.is_accepted() {
         let list = outcome.list();
@@ -191,8 +194,15 @@ fn ends_by_itself(call: &Read, outcome: &Outcome) -> Result<(), String> {
     let butted = call.payload.repeat(2);
     let used = outcome.answer.bits;
     let mut events = vec![0; call.event_words];
-    let answer =
-        reader::read(&call.table, call.party, call.root.0, call.root.1, &butted, &mut events, &mut vec![0; call.text_room]);
+    let answer = reader::read(
+        &call.table,
+        call.party,
+        call.root.0,
+        call.root.1,
+        &butted,
+        &mut events,
+        &mut vec![0; call.text_room],
+    );
     let left = Answer::refused(refusal(bim::LEFT_OVER, used), Path::empty());
     let long = Answer::refused(refusal(bim::PAYLOAD_SIZE, 0), Path::empty());
     let expected = if butted.len() > bim::MOST_PAYLOAD { long } else { left };
@@ -277,7 +287,7 @@ pub fn write(tally: &mut Tally, call: &Write) -> Result<(Answer, Vec<u8>), Strin
     let (expected, item) =
         model::write(&call.table, call.party, name, of_type, mode, &call.events, &call.texts, call.room);
     if !item.is_empty() {
-        tally.casts.count(item, answer.number);
+        tally.items.count(item, answer.number);
     }
     let got = if answer.is_accepted() {
         Ok((payload[..bytes].to_vec(), answer.bits))

@@ -6,7 +6,7 @@
 use crate::bim;
 use crate::call::{Read, Write};
 use crate::demands::text_places;
-use crate::model::{bits5, bits_of, bytes_of, count_bits, groups, value_bits, width};
+use crate::model::{bits5, bits_of, bytes_of, count_bits, date_of_words, date_words, groups, value_bits, width};
 use crate::padding::{lengths_are_shortest, pad};
 use crate::rng::Rng;
 use crate::rows::{choice, complex, element, held_word, occurs, sequence, simple, Casts, Rows, NOTHING};
@@ -28,8 +28,9 @@ const KINDS: [u32; 7] =
 
 /// Simple kinds, those with parameters or texts more often.
 #[rustfmt::skip]
-const SIMPLE_KINDS: [u32; 9] = [
+const SIMPLE_KINDS: [u32; 11] = [
     bim::BOOLEAN, bim::RANGED, bim::RANGED, bim::UNSIGNED, bim::SIGNED, bim::ENUMERATION, bim::TEXT, bim::TEXT, bim::FLOAT,
+    bim::DATE_TIME, bim::DATE,
 ];
 
 /// Words that lie at some limit.
@@ -50,6 +51,98 @@ pub fn edge_word(rng: &mut Rng) -> u32 {
         1 => rng.word() >> rng.below(32),
         _ => rng.pick(&EDGES),
     }
+}
+
+/// A day of the 2^32: any, one of our time, one at a limit of words, the first and the last few, or the last of a month and its neighbours,
+/// February's above all.
+pub fn any_day(rng: &mut Rng) -> u32 {
+    match rng.below(8) {
+        0..=1 => rng.word(),
+        2 => rng.within(44_000, 88_000) as u32,
+        3 => edge_word(rng),
+        4 => rng.pick(&[0, 1, 43, 44, 45, (1 << 31) - 1, 1 << 31, u32::MAX - 1, u32::MAX]),
+        _ => {
+            let year = any_year(rng);
+            let month = if rng.one_in(2) { 2 } else { rng.within(1, 12) as u32 };
+            let last = (28..=31).rev().find_map(|day| day_of([year, month, day])).unwrap_or(0);
+            last.wrapping_add(rng.pick(&[0, 0, 1, u32::MAX]))
+        }
+    }
+}
+
+/// A year that has days: of our time, at a century's turn, before and behind 9999, the last ones, or any.
+fn any_year(rng: &mut Rng) -> u32 {
+    match rng.below(6) {
+        0 => rng.within(1859, 2100) as u32,
+        1 => 100 * rng.within(19, 30) as u32,
+        2 => rng.pick(&[9996, 9999, 10_000, 10_400, 11_761_076, 11_761_078]),
+        3 => 400 * rng.within(5, 29_402) as u32,
+        4 => 100 * rng.within(19, 117_610) as u32,
+        _ => rng.within(1859, 11_761_078) as u32,
+    }
+}
+
+/// The two words that a date and milliseconds would have, each field cut to its bits.
+fn words_of([year, month, day]: [u32; 3], ms: u32) -> [u32; 2] {
+    let low = |word: u32, bits: u32| word & ((1 << bits) - 1);
+    [year << bim::MONTH_BITS | low(month, bim::MONTH_BITS), day << bim::MS_BITS | low(ms, bim::MS_BITS)]
+}
+
+fn day_of(date: [u32; 3]) -> Option<u32> {
+    let [word, second] = words_of(date, 0);
+    date_of_words(word, second).map(|(days, _)| days as u32)
+}
+
+/// Milliseconds of a day, its first and last among them.
+pub fn any_ms(rng: &mut Rng) -> u32 {
+    match rng.below(3) {
+        0 => rng.pick(&[0, 0, 1, bim::DAY_MS / 2, bim::DAY_MS - 1]),
+        _ => rng.below(bim::DAY_MS as usize) as u32,
+    }
+}
+
+/// Milliseconds that no day has, but for the last of a day.
+pub fn late_ms(rng: &mut Rng) -> u32 {
+    match rng.below(3) {
+        0 => rng.word(),
+        1 => bim::DAY_MS + rng.below(1000) as u32,
+        _ => rng.pick(&[
+            bim::DAY_MS - 1,
+            bim::DAY_MS,
+            bim::DAY_MS + 1,
+            (1 << bim::MS_BITS) - 1,
+            1 << bim::MS_BITS,
+            u32::MAX,
+        ]),
+    }
+}
+
+/// One field of a date's two words changed: mostly to what no date has.
+pub fn damage_date(rng: &mut Rng, [word, second]: [u32; 2]) -> [u32; 2] {
+    let (year, month) = (word >> bim::MONTH_BITS, word & ((1 << bim::MONTH_BITS) - 1));
+    let (day, ms) = (second >> bim::MS_BITS, second & ((1 << bim::MS_BITS) - 1));
+    match rng.below(9) {
+        0 => words_of([year, rng.pick(&[0, 13, 14, 15]), day], ms),
+        1 => words_of([year, rng.below(16) as u32, day], ms),
+        2 => words_of([year, month, rng.pick(&[0, 29, 30, 31])], ms),
+        3 => words_of([any_year(rng), 2, 29], ms),
+        4 => words_of([year, month, day], late_ms(rng)),
+        5 => words_of([year, month, day], any_ms(rng)),
+        // About the first day and the last.
+        6 => words_of([1858, rng.pick(&[10, 11, 11, 12]), rng.within(15, 18) as u32], ms),
+        7 => words_of([rng.pick(&[11_761_079, 11_761_079, 11_761_080]), 12, rng.within(5, 8) as u32], ms),
+        _ => words_of([edge_word(rng) >> bim::MONTH_BITS, month, day], ms),
+    }
+}
+
+/// The values of a list that are dates: no other has a second word.
+pub fn dates(list: &[[u32; 4]]) -> Vec<usize> {
+    (0..list.len()).filter(|&at| list[at][0] == bim::KIND_VALUE && list[at][2] != 0).collect()
+}
+
+/// The first bit of an event in the payload of a list with true bit counts.
+pub fn place_of(list: &[[u32; 4]], event: usize) -> usize {
+    8 + list[..event].iter().map(|event| event[3] as usize).sum::<usize>()
 }
 
 /// Parameters b and c of a simple kind.
@@ -213,7 +306,8 @@ fn particle(rng: &mut Rng, row: usize, rows: usize, types: usize) -> [u32; 4] {
 
 /// One word of a table changed, or its length, or its form, or as many entries as may be and more. The table is not empty.
 pub fn damage_table(rng: &mut Rng, words: &mut Vec<u32>) {
-    match rng.below(14) {
+    match rng.below(15) {
+        14 if Table::new(words).is_ok() => damage_simple(rng, words),
         12 => words[0] = rng.pick(&[bim::FORM_PLAIN, bim::FORM_CASTS, 3]),
         13 if words[0] == bim::FORM_CASTS && Table::new(words).is_ok() => {
             let mut rows = Rows::of(words);
@@ -245,6 +339,20 @@ pub fn damage_table(rng: &mut Rng, words: &mut Vec<u32>) {
                 _ => edge_word(rng),
             };
         }
+    }
+}
+
+/// The kind of a simple type changed to one of the last or the next, or a parameter to 1; nothing where there is no simple type.
+fn damage_simple(rng: &mut Rng, words: &mut [u32]) {
+    let simple: Vec<_> = (0..words[1] as usize).map(held_word).filter(|&at| words[at + 1] == bim::SIMPLE).collect();
+    if simple.is_empty() {
+        return;
+    }
+    let at = rng.pick(&simple);
+    match rng.below(4) {
+        0 => words[at + 5] = 1,
+        1 => words[at + 6] = 1,
+        _ => words[at + 4] = rng.pick(&[bim::FLOAT, bim::DATE_TIME, bim::DATE, bim::DATE + 1, bim::DATE + 2]),
     }
 }
 
@@ -440,6 +548,16 @@ pub fn table_and_control(rng: &mut Rng) -> (Vec<u32>, Sample) {
     loop {
         let (table, mut sample) = if rng.one_in(4) { table_and_padded(rng) } else { table_and_sample(rng, 0) };
         if sample.put_control(rng, &table) {
+            return (table, sample);
+        }
+    }
+}
+
+/// A table and a sample without quirks that has a date, whatever else it has.
+pub fn table_and_dates(rng: &mut Rng) -> (Vec<u32>, Sample) {
+    loop {
+        let (table, sample) = if rng.one_in(6) { table_and_padded(rng) } else { table_and_sample(rng, 0) };
+        if !dates(&sample.events).is_empty() {
             return (table, sample);
         }
     }
@@ -648,6 +766,9 @@ impl Maker<'_> {
         if row.a == bim::TEXT {
             return self.text();
         }
+        if matches!(row.a, bim::DATE_TIME | bim::DATE) {
+            return self.date(row.a);
+        }
         let word = match row.a {
             bim::BOOLEAN => self.rng.below(2) as u32,
             bim::RANGED => {
@@ -665,7 +786,7 @@ impl Maker<'_> {
             },
             _ => edge_word(self.rng),
         };
-        let mut bits = value_bits(row.a.into(), b, c, word).unwrap_or_default();
+        let mut bits = value_bits(row.a.into(), b, c, [word, 0]).unwrap_or_default();
         if self.odd() {
             bits = match row.a {
                 bim::UNSIGNED => self.number(word.into()),
@@ -685,6 +806,20 @@ impl Maker<'_> {
             };
         }
         self.push(bim::KIND_VALUE, word, 0, &bits);
+        bits
+    }
+
+    /// A day, and of a dateTime milliseconds, at times as many as no day has.
+    fn date(&mut self, kind: u32) -> Vec<bool> {
+        let days = any_day(self.rng);
+        let ms = if kind == bim::DATE_TIME { any_ms(self.rng) } else { 0 };
+        let [word, second] = date_words(days.into(), ms.into());
+        let mut bits = value_bits(kind.into(), 0, 0, [word, second]).unwrap_or_default();
+        if kind == bim::DATE_TIME && self.odd() {
+            bits.truncate(32);
+            bits.extend(bits_of(late_ms(self.rng).into(), 32));
+        }
+        self.push(bim::KIND_VALUE, word, second, &bits);
         bits
     }
 
@@ -836,7 +971,7 @@ pub fn noise(rng: &mut Rng) -> Vec<u8> {
 /// A list with one word or event changed, or its texts.
 pub fn damage_list(rng: &mut Rng, events: &mut Vec<[u32; 4]>, texts: &mut Vec<u8>) {
     let at = rng.below(events.len());
-    match rng.below(16) {
+    match rng.below(18) {
         0 => {
             events.remove(at);
         }
@@ -861,6 +996,11 @@ pub fn damage_list(rng: &mut Rng, events: &mut Vec<[u32; 4]>, texts: &mut Vec<u8
         }
         8 => events[at][0] = rng.below(10) as u32,
         12..=15 => damage_cast(rng, events),
+        16..=17 if !dates(events).is_empty() => {
+            let at = rng.pick(&dates(events));
+            let event = &mut events[at];
+            [event[1], event[2]] = damage_date(rng, [event[1], event[2]]);
+        }
         _ => {
             let column = rng.within(1, 2);
             events[at][column] = match rng.below(3) {

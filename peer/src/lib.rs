@@ -7,6 +7,7 @@
 pub mod answer;
 pub mod bim;
 pub mod bits;
+pub mod calendar;
 pub mod call;
 pub mod calls;
 pub mod cases;

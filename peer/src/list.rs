@@ -53,6 +53,11 @@ impl List {
         self.event(bim::KIND_VALUE, word, 0)
     }
 
+    /// A date, by its two words.
+    pub fn date(&mut self, [word, second]: [u32; 2]) -> &mut Self {
+        self.event(bim::KIND_VALUE, word, second)
+    }
+
     /// A text.
     pub fn text(&mut self, text: &str) -> &mut Self {
         self.texts.extend(text.bytes());

@@ -186,7 +186,7 @@ impl Rows<'_> {
                 (1, _) => word <= bim::PARTICLES.into(),
                 (2, _) => word <= self.a(),
                 (3, _) => self.of_type(row, 2) + word <= self.a(),
-                (4, bim::SIMPLE) => word <= bim::FLOAT.into(),
+                (4, bim::SIMPLE) => word <= bim::DATE.into(),
                 (4, bim::PARTICLES) => word < self.p(),
                 (5, bim::SIMPLE) if simple == bim::RANGED => true,
                 (5, bim::SIMPLE) if simple == bim::ENUMERATION => word > 0 && word <= bim::MOST_VALUES.into(),
@@ -427,8 +427,8 @@ impl<'a> Fetch<'a> {
         Ok(least + self.below(most - least + 1)?)
     }
 
-    /// A simple value's word and its text.
-    pub fn value(&mut self, kind: i64, b: i64, c: i64) -> Result<(u32, Vec<u8>), u32> {
+    /// A simple value's two words and its text.
+    pub fn value(&mut self, kind: i64, b: i64, c: i64) -> Result<([u32; 2], Vec<u8>), u32> {
         let word = match kind as u32 {
             bim::BOOLEAN => self.fixed(1)?,
             bim::RANGED => {
@@ -454,6 +454,11 @@ impl<'a> Fetch<'a> {
             }
             bim::ENUMERATION => self.below(b)?,
             bim::FLOAT => self.fixed(32)?,
+            bim::DATE_TIME => {
+                let (days, ms) = (self.fixed(32)?, self.fixed(32)?);
+                return if ms < DAY { Ok((date_words(days, ms), vec![])) } else { Err(bim::NO_SUCH_CODE) };
+            }
+            bim::DATE => return Ok((date_words(self.fixed(32)?, 0), vec![])),
             _ => {
                 let count = self.upto(bim::MOST_TEXT.into())?;
                 let mut text = vec![];
@@ -461,11 +466,71 @@ impl<'a> Fetch<'a> {
                     text.push(self.fixed(8)? as u8);
                 }
                 text_fault(&text)?;
-                return Ok((count as u32, text));
+                return Ok(([count as u32, 0], text));
             }
         };
-        Ok((word as u32, vec![]))
+        Ok(([word as u32, 0], vec![]))
     }
+}
+
+/// The milliseconds of a day.
+const DAY: i64 = 24 * 60 * 60 * 1000;
+
+/// Days from 0000-01-01 to the first of a year: 365 for each year before it, and one for each leap year among them.
+fn days_before(year: i64) -> i64 {
+    let multiples_of = |number: i64| (year + number - 1) / number;
+    365 * year + multiples_of(4) - multiples_of(100) + multiples_of(400)
+}
+
+/// How long the months of a year are: February has what the others leave.
+fn months(year: i64) -> [i64; 12] {
+    let days = days_before(year + 1) - days_before(year);
+    [31, days - 337, 31, 30, 31, 30, 31, 31, 30, 31, 30, 31]
+}
+
+/// Days from 0000-01-01 to a date, where there is such a date.
+fn days_to(year: i64, month: i64, day: i64) -> Option<i64> {
+    let months = months(year);
+    let (length, before) =
+        (1..=12).contains(&month).then(|| (months[month as usize - 1], &months[..month as usize - 1]))?;
+    (1..=length).contains(&day).then(|| days_before(year) + before.iter().sum::<i64>() + day - 1)
+}
+
+/// Of day 0.
+fn origin() -> i64 {
+    days_to(1858, 11, 17).expect("the first day is a date")
+}
+
+/// The two words of a dateTime, its year found by halving.
+pub fn date_words(days: i64, ms: i64) -> [u32; 2] {
+    let mut left = origin() + days;
+    let (mut year, mut over) = (1858, 1 << 28);
+    while over - year > 1 {
+        let middle = (year + over) / 2;
+        if days_before(middle) <= left {
+            year = middle;
+        } else {
+            over = middle;
+        }
+    }
+    left -= days_before(year);
+    let mut month = 0;
+    for length in months(year) {
+        month += 1;
+        if left < length {
+            break;
+        }
+        left -= length;
+    }
+    [(16 * year + month) as u32, (134_217_728 * (left + 1) + ms) as u32]
+}
+
+/// Days since day 0 and milliseconds, of two words that are a date among the 2^32 and a time of day.
+pub fn date_of_words(word: u32, second: u32) -> Option<(u64, u64)> {
+    let (word, second) = (i64::from(word), i64::from(second));
+    let days = days_to(word / 16, word % 16, second / 134_217_728)? - origin();
+    let ms = second % 134_217_728;
+    ((0..1 << 32).contains(&days) && ms < DAY).then_some((days as u64, ms as u64))
 }
 
 /// 16 for bytes that are no characters, 25 for characters that XML 1.0 has not, of those below a space.
@@ -574,7 +639,7 @@ pub fn read(
 pub struct Told {
     /// The answer.
     pub reading: Reading,
-    /// The item that was refused, of those that have to do with substitution and casting.
+    /// The item that was refused, of those that have to do with substitution, casting and dates.
     pub item: &'static str,
     /// The bits that no reading looks at: from a Blank's codes to its end.
     pub unseen: Vec<std::ops::Range<usize>>,
@@ -693,12 +758,14 @@ impl Agenda<'_> {
             }
             Task::Value { of_type, wall } => {
                 let mut fetch = Fetch::new(payload, wall, self.at);
-                let (word, text) =
-                    fetch.value(rows.of_type(of_type, 4), rows.of_type(of_type, 5), rows.of_type(of_type, 6))?;
+                let kind = rows.of_type(of_type, 4);
+                self.item = date_item(kind, ["dateTime", "date"]);
+                let ([word, second], text) = fetch.value(kind, rows.of_type(of_type, 5), rows.of_type(of_type, 6))?;
                 if self.texts.len() + text.len() > self.text_room {
                     return Err(Fault::Here(bim::TEXT_ROOM));
                 }
-                self.store(bim::KIND_VALUE, word.into(), 0, fetch.at)?;
+                self.store(bim::KIND_VALUE, word.into(), second.into(), fetch.at)?;
+                self.item = "";
                 self.texts.extend(text);
             }
             Task::Particle { row, wall, depth } => {
@@ -746,6 +813,15 @@ impl Agenda<'_> {
     }
 }
 
+/// Which of two items a value of this kind is: of a dateTime, of a date, or neither.
+fn date_item(kind: i64, [date_time, date]: [&'static str; 2]) -> &'static str {
+    match kind as u32 {
+        bim::DATE_TIME => date_time,
+        bim::DATE => date,
+        _ => "",
+    }
+}
+
 /// The low `width` bits of `value`.
 pub fn bits_of(value: u64, width: usize) -> Vec<bool> {
     (0..width).rev().map(|bit| value >> bit & 1 == 1).collect()
@@ -774,8 +850,8 @@ pub fn bytes_of(bits: &[bool]) -> Vec<u8> {
         .collect()
 }
 
-/// A simple value's bits without a text's bytes, where its row has the value.
-pub fn value_bits(kind: i64, b: i64, c: i64, word: u32) -> Option<Vec<bool>> {
+/// A simple value's bits without a text's bytes, where its row has the value. The second word counts of dates alone.
+pub fn value_bits(kind: i64, b: i64, c: i64, [word, second]: [u32; 2]) -> Option<Vec<bool>> {
     let shortest = |value: u64| bits5(value, groups(value));
     let among = |choices: i64, index: i64| (0..choices).contains(&index).then(|| bits_of(index as u64, width(choices)));
     let signed = i64::from(word as i32);
@@ -796,6 +872,11 @@ pub fn value_bits(kind: i64, b: i64, c: i64, word: u32) -> Option<Vec<bool>> {
         }
         bim::ENUMERATION => among(b, word.into()),
         bim::TEXT => (word <= bim::MOST_TEXT).then(|| shortest(word.into())),
+        bim::DATE_TIME => date_of_words(word, second).map(|(days, ms)| bits_of(days << 32 | ms, 64)),
+        bim::DATE => match date_of_words(word, second)? {
+            (days, 0) => Some(bits_of(days, 32)),
+            _ => None,
+        },
         _ => Some(bits_of(word.into(), 32)),
     }
 }
@@ -818,7 +899,7 @@ pub fn count_bits(least: i64, most: i64, count: u32) -> Option<Vec<bool>> {
     Some(bits)
 }
 
-/// Writes into `room` bytes. Besides, the item that was refused, of those that have to do with substitution and casting.
+/// Writes into `room` bytes. Besides, the item that was refused, of those that have to do with substitution, casting and dates.
 #[allow(clippy::too_many_arguments)] // what a call is given, in its order
 pub fn write(
     table: &[u32],
@@ -1005,11 +1086,14 @@ impl Walk<'_> {
             }
             Task::Value { of_type, .. } => {
                 let (word, q) = self.want(bim::KIND_VALUE)?;
-                if q != 0 {
+                let column = |column| rows.of_type(of_type, column);
+                self.item = date_item(column(4), ["written dateTime", "written date"]);
+                if q != 0 && self.item.is_empty() {
+                    self.item = "second word of no date";
                     return Err(bim::NO_READING);
                 }
-                let column = |column| rows.of_type(of_type, column);
-                let bits = value_bits(column(4), column(5), column(6), word).ok_or(bim::OUTSIDE_ROW)?;
+                let bits = value_bits(column(4), column(5), column(6), [word, q]).ok_or(bim::OUTSIDE_ROW)?;
+                self.item = "";
                 let size = if column(4) as u32 == bim::TEXT { word as usize } else { 0 };
                 if size > self.left.len() {
                     return Err(bim::TEXT_BYTES);

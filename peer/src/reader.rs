@@ -252,7 +252,7 @@ impl Reader<'_> {
         if value.text > self.texts.len() - self.used {
             return Err(refusal(bim::TEXT_ROOM, first));
         }
-        self.store(first, [bim::KIND_VALUE, value.word, 0], value.bits)?;
+        self.store(first, [bim::KIND_VALUE, value.word, value.second], value.bits)?;
         self.at += value.bits;
         let target = &mut self.texts[self.used..self.used + value.text];
         copy_bytes(self.payload, self.at - 8 * value.text, target);

@@ -225,7 +225,7 @@ impl<'a> Table<'a> {
                 demand(c == 0, at + 6)
             }
             _ => {
-                demand(a <= bim::FLOAT, at + 4)?;
+                demand(a <= bim::DATE, at + 4)?;
                 let (b_good, c_good) = match a {
                     bim::RANGED => (true, b as i32 <= c as i32),
                     bim::ENUMERATION => ((1..=bim::MOST_VALUES).contains(&b), c == 0),

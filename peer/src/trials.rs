@@ -4,20 +4,21 @@ use crate::answer::{refusal, Answer, Path};
 use crate::bim;
 use crate::call::{Read, Set, Write};
 use crate::demands::{self, check_table, two_tables, Tally};
-use crate::gen::{self, table_and_control, table_and_padded, table_and_sample};
+use crate::gen::{self, table_and_control, table_and_dates, table_and_padded, table_and_sample};
 use crate::rng::Rng;
 use crate::rows::held_word;
 use crate::words::{big_endian, words_of};
-use crate::{bits, codes, host, model, reader, utf8, value, writer};
+use crate::{bits, calendar, codes, host, model, reader, swift, utf8, value, writer};
 
 /// The kinds of trial, by name.
-pub const KINDS: [&str; 13] = [
+pub const KINDS: [&str; 14] = [
     "valid lists", "odd codes", "damaged payloads", "two tables", "damaged lists", "damaged tables", "noise",
-    "codes alone", "C boundary", "deep lists", "padded lengths", "control characters", "settings",
+    "codes alone", "C boundary", "deep lists", "padded lengths", "control characters", "settings", "dates",
 ];
 
-/// How often each kind comes up among 27.
-const SHARES: [usize; 27] = [0, 0, 0, 1, 1, 1, 2, 2, 2, 3, 3, 3, 4, 4, 4, 5, 6, 7, 7, 8, 9, 10, 10, 11, 11, 12, 12];
+/// How often each kind comes up among 29.
+#[rustfmt::skip]
+const SHARES: [usize; 29] = [0, 0, 0, 1, 1, 1, 2, 2, 2, 3, 3, 3, 4, 4, 4, 5, 6, 7, 7, 8, 9, 10, 10, 11, 11, 12, 12, 13, 13];
 
 /// Runs the trial of this seed; gives its kind, and `Err` with what was violated.
 pub fn trial(tally: &mut Tally, seed: u64) -> (usize, Result<(), String>) {
@@ -36,7 +37,8 @@ pub fn trial(tally: &mut Tally, seed: u64) -> (usize, Result<(), String>) {
         9 => deep_list(tally, &mut rng),
         10 => padded_lengths(tally, &mut rng),
         11 => control_characters(tally, &mut rng),
-        _ => settings(tally, &mut rng),
+        12 => settings(tally, &mut rng),
+        _ => dates(tally, &mut rng),
     };
     (kind, result)
 }
@@ -149,6 +151,39 @@ fn control_characters(tally: &mut Tally, rng: &mut Rng) -> Result<(), String> {
     (call.event_words, call.text_room) = rooms(rng, sample.events.len(), sample.texts.len());
     demands::read(tally, &call)?;
     demands::write(tally, &sample.writing(&table, 0)).map(drop)
+}
+
+/// Dates read by two tables, in rooms that may be short; one of their bits turned over; one of their fields changed in the list. Then a day and
+/// two words by themselves, as judge, model and fast half have them.
+fn dates(tally: &mut Tally, rng: &mut Rng) -> Result<(), String> {
+    let (table, sample) = table_and_dates(rng);
+    let mut call = sample.reading(&table, 4 * sample.events.len(), sample.texts.len());
+    let first = gen::let_go(rng, sample.party, &table, 4);
+    two_tables(tally, &first, &call)?;
+    (call.event_words, call.text_room) = rooms(rng, sample.events.len(), sample.texts.len());
+    demands::read(tally, &call)?;
+    let at = rng.pick(&gen::dates(&sample.events));
+    let bit = gen::place_of(&sample.events, at) + rng.below(sample.events[at][3] as usize);
+    call.payload[bit / 8] ^= 0x80 >> (bit % 8);
+    demands::read(tally, &call)?;
+    let mut list = sample.writing(&table, 0);
+    let words = &mut list.events[4 * at + 1..4 * at + 3];
+    words.copy_from_slice(&gen::damage_date(rng, [words[0], words[1]]));
+    demands::write(tally, &list)?;
+
+    let (days, ms) = (gen::any_day(rng), gen::any_ms(rng));
+    let of_model = model::date_words(days.into(), ms.into());
+    let words = [value::words_of_date(calendar::date_of(days), ms), swift::calendar::words_of(days, ms)];
+    if words != [of_model.into(); 2] {
+        return Err(format!("day {days} and {ms} ms are {words:?}, and should be {of_model:?}"));
+    }
+    let [word, second] = gen::damage_date(rng, of_model);
+    let of_model = model::date_of_words(word, second).map(|(days, ms)| (days as u32, ms as u32));
+    let fast = swift::calendar::days_of(word, second);
+    if fast != of_model {
+        return Err(format!("{word} {second} is {fast:?}, and should be {of_model:?}"));
+    }
+    Ok(())
 }
 
 /// Settings by others between a party's readings and writings, on tables that may be damaged; then its own, and two in both orders.
@@ -372,7 +407,7 @@ fn codes_alone(rng: &mut Rng) -> Result<(), String> {
     let expected = with_bits(fetch(), at, |fetch| fetch.count(least.into(), most.into()));
     agree("occurs", format!("{got:?}"), format!("{expected:?}"))?;
 
-    let kind = rng.below(7) as u32;
+    let kind = rng.below(9) as u32;
     let (b, c) = match kind {
         bim::RANGED => {
             let (one, two) = (gen::edge_word(rng) as i32, gen::edge_word(rng) as i32);
@@ -381,15 +416,20 @@ fn codes_alone(rng: &mut Rng) -> Result<(), String> {
         bim::ENUMERATION => (rng.within(1, bim::MOST_VALUES as usize) as u32, 0),
         _ => (0, 0),
     };
-    let got = value::read(kind, b, c, &payload, end, at).map(|read| (read.word, read.text, read.bits));
+    let got = value::read(kind, b, c, &payload, end, at).map(|read| ([read.word, read.second], read.text, read.bits));
     let expected = with_bits(fetch(), at, |fetch| fetch.value(kind.into(), b.into(), c.into()))
-        .map(|((word, text), bits)| (word, text.len(), bits));
+        .map(|((words, text), bits)| (words, text.len(), bits));
     agree("value", format!("{got:?}"), format!("{expected:?}"))?;
 
-    let word = gen::edge_word(rng);
+    let mut word = gen::edge_word(rng);
+    let mut second = 0;
+    if value::is_date(kind) {
+        let date = model::date_words(gen::any_day(rng).into(), 0);
+        [word, second] = if rng.one_in(2) { gen::damage_date(rng, date) } else { date };
+    }
     let as_model = |code: Option<bits::Code>| code.map(|code| model::bits_of(code.bits, code.width as usize));
-    let got = as_model(value::write(kind, b, c, word).ok());
-    let expected = model::value_bits(kind.into(), b.into(), c.into(), word);
+    let got = as_model(value::write(kind, b, c, word, second).ok());
+    let expected = model::value_bits(kind.into(), b.into(), c.into(), [word, second]);
     agree("written value", format!("{got:?}"), format!("{expected:?}"))?;
     let got = as_model(codes::write_occurs(least, most, word));
     let expected = model::count_bits(least.into(), most.into(), word);

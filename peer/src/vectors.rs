@@ -265,7 +265,7 @@ fn code_line(asked: &str) -> Option<String> {
         "writerange" => written(codes::write_range(number(0)? as i32, number(1)? as i32, number(2)? as u32)),
         "writeoccurs" => written(codes::write_occurs(number(0)? as u32, number(1)? as u32, number(2)? as u32)),
         "writevalue" => {
-            written(value::write(number(0)? as u32, number(1)? as u32, number(2)? as u32, number(3)? as u32).ok())
+            written(value::write(number(0)? as u32, number(1)? as u32, number(2)? as u32, number(3)? as u32, 0).ok())
         }
         _ => return None,
     };

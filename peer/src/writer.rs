@@ -251,8 +251,8 @@ impl Walk<'_> {
     }
 
     fn value(&mut self, row: &Type) -> Result<(), Refusal> {
-        let event = self.take(bim::KIND_VALUE, |event| event.q == 0)?;
-        let code = match value::write(row.a, row.b, row.c, event.p) {
+        let event = self.take(bim::KIND_VALUE, |event| event.q == 0 || value::is_date(row.a))?;
+        let code = match value::write(row.a, row.b, row.c, event.p, event.q) {
             Ok(code) => code,
             Err(number) => return self.refuse(number),
         };

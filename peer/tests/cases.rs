@@ -17,7 +17,7 @@ fn the_named_cases_reach_every_number() {
     for case in cases::all() {
         let _ = named(&mut tally, case);
     }
-    assert!(tally.is_whole() && tally.casts_are_whole());
+    assert!(tally.is_whole() && tally.items_are_whole());
 }
 
 #[test]

@@ -33,7 +33,7 @@ fn the_headers_names_are_the_peers() {
     }
     assert!(theirs.remove("STACK").is_some());
     // Refusals and 0, event kinds, modes and their bytes, contents, simple kinds, particles and the unbounded most; sizes and limits.
-    assert_eq!(theirs.len(), 27 + 8 + 8 + 3 + 7 + 5 + 21, "{theirs:?}");
+    assert_eq!(theirs.len(), 27 + 8 + 8 + 3 + 9 + 5 + 21, "{theirs:?}");
     for (name, value) in theirs {
         assert_eq!(ours.get(name), Some(&value), "BIM_{name}");
     }

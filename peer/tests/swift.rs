@@ -9,7 +9,7 @@ calls_of!(Swift = swift::check_table, swift::read, swift::write, swift::write_le
 #[test]
 fn the_fast_calls_answer_as_the_peer() {
     let mut bench = run(&Swift, 300_000, 1);
-    assert!(bench.report() && bench.casts_are_whole());
+    assert!(bench.report() && bench.items_are_whole());
 }
 
 #[test]

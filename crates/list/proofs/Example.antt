@@ -58,5 +58,5 @@ listings =
     ∷ []
 
 pub printed-cases : map (λ (c : Case). printedOf (c .given)) listings ≡ map (λ (c : Case). c .text) listings
-unfolding input shown listings Bytes.wordsOf Bytes.spelled Listing.listed Listing.listing Text.places Text.decimal Text.heading Text.eventLine Text.refusal Text.eventLines Text.printed Text.printedOf Example.words Example.worked Model.eventOf Model.value Model.maybe Model.attribute Model.attributes Model.contents Model.rows Model.within Model.due Model.plan Model._then_ Model.flagOf Model.events Model.texts Model.treeSlots Model.treeBytes Model.treeBits Items.formOf Items.formAt Items.itemAt Items.lengthAt Items.headAt Read.onto Read.after Read.code Read.kept Read.stored Read.met Read.ended Read.closed Read.entered Read.bare Read.sized Read.opened Read.elementAt Read.read Whole.modeNumber Whole.lengthsNumber Whole.modeByte Whole.modesFor Whole.modeBy Items.codesAt Items.substituteCode Items.typeCode Model.chosen Model.codes Model.defaultType Model.effectiveType Model.sends Read.castAt Rows.derivedFrom Rows.derivedOf Rows.substitutesFrom Rows.substitutesOf Simple.oneOf Valid.formSize Valid.formWords Valid.lengthRight Whole.modeOf Whole.zeros Whole.padding Whole.padded Whole.replied Whole.rootIn Whole.inMode Whole.payload Whole.asked Whole.afterAsked Whole.afterVerdict Whole.reading Whole.eventWords Whole.filled Whole.outcome Whole.eventsLeft Code.choiceAt Code.numberAt Code.someOf Code.codeAt Simple.spanCode Simple.rangeCode Simple.boundedCode Simple.timesCode Simple.simpleOf Simple.bytesAt Simple.unless Simple.textOf Simple.simpleAt First.first First._then_ First.judge Valid.given Valid.headerWords Valid.frontWords Valid.unusedWords Valid.rangeWords Valid.enumerationWords Valid.kindWords Valid.emptyWords Valid.simpleWords Valid.particlesWords Valid.contentWords Valid.attributeWords Valid.elementWords Valid.groupWords Valid.occursWords Valid.particleWords Valid.rows Valid.typeRow Valid.attributeRow Valid.particleRow Valid.rowWords Valid.verdictFrom Valid.verdict Rows.contentFrom Rows.rowFrom Rows.contentOf Rows.rowAt Rows.rowOf Rows.attributeOf Rows.attributesFrom Rows.firstOf Rows.countOf Rows.attributesOf Rows.tableOf Rows.heldOf Res._>>=_ Res._>>_ Res.guard Res.atMost Bits.bitAt Bits.num Bits.fixedAt Bits.digits Width.leastFrom Width.width Number.onesAt Number.isShort Number.groupsAt Number.number5 Number.strict Number.read5 utf8.has utf8.lines utf8.begun utf8.open-lines utf8.goesOn utf8.isControl utf8.hasControl utf8.faultOf utf8.textFault signed.gapOf
+unfolding input shown listings Bytes.wordsOf Bytes.spelled Listing.listed Listing.listing Text.places Text.decimal Text.heading Text.eventLine Text.refusal Text.eventLines Text.printed Text.printedOf Example.words Example.worked Model.eventOf Model.value Model.maybe Model.attribute Model.attributes Model.contents Model.rows Model.within Model.due Model.plan Model._then_ Model.flagOf Model.events Model.texts Model.treeSlots Model.treeBytes Model.treeBits Items.formOf Items.formAt Items.itemAt Items.lengthAt Items.headAt Read.onto Read.after Read.code Read.kept Read.stored Read.met Read.ended Read.closed Read.entered Read.bare Read.sized Read.opened Read.elementAt Read.read Whole.modeNumber Whole.lengthsNumber Whole.modeByte Whole.modesFor Whole.modeBy Items.codesAt Items.substituteCode Items.typeCode Model.chosen Model.codes Model.defaultType Model.effectiveType Model.sends Read.castAt Rows.derivedFrom Rows.derivedOf Rows.substitutesFrom Rows.substitutesOf Simple.oneOf Valid.formSize Valid.formWords Valid.lengthRight Whole.modeOf Whole.zeros Whole.padding Whole.padded Whole.replied Whole.rootIn Whole.inMode Whole.payload Whole.asked Whole.afterAsked Whole.afterVerdict Whole.reading Whole.eventWords Whole.filled Whole.outcome Whole.eventsLeft Code.choiceAt Code.numberAt Code.someOf Code.codeAt Simple.firstWord Simple.secondWord Simple.spanCode Simple.rangeCode Simple.boundedCode Simple.timesCode Simple.simpleOf Simple.bytesAt Simple.unless Simple.textOf Simple.simpleAt First.first First._then_ First.judge Valid.given Valid.headerWords Valid.frontWords Valid.unusedWords Valid.rangeWords Valid.enumerationWords Valid.kindWords Valid.emptyWords Valid.simpleWords Valid.particlesWords Valid.contentWords Valid.attributeWords Valid.elementWords Valid.groupWords Valid.occursWords Valid.particleWords Valid.rows Valid.typeRow Valid.attributeRow Valid.particleRow Valid.rowWords Valid.verdictFrom Valid.verdict Rows.contentFrom Rows.rowFrom Rows.contentOf Rows.rowAt Rows.rowOf Rows.attributeOf Rows.attributesFrom Rows.firstOf Rows.countOf Rows.attributesOf Rows.tableOf Rows.heldOf Res._>>=_ Res._>>_ Res.guard Res.atMost Bits.bitAt Bits.num Bits.fixedAt Bits.digits Width.leastFrom Width.width Number.onesAt Number.isShort Number.groupsAt Number.number5 Number.strict Number.read5 utf8.has utf8.lines utf8.begun utf8.open-lines utf8.goesOn utf8.isControl utf8.hasControl utf8.faultOf utf8.textFault signed.gapOf
 printed-cases = refl

@@ -1,5 +1,5 @@
 -- Document 01's cases marked P, mended as READINGS says, and others beside them: one table under one statement, computed from the definitions.
-use Prim.Native.Nat.{ℕ, zero, suc, _^_}
+use Prim.Native.Nat.{ℕ, zero, suc, _+_, _^_}
 use mathlib.Core.Path.{_≡_, refl}
 use mathlib.Core.List.{List, [], _∷_, _++_, map}
 use lib.ListN.{length, replicate}
@@ -17,6 +17,9 @@ use Rattle.table.specs.Valid
 use Rattle.table.specs.Rows
 use Rattle.table.specs.Setting
 use Rattle.table.specs.Setting.{change, setting, settings}
+use Rattle.calendar.specs.Plain
+use Rattle.calendar.specs.Formulas
+use Rattle.value.specs.Dates
 use Rattle.value.specs.Code
 use Rattle.value.specs.Code.{codeAt}
 use Rattle.value.specs.Simple
@@ -379,9 +382,42 @@ buttedCases =
     ⇒ lists (mode Lengths.always false) (front ++ (blank ∷ back)) [] 68)
     ∷ []
 
+-- request 14's tables: a date alone; an optional attribute that is one. What a payload of the first is read as, and what a list is written as
+unfoldable pub tagged : List ℕ
+tagged = 1 ∷ 2 ∷ 1 ∷ 0 ∷ 1 ∷ 0 ∷ 0 ∷ 1 ∷ 0 ∷ 0 ∷ 0 ∷ 1 ∷ 1 ∷ 0 ∷ 0 ∷ 8 ∷ 0 ∷ 0 ∷ 20 ∷ 0 ∷ 1 ∷ []
+
+unfoldable pub dated : (kind p q n : ℕ) → List ℕ → Case
+dated kind p q n l = payload (simply kind) 1 (0x0F ∷ l) ⇒ lists (mode Lengths.never false) (event 1 1 0 0 ∷ event 3 p q n ∷ event 6 0 0 0 ∷ []) [] (8 + n)
+
+unfoldable pub dating : (kind p q : ℕ) → Shown → Case
+dating kind p q s = writesIn 0 (simply kind) (event 1 10 0 0 ∷ event 3 p q 0 ∷ event 6 0 0 0 ∷ []) [] ⇒ s
+
+-- and its examples
+unfoldable pub dateCases : List Case
+dateCases =
+    dated 7 31684 141417728 64 (0x00 ∷ 0x00 ∷ 0xAD ∷ 0x2A ∷ 0x00 ∷ 0x6D ∷ 0xDD ∷ 0x00 ∷ [])
+    ∷ dated 7 32001 4070332840 64 (0x00 ∷ 0x00 ∷ 0xC9 ∷ 0x75 ∷ 0x02 ∷ 0x9C ∷ 0x59 ∷ 0xA8 ∷ [])
+    ∷ dated 7 32019 134217728 64 (0x00 ∷ 0x00 ∷ 0xCB ∷ 0x01 ∷ 0x00 ∷ 0x00 ∷ 0x00 ∷ 0x00 ∷ [])
+    ∷ dated 7 29739 2281701376 64 (0x00 ∷ 0x00 ∷ 0x00 ∷ 0x00 ∷ 0x00 ∷ 0x00 ∷ 0x00 ∷ 0x00 ∷ [])
+    ∷ dated 7 188177276 891706367 64 (0xFF ∷ 0xFF ∷ 0xFF ∷ 0xFF ∷ 0x05 ∷ 0x26 ∷ 0x5B ∷ 0xFF ∷ [])
+    ∷ (payload (simply 7) 1 (0x0F ∷ 0x00 ∷ 0x00 ∷ 0x00 ∷ 0x00 ∷ 0x05 ∷ 0x26 ∷ 0x5C ∷ 0x00 ∷ []) ⇒ refuses 14 8 (1 ∷ []))
+    ∷ (payload (simply 7) 1 (0x0F ∷ 0x00 ∷ 0x00 ∷ 0x00 ∷ 0x00 ∷ 0x00 ∷ 0x00 ∷ 0x00 ∷ []) ⇒ refuses 5 8 (1 ∷ []))
+    ∷ dated 8 31684 134217728 32 (0x00 ∷ 0x00 ∷ 0xAD ∷ 0x2A ∷ [])
+    ∷ dated 8 29740 4160749568 32 (0x00 ∷ 0x00 ∷ 0x00 ∷ 0x2C ∷ [])
+    ∷ dated 8 29745 134217728 32 (0x00 ∷ 0x00 ∷ 0x00 ∷ 0x2D ∷ [])
+    ∷ dated 8 188177276 805306368 32 (0xFF ∷ 0xFF ∷ 0xFF ∷ 0xFF ∷ [])
+    ∷ (payload tagged 1 (0x0F ∷ 0x80 ∷ 0x00 ∷ 0x56 ∷ 0x95 ∷ 0x00 ∷ [])
+    ⇒ lists (mode Lengths.never false) (event 1 1 0 0 ∷ event 2 20 1 1 ∷ event 3 31684 134217728 32 ∷ event 6 0 0 0 ∷ []) [] 41)
+    ∷ dating 7 31684 141417728 (makes (0x0F ∷ 0x00 ∷ 0x00 ∷ 0xAD ∷ 0x2A ∷ 0x00 ∷ 0x6D ∷ 0xDD ∷ 0x00 ∷ []) 72)
+    ∷ dating 8 32002 3892314112 (makes (0x0F ∷ 0x00 ∷ 0x00 ∷ 0xC9 ∷ 0x93 ∷ []) 40)
+    ∷ dating 8 30402 3892314112 (refuses 20 1 []) ∷ dating 8 32397 134217728 (refuses 20 1 []) ∷ dating 8 32388 4160749568 (refuses 20 1 [])
+    ∷ dating 8 32388 0 (refuses 20 1 []) ∷ dating 8 32388 134217729 (refuses 20 1 []) ∷ dating 7 32388 220617728 (refuses 20 1 [])
+    ∷ dating 7 29739 2147483648 (refuses 20 1 []) ∷ dating 7 188177276 939524096 (refuses 20 1 []) ∷ dating 2 5 1 (refuses 18 1 [])
+    ∷ []
+
 unfoldable pub all : List Case
-all = proved ++ (beside ++ (castCases ++ (paddedCases ++ (controlCases ++ (partyCases ++ buttedCases)))))
+all = proved ++ (beside ++ (castCases ++ (paddedCases ++ (controlCases ++ (partyCases ++ (buttedCases ++ dateCases))))))
 
 pub cases : map (λ (c : Case). shown (c .ask)) all ≡ map (λ (c : Case). c .comes) all
-unfolding all shared joined partyCases Setting.marked Setting.settingBy Setting.setting Setting.settings spoken labelled bell controlCases words hollow tangle worked front back list blank shownRes shownReply shownMade shown nest castRows cast casted castList castCases proved beside Model.chosen Model.defaultType Model.effectiveType Model.sends Model.codes Items.substituteCode Items.typeCode Items.codesAt Read.castAt Write.placeIn Write.standing Write.codesOut Write.casts Whole.lengthsNumber Whole.modesFor Whole.modeBy Simple.oneOf Valid.derivedWords Valid.substituteWords Valid.among Valid.once Valid.wordsFrom Valid.typePair Valid.rowPair Valid.derivedRow Valid.substituteRow Valid.typePairRow Valid.rowPairRow Valid.castWords Valid.formWords Valid.formSize Valid.countWords Valid.lengthRight Rows.substitutesFrom Rows.substitutesOf Rows.derivedFrom Rows.derivedOf Model.eventOf Model.value Model.maybe Model.attribute Model.attributes Model.contents Model.rows Model.within Model.due Model.plan Model._then_ Model.flagOf Model.events Model.texts Model.treeSlots Model.treeBytes Model.treeBits Items.formOf Items.formAt Items.itemAt Items.lengthAt Items.headAt Read.onto Read.after Read.code Read.kept Read.stored Read.met Read.ended Read.closed Read.entered Read.bare Read.sized Read.opened Read.elementAt Read.read Write.put Write.along Write.unlike Write.matched Write.taken Write.wordOf Write.flagIn Write.simpleOut Write.formOut Write.itemOut Write.coded Write.headOut Write.sealed Write.tooDeep Write.allowed Write.elementOut Write.write Pack.pack Whole.modeByte Whole.modeNumber Whole.modeOf Whole.zeros Whole.padding Whole.padded Whole.replied Whole.rootIn Whole.inMode Whole.payload Whole.asked Whole.afterAsked Whole.afterVerdict Whole.reading Whole.eventWords Whole.filled Whole.outcome Whole.eventsLeft Whole.textsLeft Whole.eventsFrom Whole.roomed Whole.spent Whole.modeAsked Whole.shaped Whole.written Whole.orUnmade Whole.verdictMade Whole.writing Whole.outcomeMade Whole.payloadLeft Code.HasCode Code.bitsOf Code.choiceAt Code.numberAt Code.signedOf Code.someOf Code.codeAt Code.fits Code.codeOut Code.sizeOut Simple.spanCode Simple.rangeCode Simple.unboundedCode Simple.boundedCode Simple.timesCode Simple.simpleOf Simple.bytes Simple.bytesAt Simple.unless Simple.textOf Simple.simpleAt First.first First._then_ First.judge Valid.given Valid.headerWords Valid.frontWords Valid.unusedWords Valid.rangeWords Valid.enumerationWords Valid.kindWords Valid.emptyWords Valid.simpleWords Valid.particlesWords Valid.contentWords Valid.attributeWords Valid.elementWords Valid.groupWords Valid.occursWords Valid.particleWords Valid.rows Valid.typeRow Valid.attributeRow Valid.particleRow Valid.rowWords Valid.verdictFrom Valid.verdict Valid.rightAt Rows.contentFrom Rows.rowFrom Rows.contentOf Rows.rowAt Rows.rowOf Rows.attributeOf Rows.attributesFrom Rows.firstOf Rows.countOf Rows.attributesOf Rows.tableOf Rows.heldOf Res._>>=_ Res._>>_ Res.guard Res.atMost Bits.bitAt Bits.num Bits.fixedAt Bits.digits Width.leastFrom Width.width Number.onesAt Number.isShort Number.groupsAt Number.number5 Number.second8At Number.number8 Number.strict Number.read5 Number.read8 Number.more Number.codeOf5 Number.code5 Number.code8 utf8.has utf8.lines utf8.begun utf8.open-lines utf8.goesOn utf8.isControl utf8.hasControl utf8.faultOf utf8.textFault signed.gapOf signed.signOf signed.magnitudeOf signed.wordOf signed.wrapped simply sized threeGroups twoGroups eightGroups innerPadded paddedCases shownBack unspoken steppedOver said buttedCases
+unfolding all shared joined partyCases Setting.marked Setting.settingBy Setting.setting Setting.settings spoken labelled bell controlCases words hollow tangle worked front back list blank shownRes shownReply shownMade shown nest castRows cast casted castList castCases proved beside Model.chosen Model.defaultType Model.effectiveType Model.sends Model.codes Items.substituteCode Items.typeCode Items.codesAt Read.castAt Write.placeIn Write.standing Write.codesOut Write.casts Whole.lengthsNumber Whole.modesFor Whole.modeBy Simple.oneOf Valid.derivedWords Valid.substituteWords Valid.among Valid.once Valid.wordsFrom Valid.typePair Valid.rowPair Valid.derivedRow Valid.substituteRow Valid.typePairRow Valid.rowPairRow Valid.castWords Valid.formWords Valid.formSize Valid.countWords Valid.lengthRight Rows.substitutesFrom Rows.substitutesOf Rows.derivedFrom Rows.derivedOf Model.eventOf Model.value Model.maybe Model.attribute Model.attributes Model.contents Model.rows Model.within Model.due Model.plan Model._then_ Model.flagOf Model.events Model.texts Model.treeSlots Model.treeBytes Model.treeBits Items.formOf Items.formAt Items.itemAt Items.lengthAt Items.headAt Read.onto Read.after Read.code Read.kept Read.stored Read.met Read.ended Read.closed Read.entered Read.bare Read.sized Read.opened Read.elementAt Read.read Write.put Write.along Write.unlike Write.matched Write.taken Write.wordOf Write.flagIn Write.simpleOut Write.formOut Write.itemOut Write.coded Write.headOut Write.sealed Write.tooDeep Write.allowed Write.elementOut Write.write Pack.pack Whole.modeByte Whole.modeNumber Whole.modeOf Whole.zeros Whole.padding Whole.padded Whole.replied Whole.rootIn Whole.inMode Whole.payload Whole.asked Whole.afterAsked Whole.afterVerdict Whole.reading Whole.eventWords Whole.filled Whole.outcome Whole.eventsLeft Whole.textsLeft Whole.eventsFrom Whole.roomed Whole.spent Whole.modeAsked Whole.shaped Whole.written Whole.orUnmade Whole.verdictMade Whole.writing Whole.outcomeMade Whole.payloadLeft Code.HasCode Code.bitsOf Code.choiceAt Code.numberAt Code.signedOf Code.someOf Code.codeAt Code.fits Code.codeOut Code.sizeOut Simple.spanCode Simple.rangeCode Simple.unboundedCode Simple.boundedCode Simple.timesCode Simple.simpleOf Simple.bytes Simple.bytesAt Simple.unless Simple.textOf Simple.simpleAt First.first First._then_ First.judge Valid.given Valid.headerWords Valid.frontWords Valid.unusedWords Valid.rangeWords Valid.enumerationWords Valid.kindWords Valid.emptyWords Valid.simpleWords Valid.particlesWords Valid.contentWords Valid.attributeWords Valid.elementWords Valid.groupWords Valid.occursWords Valid.particleWords Valid.rows Valid.typeRow Valid.attributeRow Valid.particleRow Valid.rowWords Valid.verdictFrom Valid.verdict Valid.rightAt Rows.contentFrom Rows.rowFrom Rows.contentOf Rows.rowAt Rows.rowOf Rows.attributeOf Rows.attributesFrom Rows.firstOf Rows.countOf Rows.attributesOf Rows.tableOf Rows.heldOf Res._>>=_ Res._>>_ Res.guard Res.atMost Bits.bitAt Bits.num Bits.fixedAt Bits.digits Width.leastFrom Width.width Number.onesAt Number.isShort Number.groupsAt Number.number5 Number.second8At Number.number8 Number.strict Number.read5 Number.read8 Number.more Number.codeOf5 Number.code5 Number.code8 utf8.has utf8.lines utf8.begun utf8.open-lines utf8.goesOn utf8.isControl utf8.hasControl utf8.faultOf utf8.textFault signed.gapOf signed.signOf signed.magnitudeOf signed.wordOf signed.wrapped simply sized threeGroups twoGroups eightGroups innerPadded paddedCases shownBack unspoken steppedOver said buttedCases tagged dated dating dateCases Simple.firstWord Simple.secondWord Simple.valueOf Simple.untexted Code.clockAt Dates.dayIn Dates.stampBits Dates.dayBits Dates.dayFits Formulas.yearStart Formulas.monthStart Formulas.fromMarch Formulas.monthly Formulas.yearly Formulas.civil Formulas.dateBy Formulas.daysTo Formulas.inWord Formulas.dayBy Plain.leap Plain.daysIn
 cases = refl

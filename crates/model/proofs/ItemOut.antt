@@ -10,7 +10,8 @@ use Rattle.wire.specs.Res.{got, Ensures}
 use Rattle.wire.proofs.Res.{gives, bind, tested, under, then, tested-then, under-then}
 use Rattle.value.specs.Code.{Code, choice, HasCode, bitsOf, fits, codeOut}
 use Rattle.value.proofs.CodeLaws.{fits-true, true-fits}
-use Rattle.value.specs.Simple.{Simple, plain, text, count, bytes, SimpleIs, a-code, a-text}
+use Rattle.value.specs.Simple.{Simple, plain, text, dated, simpleOf, firstWord, secondWord, valueOf, count, bytes, SimpleIs, a-code, a-text, a-date}
+use Rattle.value.proofs.DateLaws.{parts-joined}
 use Rattle.value.proofs.SimpleLaws.{passes, passes-then}
 use Rattle.value.proofs.ValueLaws.{text-octets, plain-is}
 use Rattle.model.specs.Model.{Item, eventOf}
@@ -45,6 +46,7 @@ simple-written text v T =
       is = rw (f .0) (subst (λ (k : ℕ). SimpleIs text k X (bitsOf count k ++ bytes X)) n (a-text {l = X} (rw n (f .1)) (text-octets X z) z));
       text = sym (take-append-drop v T);
     })
+simple-written (dated c) v T = bind (code-written c v) λ w f. gives (record { texts = []; is = rw (f .0) (a-date (f .1)); text = refl })
 
 form-written : (f : Form) (v : ℕ) (T : List ℕ) → (f ≡ present → v ≡ 1) → Ensures (formOut f v T) (λ r. (ts : List ℕ) × FormIs f v ts (r .0) × (T ≡ ts ++ r .1))
 unfolding formOut
@@ -80,6 +82,7 @@ simple-out U (a-text {l} h k z) =
     let x : take (length l) (l ++ U) ≡ l = take-at l U (length l) refl in
     let y : drop (length l) (l ++ U) ≡ U = drop-at l U (length l) refl in
     then _ (code-out count (length l) h) (under-then textBytes (omega arith) (rw (x, y) (passes-then z refl)))
+simple-out U (a-date {c} {v} h) = then _ (code-out c v h) refl
 
 form-out : {f : Form} {v : ℕ} {T w : List ℕ} (U : List ℕ) → FormIs f v T w → formOut f v (T ++ U) ≡ got (w, U)
 unfolding formOut
@@ -116,10 +119,16 @@ pub picked-value : (n : ℕ) {v : ℕ} {ts w : List ℕ} → ItemIs (picked n) v
 unfolding formOf HasCode
 picked-value n h = omega (arith, form-plain h _ refl .0)
 
+words-back : (s : Simple) (v : ℕ) → valueOf s (firstWord s v) (secondWord s v) ≡ v
+unfolding valueOf firstWord secondWord
+words-back (plain c) v = refl
+words-back text v = refl
+words-back (dated c) v = parts-joined v
+
 pub word-back : (i : Item) (v n : ℕ) (ts w : List ℕ) → ItemIs i v ts w → wordOf i (bare (eventOf i v n)) ≡ v
 unfolding wordOf eventOf formOf
 word-back (required name) v n ts w h = sym (present-one h refl)
 word-back (optional name) v n ts w h = let f = optional-value name h in omega arith
-word-back (valued kind b c) v n ts w h = refl
+word-back (valued kind b c) v n ts w h = words-back (simpleOf kind b c) v
 word-back (picked count) v n ts w h = refl
 word-back (counted least most) v n ts w h = refl

@@ -10,8 +10,8 @@ use Rattle.wire.specs.Bits.{fixedAt}
 use Rattle.wire.specs.Width.{width}
 use Rattle.wire.specs.Number.{onesAt, groupsAt, number5, strict, read5}
 use Rattle.utf8.specs.Text.{textFault}
-use Rattle.value.specs.Code.{Code, choice, five, signed, some, shifted, choiceAt, numberAt, signedOf, someOf, codeAt, fits, codeOut}
-use Rattle.value.specs.Simple.{Simple, plain, text, count, bytesAt, unless, textOf, simpleAt}
+use Rattle.value.specs.Code.{Code, choice, five, signed, some, shifted, stamp, choiceAt, numberAt, signedOf, someOf, clockAt, codeAt, fits, codeOut}
+use Rattle.value.specs.Simple.{Simple, plain, text, dated, count, bytesAt, unless, textOf, untexted, simpleAt}
 use Rattle.model.specs.Model.{Item, Types, defaultType}
 use Rattle.model.specs.Items.{Lengths, flag, Form, present, simply, formOf, formAt, itemAt, lengthAt, headAt, substituteCode, typeCode, codesAt}
 use Rattle.model.specs.Write.{simpleOut, formOut, itemOut, standing, codesOut}
@@ -78,6 +78,11 @@ module _ (b : ℕ → ℕ) (wall : ℕ) where
   some-named rd h zero p = tt
   some-named rd h (suc k) p = named-bind (rd p) _ (h p) (λ r. named-most _ _ 14 _ (omega arith) tt)
 
+  clock-named : (clock : Bool) (n at : ℕ) → Named (clockAt clock b wall n at)
+  unfolding clockAt
+  clock-named true n at = named-bind (fixedAt b wall at 32) _ (fixed-named at 32) (λ r. named-most _ _ 14 _ (omega arith) tt)
+  clock-named false n at = tt
+
   code-named : (c : Code) (at : ℕ) → Named (codeAt c b wall at)
   unfolding codeAt numberAt
   code-named (choice n) at = choice-named n at
@@ -86,13 +91,15 @@ module _ (b : ℕ → ℕ) (wall : ℕ) where
       named-bind (choiceAt b 2 wall at) _ (choice-named 2 at) (λ r. named-bind (read5 b wall (r .1)) _ (five-named (r .1)) (λ s. signed-named (r .0) (s .0) (s .1)))
   code-named (some c) at = named-bind (choiceAt b 2 wall at) _ (choice-named 2 at) (λ r. some-named (codeAt c b wall) (code-named c) (r .0) (r .1))
   code-named (shifted lo c) at = named-bind (codeAt c b wall at) _ (code-named c at) (λ r. named-most _ _ 13 _ (omega arith) tt)
+  code-named (stamp clock) at = named-bind (fixedAt b wall at 32) _ (fixed-named at 32) (λ r. clock-named clock (r .0) (r .1))
 
   simple-named : (s : Simple) (at : ℕ) → Named (simpleAt s b wall at)
-  unfolding simpleAt textOf
+  unfolding simpleAt untexted textOf
   simple-named (plain c) at = named-bind (codeAt c b wall at) _ (code-named c at) (λ r. tt)
   simple-named text at =
       named-bind (codeAt count b wall at) _ (code-named count at)
       (λ r. named-most _ _ 5 _ (omega arith) (named-unless (textFault (bytesAt b (r .1) (r .0))) _ tt))
+  simple-named (dated c) at = named-bind (codeAt c b wall at) _ (code-named c at) (λ r. tt)
 
   form-named : (f : Form) (at : ℕ) → Named (formAt f b wall at)
   unfolding formAt
@@ -130,6 +137,7 @@ unfolding simpleOut
 simple-out-named (plain c) v T = named-bind (codeOut c v) _ (code-out-named c v) (λ w. tt)
 simple-out-named text v T =
     named-bind (codeOut count v) _ (code-out-named count v) (λ w. named-most v (length T) 23 _ (omega arith) (named-unless (textFault (take v T)) _ tt))
+simple-out-named (dated c) v T = named-bind (codeOut c v) _ (code-out-named c v) (λ w. tt)
 
 form-out-named : (f : Form) (v : ℕ) (T : List ℕ) → Named (formOut f v T)
 unfolding formOut

@@ -8,11 +8,12 @@ use native.Mathlib.Omega.{arith}
 use Rattle.numbers.specs.Refusal as refusal
 use Rattle.numbers.specs.Kind as kinds
 use Rattle.numbers.specs.Limit.{mostOpen}
+use Rattle.wire.specs.Res.{Res, got, fault, _>>=_}
 use Rattle.table.specs.Rows.{Row, Attribute, Table, attributeOf, attributesFrom}
 use Rattle.table.specs.Rows.Content.{empty, simple, particles}
-use Rattle.value.specs.Simple.{simpleOf, timesCode, simpleAt, plain}
+use Rattle.value.specs.Simple.{Simple, simpleOf, firstWord, secondWord, timesCode, simpleAt, wordsOf, plain}
 use Rattle.value.specs.Code.{choice}
-use Rattle.model.specs.Model.{event, eventOf, Plan, Path, value, maybe, attribute, attributes, contents, rows, within, due, plan, only, typesOf, rooted}
+use Rattle.model.specs.Model.{event, eventOf, Plan, Path, Answer, value, maybe, attribute, attributes, contents, rows, within, due, plan, only, typesOf, rooted}
 use Rattle.model.specs.Model.Plan.{done}
 use Rattle.model.specs.Model.Item.{optional, valued, picked, counted}
 use Rattle.model.specs.Model.Nodes.{none}
@@ -39,6 +40,12 @@ module _ (b : ℕ → ℕ) (wall at : ℕ) where
   pub item-counted : (least most : ℕ) → itemAt (counted least most) b wall at ≡ simpleAt (plain (timesCode least most)) b wall at
   unfolding itemAt formOf formAt
   item-counted least most = refl
+
+words-code : (s : Simple) (m : Res (ℕ × List ℕ × ℕ)) (π : Path) (at : ℕ) (k : ℕ × ℕ × List ℕ × ℕ → Answer)
+    → code m π at (λ (v, ts, q). k (firstWord s v, secondWord s v, ts, q)) ≡ code (wordsOf s m) π at k
+unfolding code wordsOf _>>=_
+words-code s (got a) π at k = refl
+words-code s (fault n) π at k = refl
 
 module _ (b : ℕ → ℕ) (mode : Lengths) (held : ℕ → Bool) (T : Table) where
   module _ (r : Room) (π : Path) (wall at : ℕ) where
@@ -96,9 +103,14 @@ module _ (b : ℕ → ℕ) (mode : Lengths) (held : ℕ → Bool) (T : Table) wh
         ≡ after r (particleAt b mode held T d (T .row child) r π wall at) (λ s p. repeatsAt b mode held T d n child s π wall p)
     repeats-more d n child = rounds-more d n (λ i. T .row child)
 
-    pub value-is : (k x y : ℕ) → valueAt b mode held T k x y r π wall at ≡ code (itemAt (valued k x y) b wall at) π at (λ (v, ts, q). stored r π at (event kinds.value v 0 (q - at)) ts q)
+    -- a value's event has its words
+    pub value-is : (k x y : ℕ) → valueAt b mode held T k x y r π wall at
+        ≡ code (wordsOf (simpleOf k x y) (itemAt (valued k x y) b wall at)) π at (λ (v, w, ts, q). stored r π at (event kinds.value v w (q - at)) ts q)
     unfolding value read eventOf
-    value-is k x y = λ j. code (itemAt (valued k x y) b wall at) π at (λ z. after-done r (stored r π at (event kinds.value (z .0) 0 (z .2 - at)) (z .1) (z .2)) j)
+    value-is k x y =
+        let s = simpleOf k x y in
+        (λ j. code (itemAt (valued k x y) b wall at) π at (λ z. after-done r (stored r π at (event kinds.value (firstWord s (z .0)) (secondWord s (z .0)) (z .2 - at)) (z .1) (z .2)) j))
+        ∙ words-code s (itemAt (valued k x y) b wall at) π at (λ (v, w, ts, q). stored r π at (event kinds.value v w (q - at)) ts q)
 
     -- an attribute that must be there: its event, of no bits, then its value
     pub attribute-required : (a : Attribute) → a .must ≡ true

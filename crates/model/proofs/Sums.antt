@@ -10,8 +10,11 @@ use Rattle.wire.specs.Bits.{digits}
 use Rattle.wire.specs.Width.{width, leastFrom}
 use Rattle.wire.specs.Number.{code5, codeOf5, more}
 use Rattle.signed.specs.Words.{signOf, magnitudeOf}
-use Rattle.value.specs.Code.{Code, HasCode, choice, five, signed, some, shifted, wordLess, choiceBits, bitsOf}
-use Rattle.value.specs.Simple.{oneOf, Simple, bytes, SimpleIs, a-code, a-text}
+use Rattle.value.specs.Code.{Code, HasCode, choice, five, signed, some, shifted, stamp, wordLess, choiceBits, bitsOf}
+use Rattle.calendar.specs.declared.Day.{Day}
+use Rattle.calendar.specs.declared.Day.the-variants.{Number, Nothing}
+use Rattle.value.specs.Dates.{dayIn, clockIn, stampBits, dayBits}
+use Rattle.value.specs.Simple.{oneOf, Simple, bytes, SimpleIs, a-code, a-text, a-date}
 use Rattle.model.specs.Model.{Item, event, Types, codes, sends, chosen, defaultType, effectiveType, Plan, Nodes, treeBits as total, eventOf}
 use Rattle.model.specs.Model.Nodes.{leaf}
 use Rattle.model.specs.Model.Item.{required, optional, valued, picked, counted}
@@ -39,6 +42,12 @@ five-bits : (v : ℕ) → Bits (code5 v)
 unfolding code5
 five-bits v = groups-bits (more 7 v) v
 
+day-bits : (clock : Bool) (d : Day) (ms : ℕ) → Bits (dayBits clock d ms)
+unfolding dayBits stampBits
+day-bits true (Number n) ms = bits-append (digits 32 n) (digits 32 ms) (digits-bits 32 n) (digits-bits 32 ms)
+day-bits false (Number n) ms = bits-append (digits 32 n) [] (digits-bits 32 n) tt
+day-bits clock Nothing ms = tt
+
 code-bits : (c : Code) (v : ℕ) → Bits (bitsOf c v)
 unfolding bitsOf
 code-bits (choice n) v = digits-bits (width n) v
@@ -47,6 +56,7 @@ code-bits signed v = bits-append (choiceBits 2 (signOf v)) (code5 (magnitudeOf v
 code-bits (some c) zero = digits-bits (width 2) 0
 code-bits (some c) (suc k) = bits-append (choiceBits 2 1) (bitsOf c (suc k)) (digits-bits (width 2) 1) (code-bits c (suc k))
 code-bits (shifted lo c) v = code-bits c (wordLess lo v)
+code-bits (stamp clock) v = day-bits clock (dayIn v) (clockIn v)
 
 bytes-bits : (l : List ℕ) → Bits (bytes l)
 unfolding bytes
@@ -56,6 +66,7 @@ bytes-bits (x ∷ l) = bits-append (digits 8 x) (bytes l) (digits-bits 8 x) (byt
 simple-bits : {s : Simple} {v : ℕ} {ts w : List ℕ} → SimpleIs s v ts w → Bits w
 simple-bits (a-code {c} {v} h) = code-bits c v
 simple-bits (a-text {l} h k z) = bits-append (bitsOf _ (length l)) (bytes l) (code-bits _ (length l)) (bytes-bits l)
+simple-bits (a-date {c} {v} h) = code-bits c v
 
 form-bits : {f : Form} {v : ℕ} {ts w : List ℕ} → FormIs f v ts w → Bits w
 form-bits is-present = tt

@@ -6,6 +6,7 @@ use mathlib.Core.Bool.{Bool, true, false, cond}
 use lib.ListN.{length, getD}
 use Rattle.numbers.specs.Kind as kinds
 use Rattle.numbers.specs.Limit.{mostOpen}
+use Rattle.value.specs.Simple.{simpleOf, firstWord, secondWord}
 use Rattle.table.specs.Rows.{Row, Content, Attribute, Table}
 use Rattle.table.specs.Rows.Content.{empty, simple, particles}
 
@@ -35,7 +36,7 @@ pub data Item : Type 0 where
 unfoldable pub eventOf : Item → ℕ → ℕ → Event
 eventOf (required name) v n = event kinds.attribute name 1 n
 eventOf (optional name) v n = event kinds.attribute name v n
-eventOf (valued kind b c) v n = event kinds.value v 0 n
+eventOf (valued kind b c) v n = event kinds.value (firstWord (simpleOf kind b c) v) (secondWord (simpleOf kind b c) v) n
 eventOf (picked count) v n = event kinds.pick v 0 n
 eventOf (counted least most) v n = event kinds.times v 0 n
 

@@ -12,7 +12,7 @@ use Rattle.numbers.specs.Refusal.{notHeld, noReading, textBytes}
 use Rattle.numbers.specs.Kind as kinds
 use Rattle.wire.specs.Res.{Res, got, fault, _>>=_, _>>_, atMost}
 use Rattle.value.specs.Code.{bitsOf, codeOut}
-use Rattle.value.specs.Simple.{Simple, plain, text, count, bytes, unless}
+use Rattle.value.specs.Simple.{Simple, plain, text, dated, simpleOf, valueOf, count, bytes, unless}
 use Rattle.utf8.specs.Text.{textFault}
 use Rattle.model.specs.Model.{Event, end, Item, eventOf, Types, codes, defaultType, Plan}
 use Rattle.model.specs.Model.Plan.{done, deep, item, element}
@@ -59,7 +59,7 @@ taken f (e ∷ M) k = matched (unlike (f e) e) (suc (length M)) (k e M)
 unfoldable pub wordOf : Item → Bare → ℕ
 wordOf (required name) e = 1
 wordOf (optional name) e = min (e .q) 1
-wordOf (valued kind b c) e = e .p
+wordOf (valued kind b c) e = valueOf (simpleOf kind b c) (e .p) (e .q)
 wordOf (picked n) e = e .p
 wordOf (counted least most) e = e .p
 
@@ -92,6 +92,9 @@ simpleOut text v T = do
   atMost v (length T) textBytes
   unless (textFault (take v T))
   got (w ++ bytes (take v T), drop v T)
+simpleOut (dated c) v T = do
+  w ← codeOut c v
+  got (w, T)
 
 unfoldable pub formOut : Form → ℕ → List ℕ → Res (List ℕ × List ℕ)
 formOut present v T = got ([], T)

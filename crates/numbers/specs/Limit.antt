@@ -75,3 +75,6 @@ parties = 8
 
 abbrev pub mostHeld : ℕ
 mostHeld = 255
+
+abbrev pub dayMilliseconds : ℕ
+dayMilliseconds = 86400000

@@ -22,6 +22,12 @@ text = 5
 abbrev pub float : ℕ
 float = 6
 
+abbrev pub dateTime : ℕ
+dateTime = 7
+
+abbrev pub date : ℕ
+date = 8
+
 -- what is so of each, and so of a number; one that is none of them has its own
 pub record Simples (A : Type 0) : Type 0 where
   pub boolean : A
@@ -31,6 +37,8 @@ pub record Simples (A : Type 0) : Type 0 where
   pub enumeration : A
   pub text : A
   pub float : A
+  pub dateTime : A
+  pub date : A
 
 abbrev pub ofSimpleOr : {A : Type 0} → A → Simples A → ℕ → A
 ofSimpleOr none c zero = c .boolean
@@ -40,4 +48,6 @@ ofSimpleOr none c (suc (suc (suc zero))) = c .signed
 ofSimpleOr none c (suc (suc (suc (suc zero)))) = c .enumeration
 ofSimpleOr none c (suc (suc (suc (suc (suc zero))))) = c .text
 ofSimpleOr none c (suc (suc (suc (suc (suc (suc zero)))))) = c .float
-ofSimpleOr none c (suc (suc (suc (suc (suc (suc (suc k))))))) = none
+ofSimpleOr none c (suc (suc (suc (suc (suc (suc (suc zero))))))) = c .dateTime
+ofSimpleOr none c (suc (suc (suc (suc (suc (suc (suc (suc zero)))))))) = c .date
+ofSimpleOr none c (suc (suc (suc (suc (suc (suc (suc (suc (suc k))))))))) = none

@@ -50,3 +50,5 @@ pub const MOST_FIXED: u32 = 65535;
 pub const MOST_TEXT: u32 = 4095;
 // The greatest word: an unsigned value, a length and a place go up to it.
 pub const MOST_WORD: u32 = 4294967295;
+// The milliseconds of a day.
+pub const DAY_MILLISECONDS: u32 = 24 * 60 * 60 * 1000;

@@ -1,4 +1,4 @@
-// The simple kinds, and what the word p of a Value is.
+// The simple kinds, and what the word p of a Value is; its word q is 0, but of a date.
 
 // 0 or 1.
 pub const BOOLEAN: u32 = 0;
@@ -14,3 +14,7 @@ pub const ENUMERATION: u32 = 4;
 pub const TEXT: u32 = 5;
 // The bits of an IEEE 754 single.
 pub const FLOAT: u32 = 6;
+// A day and a time of it: p is 16 * year + month, q 2^27 * day + milliseconds.
+pub const DATE_TIME: u32 = 7;
+// A day: the same, with no milliseconds.
+pub const DATE: u32 = 8;

@@ -9,7 +9,7 @@ use Rattle.wire.specs.Res.{Ensures}
 use Rattle.wire.proofs.Res.{gives}
 use Rattle.wire.specs.Lawful.{Binary}
 use Rattle.value.specs.Code.{HasCode}
-use Rattle.value.specs.Simple.{Simple, SimpleIs, a-code, a-text}
+use Rattle.value.specs.Simple.{Simple, SimpleIs, a-code, a-text, a-date}
 use Rattle.value.proofs.SimpleLaws.{simple-found}
 use Rattle.model.specs.Model.{Plan, Nodes, treeSlots, treeBytes}
 use Rattle.model.specs.Model.Answer.{given}
@@ -23,6 +23,7 @@ text-short : {s : Simple} {v : ℕ} {ts w : List ℕ} → SimpleIs s v ts w → 
 unfolding HasCode
 text-short (a-code h) = omega arith
 text-short (a-text h o z) = omega (arith, h)
+text-short (a-date h) = omega arith
 
 form-short : (b : ℕ → ℕ) → Binary b → (f : Form) (wall at : ℕ)
     → Ensures (formAt f b wall at) (λ r. length (r .1) ≤ 4095)

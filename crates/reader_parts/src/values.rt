@@ -101,5 +101,6 @@ pub fn value(
     match of_kind(payload, wall, at, simple, x, y) {
         Value::Refuse(n) => Step::Refuse(n, at),
         Value::Read { word, text, next } => keep(payload, events, texts, c, word, text, next),
+        Value::Dated { p, q, next } => store(events, c, kind::VALUE, p, q, next),
     }
 }

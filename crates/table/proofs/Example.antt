@@ -58,6 +58,10 @@ changed i x v = case (set worked i x) v
 abbrev recast : ℕ → ℕ → Verdict → Case
 recast i x v = case (set cast i x) v
 
+-- one type of a simple kind with its parameter b
+abbrev dated : ℕ → ℕ → List ℕ
+dated kind b = 1 ∷ 1 ∷ 0 ∷ 0 ∷ 1 ∷ 1 ∷ 0 ∷ 0 ∷ kind ∷ b ∷ 0 ∷ []
+
 abbrev pub cases : List Case
 cases =
     case worked right
@@ -82,7 +86,9 @@ cases =
     ∷ changed 10 1 (wrong 10)
     ∷ changed 24 0xfffffffc (wrong 24)
     ∷ changed 24 0xfffffffd right
-    ∷ changed 29 7 (wrong 29)
+    ∷ changed 29 7 right
+    ∷ changed 29 8 right
+    ∷ changed 29 9 (wrong 29)
     ∷ changed 32 65536 (wrong 32)
     ∷ changed 33 2 (wrong 33)
     ∷ changed 34 0 (wrong 34)
@@ -97,6 +103,9 @@ cases =
     ∷ changed 46 65536 right
     ∷ changed 46 65537 (wrong 46)
     ∷ changed 50 1 (wrong 50)
+    ∷ case (dated 7 0) right
+    ∷ case (dated 9 0) (wrong 8)
+    ∷ case (dated 7 1) (wrong 9)
     ∷ case cast right
     ∷ recast 0 3 (wrong 0)
     ∷ recast 51 4 (wrong 78)

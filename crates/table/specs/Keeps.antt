@@ -4,7 +4,7 @@ use mathlib.Core.Path.{_≡_}
 use mathlib.Core.List.{List, [], _∷_}
 use lib.ListN.{length, getD}
 use Rattle.signed.specs.Words.{rank}
-use Rattle.numbers.specs.Simple.{ranged, enumeration}
+use Rattle.numbers.specs.Simple.{ranged, enumeration, date}
 use Rattle.numbers.specs.Limit.{mostTypes, mostAttributes, mostParticles, mostChildren, mostValues, mostName, mostTimes, unbounded}
 use Rattle.table.specs.Rows.{Row, Content, Attribute, Table}
 use Rattle.table.specs.Rows.Row.{element, sequence, choice, occurs}
@@ -38,7 +38,7 @@ RowOk T P p (choice start count) = GroupOk P p 2 start count
 RowOk T P p (occurs child least most) = OccursOk P p child least most
 
 pub record SimpleOk (kind b c : ℕ) : Type 0 where
-  pub kind-known : kind ≤ 6
+  pub kind-known : kind ≤ date
   pub range : kind ≡ ranged → rank b ≤ rank c
   pub values : kind ≡ enumeration → (1 ≤ b) × (b ≤ mostValues)
 

@@ -7,7 +7,7 @@ use lib.Dec.{ltb, leb, eqb}
 use lib.ListN.{length, getD}
 use Rattle.numbers.specs.Content.{simple, particles, ofContent}
 use Rattle.numbers.specs.Particle.{ofParticleOr}
-use Rattle.numbers.specs.Simple.{ranged, enumeration, float}
+use Rattle.numbers.specs.Simple.{ranged, enumeration, date}
 use Rattle.numbers.specs.Limit.{mostTypes, mostAttributes, mostParticles, mostChildren, mostValues, mostName, mostTimes, unbounded, mostDerivations, mostSubstitutes, mostTableWords, mostHeld}
 use Rattle.numbers.specs.Particle as particle
 use Rattle.signed.specs.Words.{rank}
@@ -48,7 +48,7 @@ unfoldable pub emptyWords : (a b c : ℕ) → List Bool
 emptyWords a b c = eqb a 0 ∷ unusedWords b c
 
 unfoldable pub simpleWords : (kind b c : ℕ) → List Bool
-simpleWords kind b c = leb kind float ∷ kindWords kind b c
+simpleWords kind b c = leb kind date ∷ kindWords kind b c
 
 unfoldable pub particlesWords : (P a b c : ℕ) → List Bool
 particlesWords P a b c = ltb a P ∷ unusedWords b c

@@ -84,7 +84,7 @@ fn values(b: u32, c: u32) -> Verdict
 fn simple(a: u32, b: u32, c: u32) -> Verdict
     ensures { λ r. ⌜ verdictIs r ≡ first 4 (simpleWords a b c) ⌝ }
 {
-    if simple::FLOAT < a {
+    if simple::DATE < a {
         return Verdict::Wrong(4);
     }
     if a == simple::RANGED {

@@ -1,5 +1,5 @@
--- Where a walk over one event ends there is room for its note, if there is for the bits that were counted.
-use Prim.Native.Nat.{ℕ, _+_, _-_, _*_, _<_, _≤_, _^_}
+-- Where a walk over one event ends, its note has the bits that were counted.
+use Prim.Native.Nat.{ℕ, _+_, _-_, _*_, _≤_}
 use mathlib.Core.Path.{_≡_}
 use mathlib.Core.List.{List}
 use native.Mathlib.Omega.{arith}
@@ -10,7 +10,6 @@ use Rattle.writer_parts.specs.declared.Judgement.{Judgement}
 use Rattle.writer_parts.specs.declared.Judgement.the-variants.{Go}
 use Rattle.writer_parts.specs.Notes.{spells}
 use Rattle.writer_parts.specs.Walk.{Walked, Went}
-use Rattle.wire.specs.Put.{Room}
 
 abbrev origin : Spot
 origin = record { event = 0; used = 0; bits = 0 }
@@ -19,8 +18,8 @@ module _ (L X : List ℕ) (o : Out) (N : List ℕ) (r : Judgement) (M : List ℕ
   went : Went L X o origin N e M
   went = rw g at (w .is)
 
-  pub one-room : (s : List ℕ) (at : ℕ) → at + e .bits ≤ 8 * length s → at + e .bits < 2 ^ 32 → Room s at (length (spells X M 0 (e .event)))
-  one-room s at h k =
+  pub one-bits : e .bits ≡ length (spells X M 0 (e .event))
+  one-bits =
       let z : e .event - 0 ≡ e .event = omega arith in
       let n : e .bits ≡ 0 + length (spells X M 0 (e .event - 0)) = went .counts in
       let m : e .bits ≡ 0 + length (spells X M 0 (e .event)) = rw z at n in

@@ -5,6 +5,7 @@ use super::reach;
 use super::refused;
 use super::told;
 use super::told_number;
+use numbers::refusal;
 use value::Value;
 use value::forms::range;
 use value::forms::simple;
@@ -116,7 +117,7 @@ pub extern "C" fn probe_times(
     )
 }
 
-// A simple value; after its word and its place come a text's bytes and the bits it took.
+// A simple value: its word and its place, then a text's bytes, then a date's second word.
 #[no_mangle]
 pub extern "C" fn probe_simple(
     s: &[u8],
@@ -133,6 +134,11 @@ pub extern "C" fn probe_simple(
     match value::reading::simple(s, Bits(end), Bits(at), simple(kind, b, c)) {
         Value::Refuse(e) => refused(e, out),
         Value::Read { word, text, next } => accepted(word, next.0, text.0, out),
+        Value::Dated { p, q, next } => {
+            accepted(p, next.0, 0, out);
+            out[3] = q;
+            refusal::ACCEPTED
+        }
     }
 }
 

@@ -17,10 +17,14 @@ use wire::Bits;
 use writer_parts::Judgement;
 use writer_parts::Spot;
 use writer_parts::leaves::note_code;
+use writer_parts::leaves::note_date;
 use writer_parts::pen::put_notes;
 ghost use mathlib.Core.Path.{_≡_};
+ghost use mathlib.Core.List.{[]};
+ghost use Prim.Native.Nat.{_*_, _≤_};
 ghost use lib.ListN.{length};
 ghost use Rattle.wire.specs.Number.{code8};
+ghost use Rattle.writer_parts.specs.Notes.{spells};
 
 #[no_mangle]
 pub extern "C" fn probe_put(buf: &mut [u8], at: u32, w: u32, v: u32, out: &mut [u32; 4]) -> u32 {
@@ -68,11 +72,12 @@ pub extern "C" fn probe_put8(buf: &mut [u8], at: u32, v: u32, out: &mut [u32; 4]
     told(wire::writing::put8(buf, Bits(at), v), out)
 }
 
-// The code of a simple kind's number: a text's is its count.
+// The code of a simple kind's number: a text's is its count, a date has none.
 fn number_of(kind: u32, b: u32, c: u32) -> Code {
     match simple(kind, b, c) {
         Form::Number(code) => code,
         Form::Text => Code::Plain(Inner::Five(limit::MOST_TEXT)),
+        Form::Dated(_) => Code::Plain(Inner::Choice(0)),
     }
 }
 
@@ -99,7 +104,24 @@ pub extern "C" fn probe_size_simple(kind: u32, b: u32, c: u32, v: u32, out: &mut
     sized(number_of(kind, b, c), v, out)
 }
 
-// A value as the writer puts it: judged, sized and noted as the one event of a list, and put down by the pen.
+// What a walk over one event noted, put down by the pen where its bits have room.
+fn put_noted(buf: &mut [u8], at: u32, v: u32, notes: &[u32], end: Spot, out: &mut [u32; 4]) -> u32
+    requires { ⌜
+        (end .bits ≡ length (spells [] (now notes) 0 (end .event))) × (4 * end .event ≤ length (now notes)) ⌝ }
+{
+    let most = reach(buf.len());
+    if most < at {
+        return refused(OUTSIDE, out);
+    }
+    if most - at < end.bits {
+        return refused(OUTSIDE, out);
+    }
+    let n = end.event;
+    let p = put_notes(buf, Bits(at), b"", notes, n);
+    accepted(v, p.0, 0, out)
+}
+
+// A value as the writer puts it: judged, sized and noted as the one event of a list, and put down.
 fn put_in_room(buf: &mut [u8], at: u32, c: Code, v: u32, out: &mut [u32; 4]) -> u32 {
     let list = [3, v, 0, 0];
     let start = Spot {
@@ -110,17 +132,31 @@ fn put_in_room(buf: &mut [u8], at: u32, c: Code, v: u32, out: &mut [u32; 4]) -> 
     let mut notes = [0u32; 4];
     match note_code(&list, b"", &mut notes, start, 3, v, 0, c, v) {
         Judgement::Refuse(e, _) => refused(e, out),
-        Judgement::Go(end) => {
-            let most = reach(buf.len());
-            if most < at {
-                return refused(OUTSIDE, out);
-            }
-            if most - at < end.bits {
-                return refused(OUTSIDE, out);
-            }
-            let p = put_notes(buf, Bits(at), b"", &notes, end.event);
-            accepted(v, p.0, 0, out)
-        }
+        Judgement::Go(end) => put_noted(buf, at, v, &notes, end, out),
+    }
+}
+
+// A date as the writer puts it, of the kind DATE_TIME or else DATE; the bits it takes, and the place past it.
+#[no_mangle]
+pub extern "C" fn probe_put_date(
+    buf: &mut [u8],
+    at: u32,
+    kind: u32,
+    p: u32,
+    q: u32,
+    out: &mut [u32; 4],
+) -> u32 {
+    let list = [3, p, q, 0];
+    let start = Spot {
+        event: 0,
+        used: 0,
+        bits: 0,
+    };
+    let mut notes = [0u32; 4];
+    let clocked = kind == numbers::simple::DATE_TIME;
+    match note_date(&list, b"", &mut notes, start, clocked, p, q) {
+        Judgement::Refuse(e, _) => refused(e, out),
+        Judgement::Go(end) => put_noted(buf, at, end.bits, &notes, end, out),
     }
 }
 

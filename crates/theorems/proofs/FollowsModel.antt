@@ -9,7 +9,7 @@ use lib.ListN.{length}
 use Rattle.numbers.specs.Kind as kinds
 use Rattle.table.specs.Rows.{Row, Attribute, Table}
 use Rattle.table.specs.Rows as rows
-use Rattle.value.specs.Simple.{Simple, simpleOf, SimpleIs}
+use Rattle.value.specs.Simple.{Simple, simpleOf, SimpleIs, firstWord, secondWord}
 use Rattle.value.specs.Values.{InKind}
 use Rattle.value.proofs.ValueLaws.{kind-is, times-values}
 use Rattle.model.specs.Model.{end, eventOf, Types, Plan, Nodes, events, texts, flagOf, value, maybe, attribute, contents, within, typesOf, due, plan}
@@ -39,7 +39,7 @@ simple-of : {f : Form} {v : ℕ} {ts w : List ℕ} → FormIs f v ts w → (s : 
 simple-of is-present s e = absurd (let z : _≡_ {A = ℕ} 0 1 = cc in omega arith)
 simple-of (is-simple {s = u} h) s e = let z : u ≡ s = cc in rw z at h
 
-value-of : (k b c v : ℕ) (ts w : List ℕ) → ItemIs (valued k b c) v ts w → InKind k b c v ts
+value-of : (k b c v : ℕ) (ts w : List ℕ) → ItemIs (valued k b c) v ts w → InKind k b c (firstWord (simpleOf k b c) v) (secondWord (simpleOf k b c) v) ts
 unfolding formOf
 value-of k b c v ts w h = kind-is k b c v (simple-of h (simpleOf k b c) refl)
 

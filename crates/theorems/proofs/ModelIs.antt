@@ -170,13 +170,13 @@ module _ (mode : Lengths) (held : ℕ → Bool) where
             omega (arith, length-append (o ++ (c ++ [])) [], length-append o (c ++ []), code .few);
       }
 
-  value-stands : (kind b c : ℕ) {v : ℕ} {X Y : List ℕ} {L : List Bare} {P : Plan}
-      → KindFine kind b → InKind kind b c v X → Stands P L Y
-      → Stands (value kind b c P) (word kinds.value v 0 ∷ L) (X ++ Y)
+  value-stands : (kind b c : ℕ) {p q : ℕ} {X Y : List ℕ} {L : List Bare} {P : Plan}
+      → KindFine kind b → InKind kind b c p q X → Stands P L Y
+      → Stands (value kind b c P) (word kinds.value p q ∷ L) (X ++ Y)
   unfolding value eventOf formOf
-  value-stands kind b c h i s =
+  value-stands kind b c {P = P} h i s =
       let k = kind-bits i in
-      item-stands (valued kind b c) (is-simple (k .is)) (omega (arith, k .short h)) s
+      rw (k .first, k .second) at (item-stands (valued kind b c) {k = λ v. P} (is-simple (k .is)) (omega (arith, k .short h)) s)
 
   -- an optional attribute's flag, one bit
   flag-stands : (name : ℕ) {k : ℕ → Plan} {v : ℕ} {X : List ℕ} {L : List Bare} → v < 2 → Stands (k v) L X
@@ -187,9 +187,9 @@ module _ (mode : Lengths) (held : ℕ → Bool) where
       item-stands (optional name) (is-simple (a-code {c = flag} {v = v} h)) (omega (arith, width-pow 1)) s
 
   -- attributes, those that must be there and the others
-  present-stands : (t : Bool) (a : Attribute) {v : ℕ} {X Y : List ℕ} {L : List Bare} {P : Plan}
-      → AttributeFine a → InKind (a .kind) (a .b) (a .c) v X → Stands P L Y
-      → Stands (attribute t a P) (word kinds.attribute (a .name) 1 ∷ word kinds.value v 0 ∷ L) (X ++ Y)
+  present-stands : (t : Bool) (a : Attribute) {p q : ℕ} {X Y : List ℕ} {L : List Bare} {P : Plan}
+      → AttributeFine a → InKind (a .kind) (a .b) (a .c) p q X → Stands P L Y
+      → Stands (attribute t a P) (word kinds.attribute (a .name) 1 ∷ word kinds.value p q ∷ L) (X ++ Y)
   unfolding attribute maybe eventOf formOf
   present-stands true a h i s =
       item-stands (required (a .name)) is-present (omega arith) (value-stands (a .kind) (a .b) (a .c) h i s)
@@ -282,6 +282,6 @@ module _ (mode : Lengths) (held : ℕ → Bool) where
     model-is (Model.present {a} i m) h n = present-stands (a .must) a (h .0) i (model-is m (h .1) (omega arith))
     model-is (Model.absent {a} e m) h n = absent-stands (a .must) a e (model-is m (h .1) (omega arith))
     model-is Model.empty h n = none-stands
-    model-is (Model.simple {kind} {b} {c} {v} {X} i) h n =
-        subst (Stands (value kind b c done) (word kinds.value v 0 ∷ [])) (append-nil X) (value-stands kind b c h i none-stands)
+    model-is (Model.simple {kind} {b} {c} {p} {q} {X} i) h n =
+        subst (Stands (value kind b c done) (word kinds.value p q ∷ [])) (append-nil X) (value-stands kind b c h i none-stands)
     model-is (Model.particles {i} m) h n = model-is m (bounded .rows i h) n

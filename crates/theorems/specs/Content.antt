@@ -87,16 +87,16 @@ module _ (T : Table) (mode : Lengths) (held : ℕ → Bool) where
         → Model d (inside type) (K ++ L) (X ++ Y)
     no-attribute : {d : ℕ} → Model d (attributes []) [] []
     -- an attribute that is there has its value next; only one that is not required may be absent, and then it has none
-    present : {d v : ℕ} {a : Attribute} {as′ : List Attribute} {L : List Bare} {X Y : List ℕ}
-        → InKind (a .kind) (a .b) (a .c) v X → Model d (attributes as′) L Y
-        → Model d (attributes (a ∷ as′)) (word kinds.attribute (a .name) 1 ∷ word kinds.value v 0 ∷ L) (X ++ Y)
+    present : {d p q : ℕ} {a : Attribute} {as′ : List Attribute} {L : List Bare} {X Y : List ℕ}
+        → InKind (a .kind) (a .b) (a .c) p q X → Model d (attributes as′) L Y
+        → Model d (attributes (a ∷ as′)) (word kinds.attribute (a .name) 1 ∷ word kinds.value p q ∷ L) (X ++ Y)
     absent : {d : ℕ} {a : Attribute} {as′ : List Attribute} {L : List Bare} {X : List ℕ}
         → a .must ≡ false → Model d (attributes as′) L X
         → Model d (attributes (a ∷ as′)) (word kinds.attribute (a .name) 0 ∷ L) X
     empty : {d : ℕ} → Model d (content Content.empty) [] []
-    simple : {d kind b c v : ℕ} {X : List ℕ}
-        → InKind kind b c v X
-        → Model d (content (Content.simple kind b c)) (word kinds.value v 0 ∷ []) X
+    simple : {d kind b c p q : ℕ} {X : List ℕ}
+        → InKind kind b c p q X
+        → Model d (content (Content.simple kind b c)) (word kinds.value p q ∷ []) X
     particles : {d i : ℕ} {L : List Bare} {X : List ℕ}
         → Model d (row (T .row i)) L X
         → Model d (content (Content.particles i)) L X

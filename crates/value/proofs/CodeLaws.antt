@@ -20,7 +20,8 @@ use Rattle.wire.specs.Lawful.{Binary, Stands, Lawful}
 use Rattle.wire.proofs.Lawful.{fixed-lawful, five-lawful, fixed-below, bind-same}
 use Rattle.signed.specs.Words.{up, signOf, magnitudeOf}
 use Rattle.signed.proofs.Laws.{word-of-parts, parts-within, sign-of-plus, magnitude-of-plus, sign-of-minus, magnitude-of-minus, word-minus, word-plus}
-use Rattle.value.specs.Code.{Code, choice, five, signed, some, shifted, wordLess, HasCode, choiceBits, bitsOf, choiceAt, numberAt, signedOf, someOf, codeAt, fits}
+use Rattle.value.specs.Code.{Code, choice, five, signed, some, shifted, stamp, wordLess, HasCode, choiceBits, bitsOf, choiceAt, numberAt, signedOf, someOf, codeAt, fits}
+use Rattle.value.proofs.DateLaws.{stamped-bits, clock-found, stamp-reads, clock-below, fits-stamp, stamp-fits}
 
 abbrev pub Coded : (ℕ → ℕ) → Code → ℕ → ℕ → ℕ → ℕ → Type 0
 Coded b c wall at v p = Stands b (HasCode c v) (bitsOf c v) wall at p
@@ -73,6 +74,7 @@ module _ (b : ℕ → ℕ) (bit : Binary b) where
   code-found (shifted lo c) wall at = bind (code-found c wall at) λ r f. under tooLarge λ h.
       let e : wordLess lo (up lo (r .0)) ≡ r .0 = omega arith in
       gives (record { fits = (omega arith, rw e (f .fits)); stands = rw e (f .stands); within = f .within })
+  code-found (stamp clock) wall at = bind (fixed-lawful 32 .found b bit wall at) λ r f. clock-found b bit wall at (r .0) (r .1) f clock
 
 pub sign-small : (v : ℕ) → v < 2 ^ 32 → (signOf v < 2) × (magnitudeOf v < 2 ^ 32)
 sign-small v h = ⊎-elim (λ x. omega (arith, x .0, x .1)) (λ x. omega (arith, x .0, x .2)) (parts-within v h)
@@ -117,6 +119,7 @@ module _ (b : ℕ → ℕ) where
   code-reads (shifted lo c) wall at v p h f k =
       let e : up lo (wordLess lo v) ≡ v = omega (arith, h .0) in
       then _ (code-reads c wall at (wordLess lo v) p (h .1) f k) (under-then tooLarge (omega arith) (rw e))
+  code-reads (stamp clock) wall at v p h f k = stamp-reads b clock wall at v p h (rw (stamped-bits clock v h) at f) k
 
 -- no bit at the wall or past it is looked at
 module _ (b c : ℕ → ℕ) (wall : ℕ) (s : (i : ℕ) → i < wall → b i ≡ c i) where
@@ -143,6 +146,7 @@ module _ (b c : ℕ → ℕ) (wall : ℕ) (s : (i : ℕ) → i < wall → b i �
   code-below signed at = bind-same _ _ _ _ (choice-below 2 at) λ r e. bind-same _ _ _ _ (five-below (r .1)) λ q f. refl
   code-below (some d) at = bind-same _ _ _ _ (choice-below 2 at) λ r e. some-below _ _ (code-below d) (r .0) (r .1)
   code-below (shifted lo d) at = bind-same _ _ _ _ (code-below d at) λ r e. refl
+  code-below (stamp clock) at = bind-same _ _ _ _ (fixed-below b c wall s at 32) λ r e. clock-below b c wall s clock (r .0) (r .1)
 
 pub code-lawful : (c : Code) → Lawful (codeAt c) (HasCode c) (bitsOf c)
 code-lawful c = record {
@@ -165,6 +169,7 @@ fits-true (shifted lo c) v e = elim (decLt v (2 ^ 32)) [
       let f : false ≡ true = rw (le-ltb v (2 ^ 32) (omega arith)) at e in
       absurd (let z : _≡_ {A = ℕ} 0 1 = cc in omega arith)
 ]
+fits-true (stamp clock) v e = fits-stamp clock v e
 
 pub true-fits : (c : Code) (v : ℕ) → HasCode c v → fits c v ≡ true
 unfolding fits HasCode
@@ -174,3 +179,4 @@ true-fits signed v h = lt-ltb v _ h
 true-fits (some c) zero h = refl
 true-fits (some c) (suc k) h = true-fits c (suc k) h
 true-fits (shifted lo c) v h = rw (lt-ltb v (2 ^ 32) (h .0)) (true-fits c (wordLess lo v) (h .1))
+true-fits (stamp clock) v h = stamp-fits clock v h

@@ -1,7 +1,7 @@
 -- Each way through the functions that choose a code.
 use Prim.Native.Nat.{ℕ, zero, suc, _+_, _-_, _<_, _≤_, min}
 use mathlib.Core.Path.{_≡_, refl, sym, _∙_}
-use mathlib.Core.Bool.{false}
+use mathlib.Core.Bool.{true, false}
 use lib.Dec.{ltb}
 use native.Mathlib.Omega.{arith}
 use borrow.Author.Tests.{le-leb, lt-leb, lt-ltb, le-ltb, eq-eqb, ne-eqb}
@@ -121,16 +121,26 @@ module _ (kind b c : ℕ) where
   unfolding simpleOf formIs codeIs
   simple-float z = sym (rw z)
 
-pub simple-none : (kind b c : ℕ) → (kind ≡ simple.boolean → ⊥) → (kind ≡ simple.ranged → ⊥) → (kind ≡ simple.unsigned → ⊥) → (kind ≡ simple.signed → ⊥) → (kind ≡ simple.enumeration → ⊥) → (kind ≡ simple.text → ⊥) → (kind ≡ simple.float → ⊥)
+  pub simple-date-time : kind ≡ simple.dateTime → formIs (fv.Dated true) ≡ simpleOf kind b c
+  unfolding simpleOf formIs
+  simple-date-time z = sym (rw z)
+
+  pub simple-date : kind ≡ simple.date → formIs (fv.Dated false) ≡ simpleOf kind b c
+  unfolding simpleOf formIs
+  simple-date z = sym (rw z)
+
+pub simple-none : (kind b c : ℕ) → (kind ≡ simple.boolean → ⊥) → (kind ≡ simple.ranged → ⊥) → (kind ≡ simple.unsigned → ⊥) → (kind ≡ simple.signed → ⊥) → (kind ≡ simple.enumeration → ⊥) → (kind ≡ simple.text → ⊥) → (kind ≡ simple.float → ⊥) → (kind ≡ simple.dateTime → ⊥) → (kind ≡ simple.date → ⊥)
     → formIs (fv.Number (cv.Plain (iv.Choice 0))) ≡ simpleOf kind b c
 unfolding simpleOf formIs codeIs innerIs
-simple-none zero b c n₀ n₁ n₂ n₃ n₄ n₅ n₆ = absurd (n₀ refl)
-simple-none (suc zero) b c n₀ n₁ n₂ n₃ n₄ n₅ n₆ = absurd (n₁ refl)
-simple-none (suc (suc zero)) b c n₀ n₁ n₂ n₃ n₄ n₅ n₆ = absurd (n₂ refl)
-simple-none (suc (suc (suc zero))) b c n₀ n₁ n₂ n₃ n₄ n₅ n₆ = absurd (n₃ refl)
-simple-none (suc (suc (suc (suc zero)))) b c n₀ n₁ n₂ n₃ n₄ n₅ n₆ = absurd (n₄ refl)
-simple-none (suc (suc (suc (suc (suc zero))))) b c n₀ n₁ n₂ n₃ n₄ n₅ n₆ = absurd (n₅ refl)
-simple-none (suc (suc (suc (suc (suc (suc zero)))))) b c n₀ n₁ n₂ n₃ n₄ n₅ n₆ = absurd (n₆ refl)
-simple-none (suc (suc (suc (suc (suc (suc (suc k))))))) b c n₀ n₁ n₂ n₃ n₄ n₅ n₆ = refl
+simple-none zero b c n₀ n₁ n₂ n₃ n₄ n₅ n₆ n₇ n₈ = absurd (n₀ refl)
+simple-none (suc zero) b c n₀ n₁ n₂ n₃ n₄ n₅ n₆ n₇ n₈ = absurd (n₁ refl)
+simple-none (suc (suc zero)) b c n₀ n₁ n₂ n₃ n₄ n₅ n₆ n₇ n₈ = absurd (n₂ refl)
+simple-none (suc (suc (suc zero))) b c n₀ n₁ n₂ n₃ n₄ n₅ n₆ n₇ n₈ = absurd (n₃ refl)
+simple-none (suc (suc (suc (suc zero)))) b c n₀ n₁ n₂ n₃ n₄ n₅ n₆ n₇ n₈ = absurd (n₄ refl)
+simple-none (suc (suc (suc (suc (suc zero))))) b c n₀ n₁ n₂ n₃ n₄ n₅ n₆ n₇ n₈ = absurd (n₅ refl)
+simple-none (suc (suc (suc (suc (suc (suc zero)))))) b c n₀ n₁ n₂ n₃ n₄ n₅ n₆ n₇ n₈ = absurd (n₆ refl)
+simple-none (suc (suc (suc (suc (suc (suc (suc zero))))))) b c n₀ n₁ n₂ n₃ n₄ n₅ n₆ n₇ n₈ = absurd (n₇ refl)
+simple-none (suc (suc (suc (suc (suc (suc (suc (suc zero)))))))) b c n₀ n₁ n₂ n₃ n₄ n₅ n₆ n₇ n₈ = absurd (n₈ refl)
+simple-none (suc (suc (suc (suc (suc (suc (suc (suc (suc k))))))))) b c n₀ n₁ n₂ n₃ n₄ n₅ n₆ n₇ n₈ = refl
 
-pub ruleset simple-ways = (simple-boolean, simple-ranged, simple-unsigned, simple-signed, simple-enumerated, simple-text, simple-float, simple-none)
+pub ruleset simple-ways = (simple-boolean, simple-ranged, simple-unsigned, simple-signed, simple-enumerated, simple-text, simple-float, simple-date-time, simple-date, simple-none)

@@ -2,6 +2,8 @@
 use Prim.Native.Nat.{ℕ, zero, suc, _+_, _-_, _*_, _<_, _≤_}
 use mathlib.Core.Path.{_≡_, refl, sym, ap, _∙_}
 use mathlib.Core.List.{List}
+use mathlib.Core.Bool.{true, false}
+use native.Mathlib.Omega.{arith}
 use Rattle.numbers.specs.Simple as simple
 use Rattle.numbers.specs.Limit.{mostFixed, mostWord}
 use Rattle.wire.specs.declared.Bits.{Bits}
@@ -16,9 +18,9 @@ use Rattle.signed.specs.Words.{gapOf}
 use Rattle.signed.specs.Views.{gapIs}
 use Rattle.signed.specs.declared.answers.Gap as gapT
 use Rattle.signed.specs.declared.answers.Gap.the-variants.{Under, By}
-use Rattle.value.specs.Code.{Code, signed, shifted, choiceAt, numberAt, codeAt}
-use Rattle.value.specs.Simple.{plain, text, nothing, rangeCode, simpleOf, simpleAt}
-use Rattle.value.proofs.SimpleLaws.{bytes-none}
+use Rattle.value.specs.Code.{Code, signed, shifted, stamp, choiceAt, numberAt, codeAt}
+use Rattle.value.specs.Simple.{Simple, plain, text, dated, firstWord, secondWord, nothing, rangeCode, simpleOf, simpleAt, wordsOf}
+use Rattle.value.proofs.SimpleLaws.{bytes-none, words-got, words-fault}
 use Rattle.value.specs.Answer.{innerIs, codeIs, formIs, valueIs}
 use Rattle.value.proofs.FormWays.{range-under, range-near, range-far}
 use Rattle.value.proofs.ReadWays.{way-code-word}
@@ -77,7 +79,9 @@ none-of (suc (suc (suc zero))) x y n₀ n₁ n₂ n₃ n₄ n₆ = absurd (n₃ 
 none-of (suc (suc (suc (suc zero)))) x y n₀ n₁ n₂ n₃ n₄ n₆ = absurd (n₄ refl)
 none-of (suc (suc (suc (suc (suc zero))))) x y n₀ n₁ n₂ n₃ n₄ n₆ = refl
 none-of (suc (suc (suc (suc (suc (suc zero)))))) x y n₀ n₁ n₂ n₃ n₄ n₆ = absurd (n₆ refl)
-none-of (suc (suc (suc (suc (suc (suc (suc k))))))) x y n₀ n₁ n₂ n₃ n₄ n₆ = refl
+none-of (suc (suc (suc (suc (suc (suc (suc zero))))))) x y n₀ n₁ n₂ n₃ n₄ n₆ = refl
+none-of (suc (suc (suc (suc (suc (suc (suc (suc zero)))))))) x y n₀ n₁ n₂ n₃ n₄ n₆ = refl
+none-of (suc (suc (suc (suc (suc (suc (suc (suc (suc k))))))))) x y n₀ n₁ n₂ n₃ n₄ n₆ = refl
 
 module _ (s : List ℕ) (wall at kind x y : ℕ) (r : Read) where
   pub kind-float : kind ≡ simple.float → readIs r ≡ fixed32 (bitAt s) wall at 32 → readIs r ≡ codeAt (kindCode kind x y) (bitAt s) wall at
@@ -92,30 +96,76 @@ module _ (s : List ℕ) (wall at kind x y : ℕ) (r : Read) where
 pub ruleset kind-ways = (kind-boolean, kind-ranged, kind-unsigned, kind-signed, kind-enumerated, kind-float, kind-none)
 
 -- of_kind
-plain-kind : (kind x y : ℕ) → (kind ≡ simple.text → ⊥) → simpleOf kind x y ≡ plain (kindCode kind x y)
+plain-kind : (kind x y : ℕ) → (kind ≡ simple.text → ⊥) → kind ≤ simple.float → simpleOf kind x y ≡ plain (kindCode kind x y)
 unfolding kindCode plainly simpleOf
-plain-kind zero x y n = refl
-plain-kind (suc zero) x y n = refl
-plain-kind (suc (suc zero)) x y n = refl
-plain-kind (suc (suc (suc zero))) x y n = refl
-plain-kind (suc (suc (suc (suc zero)))) x y n = refl
-plain-kind (suc (suc (suc (suc (suc zero))))) x y n = absurd (n refl)
-plain-kind (suc (suc (suc (suc (suc (suc zero)))))) x y n = refl
-plain-kind (suc (suc (suc (suc (suc (suc (suc k))))))) x y n = refl
+plain-kind zero x y n l = refl
+plain-kind (suc zero) x y n l = refl
+plain-kind (suc (suc zero)) x y n l = refl
+plain-kind (suc (suc (suc zero))) x y n l = refl
+plain-kind (suc (suc (suc (suc zero)))) x y n l = refl
+plain-kind (suc (suc (suc (suc (suc zero))))) x y n l = absurd (n refl)
+plain-kind (suc (suc (suc (suc (suc (suc zero)))))) x y n l = refl
+plain-kind (suc (suc (suc (suc (suc (suc (suc k))))))) x y n l = absurd (omega arith)
+
+none-kind : (kind x y : ℕ) → simple.float < kind → (kind ≡ simple.dateTime → ⊥) → (kind ≡ simple.date → ⊥) → simpleOf kind x y ≡ plain nothing
+unfolding simpleOf
+none-kind zero x y l n₇ n₈ = absurd (omega arith)
+none-kind (suc zero) x y l n₇ n₈ = absurd (omega arith)
+none-kind (suc (suc zero)) x y l n₇ n₈ = absurd (omega arith)
+none-kind (suc (suc (suc zero))) x y l n₇ n₈ = absurd (omega arith)
+none-kind (suc (suc (suc (suc zero)))) x y l n₇ n₈ = absurd (omega arith)
+none-kind (suc (suc (suc (suc (suc zero))))) x y l n₇ n₈ = absurd (omega arith)
+none-kind (suc (suc (suc (suc (suc (suc zero)))))) x y l n₇ n₈ = absurd (omega arith)
+none-kind (suc (suc (suc (suc (suc (suc (suc zero))))))) x y l n₇ n₈ = absurd (n₇ refl)
+none-kind (suc (suc (suc (suc (suc (suc (suc (suc zero)))))))) x y l n₇ n₈ = absurd (n₈ refl)
+none-kind (suc (suc (suc (suc (suc (suc (suc (suc (suc k))))))))) x y l n₇ n₈ = refl
 
 module _ (s : List ℕ) (wall at kind x y : ℕ) where
-  pub of-text : (v : valueT.Value) → kind ≡ simple.text → valueIs (bitAt s) v ≡ simpleAt (formIs fv.Text) (bitAt s) wall at → valueIs (bitAt s) v ≡ simpleAt (simpleOf kind x y) (bitAt s) wall at
+  -- what is read is so of the kind
+  abbrev Reads : valueT.Value → Type 0
+  Reads v = valueIs (bitAt s) v ≡ wordsOf (simpleOf kind x y) (simpleAt (simpleOf kind x y) (bitAt s) wall at)
+
+  abbrev ReadsAs : Simple → valueT.Value → Type 0
+  ReadsAs f v = valueIs (bitAt s) v ≡ wordsOf f (simpleAt f (bitAt s) wall at)
+
+  pub of-text : (v : valueT.Value) → kind ≡ simple.text → ReadsAs (formIs fv.Text) v → Reads v
   unfolding simpleOf formIs
   of-text v z e = e ∙ sym (rw z)
 
-  module _ (n₅ : kind ≡ simple.text → ⊥) (r : Read) (e : readIs r ≡ codeAt (kindCode kind x y) (bitAt s) wall at) where
-    pub of-refused : (n : ℕ) → r ≡ read.Refuse n → valueIs (bitAt s) (vv.Refuse n) ≡ simpleAt (simpleOf kind x y) (bitAt s) wall at
-    unfolding valueIs simpleAt
-    of-refused n g = rw (plain-kind kind x y n₅) (sym (then-fault _ (read-refuse e g)))
+  pub of-date-time : (v : valueT.Value) → kind ≡ simple.dateTime → ReadsAs (dated (stamp true)) v → Reads v
+  unfolding simpleOf
+  of-date-time v z e = e ∙ sym (rw z)
 
-    module _ (v : ℕ) (p : Bits) (g : r ≡ read.Value v p) where
-      pub of-read : (m : Bytes) → m .0 ≡ 0 → valueIs (bitAt s) (vv.Read v m p) ≡ simpleAt (simpleOf kind x y) (bitAt s) wall at
-      unfolding valueIs simpleAt
-      of-read m z = rw (plain-kind kind x y n₅, z, bytes-none (bitAt s) (p .0 - 8 * 0)) (sym (then _ (read-value e g) refl))
+  pub of-date : (v : valueT.Value) → kind ≡ simple.date → ReadsAs (dated (stamp false)) v → Reads v
+  unfolding simpleOf
+  of-date v z e = e ∙ sym (rw z)
+
+  -- a number by its code
+  module _ (code : Code) (f : simpleOf kind x y ≡ plain code) (r : Read) (e : readIs r ≡ codeAt code (bitAt s) wall at) where
+    coded-refused : (n : ℕ) → r ≡ read.Refuse n → Reads (vv.Refuse n)
+    unfolding valueIs simpleAt
+    coded-refused n g = rw f (sym (words-fault (plain code) (then-fault _ (read-refuse e g))))
+
+    coded-read : (v : ℕ) (p : Bits) → r ≡ read.Value v p → (m : Bytes) → m .0 ≡ 0 → Reads (vv.Read v m p)
+    unfolding valueIs simpleAt firstWord secondWord
+    coded-read v p g m z = rw (f, z, bytes-none (bitAt s) (p .0 - 8 * 0)) (sym (words-got (plain code) (then _ (read-value e g) refl)))
+
+  module _ (n₅ : kind ≡ simple.text → ⊥) (l : kind ≤ simple.float) (r : Read) (e : readIs r ≡ codeAt (kindCode kind x y) (bitAt s) wall at) where
+    pub of-refused : (n : ℕ) → r ≡ read.Refuse n → Reads (vv.Refuse n)
+    of-refused = coded-refused (kindCode kind x y) (plain-kind kind x y n₅ l) r e
+
+    pub of-read : (v : ℕ) (p : Bits) → r ≡ read.Value v p → (m : Bytes) → m .0 ≡ 0 → Reads (vv.Read v m p)
+    of-read = coded-read (kindCode kind x y) (plain-kind kind x y n₅ l) r e
+
+  module _ (l : simple.float < kind) (n₇ : kind ≡ simple.dateTime → ⊥) (n₈ : kind ≡ simple.date → ⊥) (r : Read) (e : readIs r ≡ choiceAt (bitAt s) 0 wall at) where
+    pub none-refused : (n : ℕ) → r ≡ read.Refuse n → Reads (vv.Refuse n)
+    unfolding codeAt
+    none-refused = coded-refused nothing (none-kind kind x y l n₇ n₈) r e
+
+    pub none-read : (v : ℕ) (p : Bits) → r ≡ read.Value v p → (m : Bytes) → m .0 ≡ 0 → Reads (vv.Read v m p)
+    unfolding codeAt
+    none-read = coded-read nothing (none-kind kind x y l n₇ n₈) r e
 
 pub ruleset of-kind-ways = (of-text, of-refused, of-read)
+
+pub ruleset date-ways = (of-date-time, of-date, none-refused, none-read)

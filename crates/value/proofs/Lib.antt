@@ -1,5 +1,7 @@
 mod Cases
 pub mod CodeLaws
+pub mod DateLaws
+mod DateWays
 mod FormWays
 mod KindWays
 mod LayWays

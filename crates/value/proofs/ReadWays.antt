@@ -1,6 +1,7 @@
 -- Each way through the functions that read codes and values: r is the answer of a call. `search` finds the premises.
 use Prim.Native.Nat.{ℕ, suc, _+_, _-_, _*_, _^_, _<_, _≤_}
-use mathlib.Core.Path.{_≡_, refl, sym, _∙_}
+use mathlib.Core.Path.{_≡_, refl, sym, ap, _∙_}
+use mathlib.Core.Bool.{Bool}
 use mathlib.Core.List.{List}
 use native.Mathlib.Omega.{arith}
 use native.Mathlib.Decide.{decLe}
@@ -21,10 +22,10 @@ use Rattle.wire.proofs.ReadWays.{read-value, read-refuse, wide}
 use Rattle.wire.specs.Lawful.{Stands}
 use Rattle.signed.specs.Words.{up, wordOf}
 use Rattle.utf8.specs.Text.{textFault}
-use Rattle.value.specs.Code.{Code, five, signed, some, shifted, HasCode, bitsOf, choiceAt, numberAt, signedOf, someOf, codeAt}
+use Rattle.value.specs.Code.{Code, five, signed, some, shifted, stamp, HasCode, bitsOf, choiceAt, numberAt, signedOf, someOf, codeAt}
 use Rattle.value.proofs.CodeLaws.{code-lawful}
-use Rattle.value.specs.Simple.{bytesAt, textOf, simpleAt}
-use Rattle.value.proofs.SimpleLaws.{bytes-none, passes-then, passes-fault}
+use Rattle.value.specs.Simple.{plain, text, dated, firstWord, secondWord, bytesAt, textOf, simpleAt, wordsOf}
+use Rattle.value.proofs.SimpleLaws.{bytes-none, passes-then, passes-fault, words-got, words-fault}
 use Rattle.value.specs.Answer.{innerIs, codeIs, formIs, valueIs}
 use Rattle.value.specs.declared.Inner as innerT
 use Rattle.value.specs.declared.Inner.the-variants as iv
@@ -209,48 +210,53 @@ pub ruleset code-ways = (way-code-plain, way-code-word, way-code-signed, way-cod
 
 -- text_after
 module _ (b : ℕ → ℕ) (wall n p : ℕ) where
-  pub way-text-before : wall < p → valueIs b (vv.Refuse pastEnd) ≡ textOf b wall n p
-  unfolding textOf valueIs
-  way-text-before h = sym (under-fault pastEnd _ (omega arith))
+  pub way-text-before : wall < p → valueIs b (vv.Refuse pastEnd) ≡ wordsOf text (textOf b wall n p)
+  unfolding textOf valueIs firstWord secondWord
+  way-text-before h = sym (words-fault text (under-fault pastEnd _ (omega arith)))
 
   module _ (h : p ≤ wall) where
-    pub way-text-past : wall - p < 8 * n → valueIs b (vv.Refuse pastEnd) ≡ textOf b wall n p
-    unfolding textOf valueIs
-    way-text-past k = sym (under-fault pastEnd _ (omega arith))
+    pub way-text-past : wall - p < 8 * n → valueIs b (vv.Refuse pastEnd) ≡ wordsOf text (textOf b wall n p)
+    unfolding textOf valueIs firstWord secondWord
+    way-text-past k = sym (words-fault text (under-fault pastEnd _ (omega arith)))
 
     module _ (k : 8 * n ≤ wall - p) (w : ℕ) (e : w ≡ textFault (bytesAt b p n)) where
-      pub way-text-wrong : 0 < w → valueIs b (vv.Refuse w) ≡ textOf b wall n p
-      unfolding textOf valueIs
-      way-text-wrong l = rw e (sym (under-then pastEnd (omega arith) (passes-fault _ (λ z. omega (arith, e)))))
+      pub way-text-wrong : 0 < w → valueIs b (vv.Refuse w) ≡ wordsOf text (textOf b wall n p)
+      unfolding textOf valueIs firstWord secondWord
+      way-text-wrong l = rw e (sym (words-fault text (under-then pastEnd (omega arith) (passes-fault _ (λ z. omega (arith, e))))))
 
-      pub way-text-read : (m : Bytes) (q : Bits) → w ≤ 0 → m .0 ≡ n → q .0 ≡ p + 8 * n → valueIs b (vv.Read n m q) ≡ textOf b wall n p
-      unfolding textOf valueIs
+      pub way-text-read : (m : Bytes) (q : Bits) → w ≤ 0 → m .0 ≡ n → q .0 ≡ p + 8 * n → valueIs b (vv.Read n m q) ≡ wordsOf text (textOf b wall n p)
+      unfolding textOf valueIs firstWord secondWord
       way-text-read m q l f g =
           let back : p + 8 * n - 8 * n ≡ p = omega arith in
-          rw (f, g, back) (sym (under-then pastEnd (omega arith) (passes-then (omega (arith, e)) refl)))
+          rw (f, g, back) (sym (words-got text (under-then pastEnd (omega arith) (passes-then (omega (arith, e)) refl))))
 
 pub ruleset text-ways = (way-text-before, way-text-past, way-text-wrong, way-text-read)
 
 -- simple
 module _ (s : List ℕ) (wall at : ℕ) (f : formT.Form) where
   module _ (c : codeT.Code) (w : f ≡ fv.Number c) (r : Read) (e : readIs r ≡ codeAt (codeIs c) (bitAt s) wall at) where
-    pub way-simple-refuse : (n : ℕ) → r ≡ read.Refuse n → valueIs (bitAt s) (vv.Refuse n) ≡ simpleAt (formIs f) (bitAt s) wall at
+    pub way-simple-refuse : (n : ℕ) → r ≡ read.Refuse n → valueIs (bitAt s) (vv.Refuse n) ≡ wordsOf (formIs f) (simpleAt (formIs f) (bitAt s) wall at)
     unfolding valueIs simpleAt formIs
-    way-simple-refuse n g = rw w (sym (then-fault _ (read-refuse e g)))
+    way-simple-refuse n g = rw w (sym (words-fault (plain (codeIs c)) (then-fault _ (read-refuse e g))))
 
     module _ (v : ℕ) (p : Bits) (g : r ≡ read.Value v p) where
-      pub way-simple-read : (m : Bytes) → m .0 ≡ 0 → valueIs (bitAt s) (vv.Read v m p) ≡ simpleAt (formIs f) (bitAt s) wall at
-      unfolding valueIs simpleAt formIs
-      way-simple-read m z = rw (w, z, bytes-none (bitAt s) (p .0 - 8 * 0)) (sym (then _ (read-value e g) refl))
+      pub way-simple-read : (m : Bytes) → m .0 ≡ 0 → valueIs (bitAt s) (vv.Read v m p) ≡ wordsOf (formIs f) (simpleAt (formIs f) (bitAt s) wall at)
+      unfolding valueIs simpleAt formIs firstWord secondWord
+      way-simple-read m z = rw (w, z, bytes-none (bitAt s) (p .0 - 8 * 0)) (sym (words-got (plain (codeIs c)) (then _ (read-value e g) refl)))
 
   module _ (w : f ≡ fv.Text) (r : Read) (e : readIs r ≡ numberAt (bitAt s) mostText wall at) where
-    pub way-simple-count : (n : ℕ) → r ≡ read.Refuse n → valueIs (bitAt s) (vv.Refuse n) ≡ simpleAt (formIs f) (bitAt s) wall at
+    pub way-simple-count : (n : ℕ) → r ≡ read.Refuse n → valueIs (bitAt s) (vv.Refuse n) ≡ wordsOf (formIs f) (simpleAt (formIs f) (bitAt s) wall at)
     unfolding valueIs simpleAt formIs codeAt
-    way-simple-count n g = rw w (sym (then-fault _ (read-refuse e g)))
+    way-simple-count n g = rw w (sym (words-fault text (then-fault _ (read-refuse e g))))
 
-    pub way-simple-text : (n : ℕ) (p : Bits) (x : valueT.Value) → r ≡ read.Value n p → valueIs (bitAt s) x ≡ textOf (bitAt s) wall n (p .0) → valueIs (bitAt s) x ≡ simpleAt (formIs f) (bitAt s) wall at
+    pub way-simple-text : (n : ℕ) (p : Bits) (x : valueT.Value) → r ≡ read.Value n p → valueIs (bitAt s) x ≡ wordsOf text (textOf (bitAt s) wall n (p .0)) → valueIs (bitAt s) x ≡ wordsOf (formIs f) (simpleAt (formIs f) (bitAt s) wall at)
     unfolding simpleAt formIs codeAt
-    way-simple-text n p x g h = h ∙ sym (rw w (then _ (read-value e g) refl))
+    way-simple-text n p x g h = h ∙ sym (rw w (ap (wordsOf text) (then _ (read-value e g) refl)))
+
+  pub way-simple-dated : (clock : Bool) (x : valueT.Value) → f ≡ fv.Dated clock → valueIs (bitAt s) x ≡ wordsOf (dated (stamp clock)) (simpleAt (dated (stamp clock)) (bitAt s) wall at)
+      → valueIs (bitAt s) x ≡ wordsOf (formIs f) (simpleAt (formIs f) (bitAt s) wall at)
+  unfolding formIs
+  way-simple-dated clock x w h = h ∙ sym (rw w)
 
 -- a text's count is at most mostText
 module _ (s : List ℕ) (wall at : ℕ) (r : Read) (e : readIs r ≡ numberAt (bitAt s) mostText wall at) (n : ℕ) (p : Bits) (g : r ≡ read.Value n p) where
@@ -262,4 +268,4 @@ module _ (s : List ℕ) (wall at : ℕ) (r : Read) (e : readIs r ≡ numberAt (b
   unfolding HasCode
   count-small = omega (arith, count-found .fits)
 
-pub ruleset simple-ways = (way-simple-refuse, way-simple-read, way-simple-count, way-simple-text, count-small)
+pub ruleset simple-ways = (way-simple-refuse, way-simple-read, way-simple-count, way-simple-text, way-simple-dated, count-small)

@@ -8,7 +8,7 @@ use native.Mathlib.Omega.{arith}
 use native.Mathlib.Decide.{decLe}
 use lib.ListN.{length, length-append}
 use Rattle.wire.specs.Res.{Res, got, fault, _>>_, Ensures}
-use Rattle.wire.proofs.Res.{gives, stops, bind, under, then, under-then, under-fault}
+use Rattle.wire.proofs.Res.{gives, stops, bind, under, then, then-fault, under-then, under-fault}
 use Rattle.wire.specs.Bits.{num, digits, Has}
 use Rattle.wire.specs.At.{At}
 use Rattle.wire.proofs.BitLaws.{num-lt, num-same, num-digits, length-digits, has-left, has-right, at-both, at-left, at-right, at-digits, at-same}
@@ -16,7 +16,7 @@ use Rattle.wire.specs.Lawful.{Binary}
 use Rattle.wire.proofs.Lawful.{bind-same}
 use Rattle.value.specs.Code.{bitsOf}
 use Rattle.value.proofs.CodeLaws.{code-lawful}
-use Rattle.value.specs.Simple.{Simple, plain, text, count, bytes, bytesAt, AllBytes, unless, textOf, simpleAt, SimpleIs, a-code, a-text}
+use Rattle.value.specs.Simple.{Simple, plain, text, dated, firstWord, secondWord, count, bytes, bytesAt, AllBytes, unless, textOf, untexted, simpleAt, wordsOf, SimpleIs, a-code, a-text, a-date}
 use Rattle.value.specs.Found.{FoundSimple}
 
 -- bytes and their bits
@@ -91,7 +91,7 @@ passes-fault {n = zero} m z = absurd (z refl)
 passes-fault {n = suc k} m z = refl
 
 pub simple-found : (b : ℕ → ℕ) → Binary b → (s : Simple) (wall at : ℕ) → Ensures (simpleAt s b wall at) (λ r. FoundSimple b s wall at (r .0) (r .1) (r .2))
-unfolding simpleAt textOf
+unfolding simpleAt untexted textOf
 simple-found b bit (plain c) wall at =
     bind (code-lawful c .found b bit wall at) λ r f. gives (record { bits = _; is = a-code (f .fits); stands = f .stands; within = f .within })
 simple-found b bit text wall at =
@@ -104,9 +104,11 @@ simple-found b bit text wall at =
       stands = at-both (f .stands) (bytes-stand b bit (r .1) (r .0));
       within = h;
     })
+simple-found b bit (dated c) wall at =
+    bind (code-lawful c .found b bit wall at) λ r f. gives (record { bits = _; is = a-date (f .fits); stands = f .stands; within = f .within })
 
 pub simple-reads : (b : ℕ → ℕ) {s : Simple} {v : ℕ} {ts w : List ℕ} {wall at p : ℕ} → SimpleIs s v ts w → At b at w p → p ≤ wall → simpleAt s b wall at ≡ got (v, ts, p)
-unfolding simpleAt textOf
+unfolding simpleAt untexted textOf
 simple-reads b (a-code {c} h) f k = then _ (code-lawful c .reads b _ _ _ _ h f k) refl
 simple-reads b {wall = wall} {at = at} {p = p} (a-text {l} h o z) f k =
     let x = bitsOf count (length l) in
@@ -119,6 +121,7 @@ simple-reads b {wall = wall} {at = at} {p = p} (a-text {l} h o z) f k =
     let r : q + 8 * length l ≡ p = omega arith in
     then _ (code-lawful count .reads b wall at (length l) q h (at-left x (bytes l) f) (omega arith))
     (under-then 5 (omega arith) (rw is (passes-then z (rw r))))
+simple-reads b (a-date {c} h) f k = then _ (code-lawful c .reads b _ _ _ _ h f k) refl
 
 text-below : (b c : ℕ → ℕ) (wall n p : ℕ) → ((i : ℕ) → i < wall → b i ≡ c i) → textOf b wall n p ≡ textOf c wall n p
 unfolding textOf
@@ -128,9 +131,10 @@ text-below b c wall n p s = elim (decLe (p + 8 * n) wall) [
 ]
 
 pub simple-below : (b c : ℕ → ℕ) (s : Simple) (wall at : ℕ) → ((i : ℕ) → i < wall → b i ≡ c i) → simpleAt s b wall at ≡ simpleAt s c wall at
-unfolding simpleAt
+unfolding simpleAt untexted
 simple-below b c (plain d) wall at s = bind-same _ _ _ _ (code-lawful d .below b c wall at s) λ r e. refl
 simple-below b c text wall at s = bind-same _ _ _ _ (code-lawful count .below b c wall at s) λ r e. text-below b c wall (r .0) (r .1) s
+simple-below b c (dated d) wall at s = bind-same _ _ _ _ (code-lawful d .below b c wall at s) λ r e. refl
 
 -- an accepted value looks at no bit past the place it ends at, and at no wall past that
 pub simple-extends : (b c : ℕ → ℕ) → Binary b → (s : Simple) (wall wall′ at v : ℕ) (ts : List ℕ) (q : ℕ) → simpleAt s b wall at ≡ got (v, ts, q)
@@ -138,3 +142,12 @@ pub simple-extends : (b c : ℕ → ℕ) → Binary b → (s : Simple) (wall wal
 simple-extends b c bit s wall wall′ at v ts q e h k =
     let f = simple-found b bit s wall at .says (v, ts, q) e in
     simple-reads c (f .is) (at-same h (f .stands)) k
+
+-- what is read, with its words
+pub words-got : (s : Simple) {m : Res (ℕ × List ℕ × ℕ)} {v : ℕ} {ts : List ℕ} {p : ℕ} → m ≡ got (v, ts, p) → wordsOf s m ≡ got (firstWord s v, secondWord s v, ts, p)
+unfolding wordsOf
+words-got s e = then _ e refl
+
+pub words-fault : (s : Simple) {m : Res (ℕ × List ℕ × ℕ)} {n : ℕ} → m ≡ fault n → wordsOf s m ≡ fault n
+unfolding wordsOf
+words-fault s e = then-fault _ e

@@ -18,8 +18,11 @@ use Rattle.signed.proofs.Laws.{ordered, gap-over, gap-under}
 use Rattle.utf8.specs.Rfc as rfc
 use Rattle.utf8.specs.Text.{textFault}
 use Rattle.utf8.proofs.Exact.{fault-none, none-fault}
-use Rattle.value.specs.Code.{Code, choice, five, signed, some, shifted, wordLess, HasCode, bitsOf}
-use Rattle.value.specs.Simple.{Simple, plain, text, nothing, spanCode, rangeCode, unboundedCode, boundedCode, timesCode, simpleOf, count, bytes, AllBytes, SimpleIs, a-code, a-text}
+use Rattle.value.specs.Code.{Code, choice, five, signed, some, shifted, stamp, wordLess, HasCode, bitsOf}
+use Rattle.value.specs.Simple.{Simple, plain, text, dated, firstWord, secondWord, nothing, spanCode, rangeCode, unboundedCode, boundedCode, timesCode, simpleOf, count, bytes, AllBytes, SimpleIs, a-code, a-text, a-date}
+use Rattle.calendar.specs.Plain.{dateOf}
+use Rattle.value.specs.Dates.{firstOf, secondOf, monthWord, dayWord, stampOf, clockEnd, Stamped, stampBits}
+use Rattle.value.proofs.DateLaws.{clock-small, stamp-first, stamp-second, stamped-bits, stamp-length}
 use Rattle.value.proofs.CodeLaws.{sign-small}
 use Rattle.value.proofs.SimpleLaws.{length-bytes}
 use Rattle.value.proofs.WriteWays.{code5-short, width-two}
@@ -32,6 +35,7 @@ mostBits (five m) = 40
 mostBits signed = 41
 mostBits (some c) = 1 + mostBits c
 mostBits (shifted lo c) = mostBits c
+mostBits (stamp clock) = 64
 
 pub bits-most : (c : Code) (v : ℕ) → HasCode c v → length (bitsOf c v) ≤ mostBits c
 unfolding mostBits HasCode bitsOf
@@ -46,6 +50,11 @@ bits-most (some c) (suc k) h =
     let s = length-digits (width 2) 1 in
     omega (arith, length-append (digits (width 2) 1) (bitsOf c (suc k)), width-two, bits-most c (suc k) h)
 bits-most (shifted lo c) v h = bits-most c (wordLess lo v) (h .1)
+bits-most (stamp clock) v h = rw (stamped-bits clock v h) (go clock (h .days) (h .ms))
+  where
+    go : (t : Bool) (n ms : ℕ) → length (stampBits t n ms) ≤ 64
+    go true n ms = omega (arith, stamp-length true n ms)
+    go false n ms = omega (arith, stamp-length false n ms)
 
 -- RANGES: the words from b to c in the order of the signed numbers
 module _ (b c v : ℕ) where
@@ -215,22 +224,45 @@ rfc-octets (rfc.more {c} {l} h k) = octets-append c l (char-octets h) (rfc-octet
 pub text-octets : (l : List ℕ) → textFault l ≡ 0 → AllBytes l
 text-octets l e = rfc-octets (none-fault l e .0)
 
--- THE SIMPLE KINDS: a value of the kind has bits, which are few
-pub record HasBits (kind b c v : ℕ) (X : List ℕ) : Type 0 where
+-- THE SIMPLE KINDS: a value of the kind, by its words, has bits, which are few
+pub record HasBits (kind b c p q : ℕ) (X : List ℕ) : Type 0 where
+  pub value : ℕ
+  pub first : firstWord (simpleOf kind b c) value ≡ p
+  pub second : secondWord (simpleOf kind b c) value ≡ q
   pub bits : List ℕ
-  pub is : SimpleIs (simpleOf kind b c) v X bits
+  pub is : SimpleIs (simpleOf kind b c) value X bits
   pub short : (kind ≡ 4 → b ≤ 65536) → length bits ≤ 32800
 
 word-bits : {kind b c v : ℕ} (d : Code) → simpleOf kind b c ≡ plain d → HasCode d v
-    → ((kind ≡ 4 → b ≤ 65536) → mostBits d ≤ 41) → HasBits kind b c v []
+    → ((kind ≡ 4 → b ≤ 65536) → mostBits d ≤ 41) → HasBits kind b c v 0 []
+unfolding firstWord secondWord
 word-bits {v} d e f n = record {
+  value = v;
+  first = rw e;
+  second = rw e;
   bits = bitsOf d v;
   is = rw e (a-code f);
   short = λ h. omega (arith, bits-most d v f, n h);
 }
 
-pub kind-bits : {kind b c v : ℕ} {X : List ℕ} → InKind kind b c v X → HasBits kind b c v X
-unfolding simpleOf HasCode mostBits
+date-bits : {kind b c : ℕ} (clock : Bool) (days ms : ℕ) → simpleOf kind b c ≡ dated (stamp clock) → days < 2 ^ 32 → ms < clockEnd clock
+    → HasBits kind b c (monthWord (dateOf days)) (dayWord (dateOf days) ms) []
+unfolding firstWord secondWord HasCode mostBits
+date-bits clock days ms e h k =
+    let v : ℕ = stampOf (dateOf days) ms in
+    let l = clock-small clock ms k in
+    let f : Stamped clock v = record { days = days; ms = ms; a-word = h; in-day = k; is = refl } in
+    record {
+      value = v;
+      first = rw e (stamp-first days ms h l);
+      second = rw e (stamp-second days ms h l);
+      bits = bitsOf (stamp clock) v;
+      is = rw e (a-date f);
+      short = λ x. omega (arith, bits-most (stamp clock) v f);
+    }
+
+pub kind-bits : {kind b c p q : ℕ} {X : List ℕ} → InKind kind b c p q X → HasBits kind b c p q X
+unfolding simpleOf HasCode mostBits firstWord secondWord
 kind-bits (InKind.boolean h) = word-bits (choice 2) refl h λ k. omega (arith, width-two)
 kind-bits (InKind.ranged {b} {c} {v} h m n) =
     word-bits (rangeCode b c) refl (values-range b c v h m n) λ k. omega (arith, range-short b c)
@@ -238,6 +270,9 @@ kind-bits (InKind.unsigned h) = word-bits (five (2 ^ 32 - 1)) refl (omega arith)
 kind-bits (InKind.signed h) = word-bits signed refl h λ k. omega arith
 kind-bits (InKind.enumeration {b} h) = word-bits (choice b) refl h λ k. omega (arith, width-under b 16 (k refl))
 kind-bits (InKind.text {X} h o a) = record {
+  value = length X;
+  first = refl;
+  second = refl;
   bits = _;
   is = a-text {l = X} (omega arith) (rfc-octets o) (fault-none o a);
   short = λ k.
@@ -245,23 +280,43 @@ kind-bits (InKind.text {X} h o a) = record {
       omega (arith, length-append (bitsOf count (length X)) (bytes X), length-bytes X);
 }
 kind-bits (InKind.float h) = word-bits (choice (2 ^ 32)) refl h λ k. omega (arith, width-pow 32)
+kind-bits (InKind.dateTime days ms h k) = date-bits true days ms refl h k
+kind-bits (InKind.date days h) = date-bits false days 0 refl h (omega arith)
 
 -- and what its code has is a value of the kind
 pub plain-is : {s : Simple} {v : ℕ} {X w : List ℕ} → SimpleIs s v X w → (c : Code) → s ≡ plain c → HasCode c v × (X ≡ [])
 plain-is (a-code {c = d} {v} h) c e = let z : d ≡ c = cc in (rw z at h, refl)
 plain-is (a-text h k z) c e = absurd (let n : _≡_ {A = ℕ} 0 1 = cc in omega arith)
+plain-is (a-date h) c e = absurd (let n : _≡_ {A = ℕ} 0 1 = cc in omega arith)
 
-a-word : {kind b c v : ℕ} {X w : List ℕ} (d : Code) → SimpleIs (plain d) v X w → (HasCode d v → InKind kind b c v [])
-    → InKind kind b c v X
+date-is : {s : Simple} {v : ℕ} {X w : List ℕ} → SimpleIs s v X w → (c : Code) → s ≡ dated c → HasCode c v × (X ≡ [])
+date-is (a-date {c = d} {v} h) c e = let z : d ≡ c = cc in (rw z at h, refl)
+date-is (a-text h k z) c e = absurd (let n : _≡_ {A = ℕ} 0 1 = cc in omega arith)
+date-is (a-code h) c e = absurd (let n : _≡_ {A = ℕ} 0 1 = cc in omega arith)
+
+a-word : {kind b c v : ℕ} {X w : List ℕ} (d : Code) → SimpleIs (plain d) v X w → (HasCode d v → InKind kind b c v 0 [])
+    → InKind kind b c v 0 X
 a-word d h f = let p = plain-is h d refl in rw (p .1) (f (p .0))
 
-text-is : {s : Simple} {b c v : ℕ} {X w : List ℕ} → SimpleIs s v X w → s ≡ text → InKind 5 b c v X
+-- a date by its words
+a-day : {kind b c v : ℕ} {X w : List ℕ} (clock : Bool) → SimpleIs (dated (stamp clock)) v X w
+    → ((days ms : ℕ) → days < 2 ^ 32 → ms < clockEnd clock → InKind kind b c (monthWord (dateOf days)) (dayWord (dateOf days) ms) [])
+    → InKind kind b c (firstOf v) (secondOf v) X
+unfolding HasCode
+a-day {v} clock h f =
+    let p = date-is h (stamp clock) refl in
+    let s : Stamped clock v = p .0 in
+    let l = clock-small clock (s .ms) (s .in-day) in
+    rw (p .1, s .is, stamp-first (s .days) (s .ms) (s .a-word) l, stamp-second (s .days) (s .ms) (s .a-word) l) (f (s .days) (s .ms) (s .a-word) (s .in-day))
+
+text-is : {s : Simple} {b c v : ℕ} {X w : List ℕ} → SimpleIs s v X w → s ≡ text → InKind 5 b c v 0 X
 unfolding HasCode
 text-is (a-code h) e = absurd (let n : _≡_ {A = ℕ} 0 1 = cc in omega arith)
 text-is (a-text {l} h k z) e = let n = none-fault l z in InKind.text {X = l} (omega arith) (n .0) (n .1)
+text-is (a-date h) e = absurd (let n : _≡_ {A = ℕ} 0 1 = cc in omega arith)
 
-pub kind-is : (kind b c v : ℕ) {X w : List ℕ} → SimpleIs (simpleOf kind b c) v X w → InKind kind b c v X
-unfolding simpleOf HasCode
+pub kind-is : (kind b c v : ℕ) {X w : List ℕ} → SimpleIs (simpleOf kind b c) v X w → InKind kind b c (firstWord (simpleOf kind b c) v) (secondWord (simpleOf kind b c) v) X
+unfolding simpleOf HasCode firstWord secondWord
 kind-is zero b c v h = a-word (choice 2) h λ f. InKind.boolean f
 kind-is (suc zero) b c v h =
     a-word (rangeCode b c) h λ f. let r = range-values b c v f in InKind.ranged (r .0) (r .1) (r .2)
@@ -270,4 +325,6 @@ kind-is (suc (suc (suc zero))) b c v h = a-word signed h λ f. InKind.signed f
 kind-is (suc (suc (suc (suc zero)))) b c v h = a-word (choice b) h λ f. InKind.enumeration f
 kind-is (suc (suc (suc (suc (suc zero))))) b c v h = text-is h refl
 kind-is (suc (suc (suc (suc (suc (suc zero)))))) b c v h = a-word (choice (2 ^ 32)) h λ f. InKind.float f
-kind-is (suc (suc (suc (suc (suc (suc (suc k))))))) b c v h = a-word nothing h λ f. absurd (omega arith)
+kind-is (suc (suc (suc (suc (suc (suc (suc zero))))))) b c v h = a-day true h λ n ms k l. InKind.dateTime n ms k l
+kind-is (suc (suc (suc (suc (suc (suc (suc (suc zero)))))))) b c v h = a-day false h λ n ms k l. let z : ms ≡ 0 = omega arith in rw z (InKind.date n k)
+kind-is (suc (suc (suc (suc (suc (suc (suc (suc (suc k))))))))) b c v h = a-word nothing h λ f. absurd (omega arith)

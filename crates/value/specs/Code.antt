@@ -10,7 +10,10 @@ use Rattle.wire.specs.Res.{Res, got, _>>=_, _>>_, guard, atMost}
 use Rattle.wire.specs.Bits.{fixedAt, digits}
 use Rattle.wire.specs.Width.{width}
 use Rattle.wire.specs.Number.{read5, code5}
+use Rattle.numbers.specs.Limit.{dayMilliseconds}
+use Rattle.calendar.specs.Formulas.{dateBy}
 use Rattle.signed.specs.Words.{up, down, signOf, magnitudeOf, wordOf}
+use Rattle.value.specs.Dates.{stampOf, Stamped, dayIn, clockIn, dayBits, dayFits}
 
 pub data Code : Type 0 where
   -- one of n, in the width of n
@@ -23,6 +26,8 @@ pub data Code : Type 0 where
   some : Code → Code
   -- the word wordLess lo, modulo 2^32
   shifted : (lo : ℕ) → Code → Code
+  -- days and, with a clock, milliseconds; the value is the date's two words
+  stamp : (clock : Bool) → Code
 
 -- the word v wordLess the word lo
 abbrev pub wordLess : ℕ → ℕ → ℕ
@@ -36,6 +41,7 @@ HasCode signed v = v < 2 ^ 32
 HasCode (some c) zero = Unit
 HasCode (some c) (suc k) = HasCode c (suc k)
 HasCode (shifted lo c) v = (v < 2 ^ 32) × HasCode c (wordLess lo v)
+HasCode (stamp clock) v = Stamped clock v
 
 abbrev pub choiceBits : ℕ → ℕ → List ℕ
 choiceBits n v = digits (width n) v
@@ -47,6 +53,7 @@ bitsOf signed v = choiceBits 2 (signOf v) ++ code5 (magnitudeOf v)
 bitsOf (some c) zero = choiceBits 2 0
 bitsOf (some c) (suc k) = choiceBits 2 1 ++ bitsOf c (suc k)
 bitsOf (shifted lo c) v = bitsOf c (wordLess lo v)
+bitsOf (stamp clock) v = dayBits clock (dayIn v) (clockIn v)
 
 -- the reading: a fixed width may name nothing, a vluimsbf5 be over its limit
 unfoldable pub choiceAt : (ℕ → ℕ) → ℕ → ℕ → ℕ → Res (ℕ × ℕ)
@@ -78,6 +85,14 @@ someOf rd (suc k) p = do
   atMost 1 v noSuchCode
   got (v, q)
 
+-- after the days: all bits are there before the milliseconds are judged
+unfoldable pub clockAt : Bool → (ℕ → ℕ) → ℕ → ℕ → ℕ → Res (ℕ × ℕ)
+clockAt true b wall n p = do
+  (ms, q) ← fixedAt b wall p 32
+  atMost (ms + 1) dayMilliseconds noSuchCode
+  got (stampOf (dateBy n) ms, q)
+clockAt false b wall n p = got (stampOf (dateBy n) 0, p)
+
 unfoldable pub codeAt : Code → (ℕ → ℕ) → ℕ → ℕ → Res (ℕ × ℕ)
 codeAt (choice n) b wall at = choiceAt b n wall at
 codeAt (five most) b wall at = numberAt b most wall at
@@ -92,6 +107,9 @@ codeAt (shifted lo c) b wall at = do
   (k, p) ← codeAt c b wall at
   atMost (k + 1) (2 ^ 32) tooLarge
   got (up lo k, p)
+codeAt (stamp clock) b wall at = do
+  (n, p) ← fixedAt b wall at 32
+  clockAt clock b wall n p
 
 -- the writer's test, and the code where it holds
 unfoldable pub fits : Code → ℕ → Bool
@@ -101,6 +119,7 @@ fits signed v = ltb v (2 ^ 32)
 fits (some c) zero = true
 fits (some c) (suc k) = fits c (suc k)
 fits (shifted lo c) v = cond (ltb v (2 ^ 32)) (fits c (wordLess lo v)) false
+fits (stamp clock) v = dayFits clock (dayIn v) (clockIn v)
 
 unfoldable pub codeOut : Code → ℕ → Res (List ℕ)
 codeOut c v = guard (fits c v) outsideRow >> got (bitsOf c v)

@@ -1,3 +1,4 @@
+pub mod Dates
 pub mod Code
 pub mod Simple
 pub mod Values

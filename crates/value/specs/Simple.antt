@@ -1,7 +1,7 @@
 -- Which code a row of the table asks for: ranges (001, 8.5.4.2.1), occurrences (8.5.2.4), the simple kinds of document 01; and texts.
 use Prim.Native.Nat.{ℕ, zero, suc, _+_, _-_, _*_, _^_, _<_, min}
 use mathlib.Core.Path.{_≡_}
-use mathlib.Core.Bool.{cond}
+use mathlib.Core.Bool.{true, false, cond}
 use mathlib.Core.List.{List, [], _∷_, _++_}
 use lib.Dec.{leb, ltb, eqb}
 use lib.ListN.{length}
@@ -12,7 +12,8 @@ use Rattle.wire.specs.Res.{Res, got, fault, _>>=_, _>>_, atMost}
 use Rattle.wire.specs.Bits.{num, digits}
 use Rattle.signed.specs.Words.{Gap, under, by, gapOf}
 use Rattle.utf8.specs.Text.{textFault}
-use Rattle.value.specs.Code.{Code, choice, five, signed, some, shifted, HasCode, bitsOf, codeAt}
+use Rattle.value.specs.Code.{Code, choice, five, signed, some, shifted, stamp, HasCode, bitsOf, codeAt}
+use Rattle.value.specs.Dates.{joined, firstOf, secondOf}
 
 -- one of no choices: no word names anything
 abbrev pub nothing : Code
@@ -44,10 +45,11 @@ unfoldable pub oneOf : ℕ → Code
 oneOf zero = choice 1
 oneOf (suc n) = some (shifted 1 (choice (suc n)))
 
--- a number, or a text
+-- a number, a text, or a date
 pub data Simple : Type 0 where
   plain : Code → Simple
   text : Simple
+  dated : Code → Simple
 
 unfoldable pub simpleOf : ℕ → ℕ → ℕ → Simple
 simpleOf kind b c =
@@ -60,8 +62,26 @@ simpleOf kind b c =
       enumeration = plain (choice b);
       text = text;
       float = plain (choice (2 ^ 32));
+      dateTime = dated (stamp true);
+      date = dated (stamp false);
     }
     kind
+
+-- the words p and q that a value has in its event, and the value that they have: both words of a date, one of any other
+unfoldable pub firstWord : Simple → ℕ → ℕ
+firstWord (plain c) v = v
+firstWord text v = v
+firstWord (dated c) v = firstOf v
+
+unfoldable pub secondWord : Simple → ℕ → ℕ
+secondWord (plain c) v = 0
+secondWord text v = 0
+secondWord (dated c) v = secondOf v
+
+unfoldable pub valueOf : Simple → (p q : ℕ) → ℕ
+valueOf (plain c) p q = p
+valueOf text p q = p
+valueOf (dated c) p q = joined p q
 
 -- a text's byte count
 abbrev pub count : Code
@@ -92,7 +112,13 @@ textOf b wall n p = do
   unless (textFault (bytesAt b p n))
   got (n, bytesAt b p n, p + 8 * n)
 
--- the reading: value word, text bytes, place past it
+-- a value that has no text
+unfoldable pub untexted : Res (ℕ × ℕ) → Res (ℕ × List ℕ × ℕ)
+untexted m = do
+  (v, p) ← m
+  got (v, [], p)
+
+-- the reading: value, text bytes, place past it
 unfoldable pub simpleAt : Simple → (ℕ → ℕ) → ℕ → ℕ → Res (ℕ × List ℕ × ℕ)
 simpleAt (plain c) b wall at = do
   (v, p) ← codeAt c b wall at
@@ -100,8 +126,16 @@ simpleAt (plain c) b wall at = do
 simpleAt text b wall at = do
   (n, p) ← codeAt count b wall at
   textOf b wall n p
+simpleAt (dated c) b wall at = untexted (codeAt c b wall at)
+
+-- the same with the value's words
+unfoldable pub wordsOf : Simple → Res (ℕ × List ℕ × ℕ) → Res (ℕ × ℕ × List ℕ × ℕ)
+wordsOf s m = do
+  (v, ts, p) ← m
+  got (firstWord s v, secondWord s v, ts, p)
 
 -- what may stand: a value word, its text bytes, its bits
 pub data SimpleIs : Simple → ℕ → List ℕ → List ℕ → Type 0 where
   a-code : {c : Code} {v : ℕ} → HasCode c v → SimpleIs (plain c) v [] (bitsOf c v)
   a-text : {l : List ℕ} → HasCode count (length l) → AllBytes l → textFault l ≡ 0 → SimpleIs text (length l) l (bitsOf count (length l) ++ bytes l)
+  a-date : {c : Code} {v : ℕ} → HasCode c v → SimpleIs (dated c) v [] (bitsOf c v)

@@ -87,6 +87,8 @@ pub fn simple(simple: u32, b: u32, c: u32) -> Form
         numbers::simple::ENUMERATION => Form::Number(Code::Plain(Inner::Choice(b))),
         numbers::simple::TEXT => Form::Text,
         numbers::simple::FLOAT => Form::Number(Code::Word),
+        numbers::simple::DATE_TIME => Form::Dated(true),
+        numbers::simple::DATE => Form::Dated(false),
         _ => Form::Number(Code::Plain(Inner::Choice(0))),
     }
 }

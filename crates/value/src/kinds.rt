@@ -2,6 +2,7 @@
 use super::Form;
 use super::Inner;
 use super::Value;
+use super::dates;
 use super::reading;
 use super::reading::choice;
 use super::reading::number;
@@ -15,8 +16,9 @@ use wire::Bytes;
 use wire::Read;
 use wire::reading::fixed;
 ghost use mathlib.Core.Path.{_≡_};
-ghost use Prim.Native.Nat.{_*_, _≤_};
+ghost use Prim.Native.Nat.{_*_, _≤_, _<_};
 ghost use lib.ListN.{length};
+ghost use Rattle.numbers.specs.Simple.{float};
 ghost use Rattle.wire.specs.Bits.{bitAt};
 ghost use Rattle.wire.specs.Answer.{readIs};
 ghost use Rattle.value.specs.Code.{codeAt};
@@ -40,7 +42,7 @@ fn ranged(s: &[u8], wall: Bits, at: Bits, b: u32, c: u32) -> Read
     }
 }
 
-// The number of a kind that is no text.
+// The number of a kind that is neither text nor date.
 fn by_kind(s: &[u8], wall: Bits, at: Bits, simple: u32, b: u32, c: u32) -> Read
     requires { ⌜ wall .0 ≤ 8 * length (now s) ⌝ }
     ensures { λ r. ⌜ readIs r ≡ codeAt (kindCode simple b c) (bitAt (now (s .entry))) (wall .0) (at .0) ⌝ }
@@ -56,6 +58,30 @@ fn by_kind(s: &[u8], wall: Bits, at: Bits, simple: u32, b: u32, c: u32) -> Read
     }
 }
 
+// A date; of a number that is no kind nothing. Apart from the other kinds, so that these do not pay for it.
+fn date(s: &[u8], wall: Bits, at: Bits, simple: u32, b: u32, c: u32) -> Value
+    requires { ⌜ (wall .0 ≤ 8 * length (now s)) × (float < simple) ⌝ }
+    ensures { λ r. ⌜ ReadsSimple (now (s .entry)) r (simpleOf simple b c) (wall .0) (at .0) ⌝ }
+{
+    if simple == numbers::simple::DATE_TIME {
+        return dates::read(s, wall, at, true);
+    }
+    if simple == numbers::simple::DATE {
+        return dates::read(s, wall, at, false);
+    }
+    match choice(s, wall, at, 0) {
+        Read::Refuse(e) => Value::Refuse(e),
+        Read::Value(v, p) => {
+            let none = Bytes(0);
+            Value::Read {
+                word: v,
+                text: none,
+                next: p,
+            }
+        }
+    }
+}
+
 // A simple value of a kind with its parameters.
 pub fn of_kind(s: &[u8], wall: Bits, at: Bits, simple: u32, b: u32, c: u32) -> Value
     requires { ⌜ wall .0 ≤ 8 * length (now s) ⌝ }
@@ -63,6 +89,9 @@ pub fn of_kind(s: &[u8], wall: Bits, at: Bits, simple: u32, b: u32, c: u32) -> V
 {
     if simple == numbers::simple::TEXT {
         return reading::simple(s, wall, at, Form::Text);
+    }
+    if numbers::simple::FLOAT < simple {
+        return date(s, wall, at, simple, b, c);
     }
     match by_kind(s, wall, at, simple, b, c) {
         Read::Refuse(e) => Value::Refuse(e),

@@ -3,6 +3,7 @@ use super::Code;
 use super::Form;
 use super::Inner;
 use super::Value;
+use super::dates;
 use numbers::limit;
 use numbers::refusal;
 use signed::raised;
@@ -23,7 +24,7 @@ ghost use Rattle.wire.specs.Bits.{bitAt, num};
 ghost use Rattle.wire.specs.Answer.{readIs};
 ghost use Rattle.utf8.specs.Text.{textFault};
 ghost use Rattle.value.specs.Code.{choiceAt, numberAt, signedOf, someOf, codeAt, signed, some, shifted};
-ghost use Rattle.value.specs.Simple.{bytesAt, textOf};
+ghost use Rattle.value.specs.Simple.{text, bytesAt, textOf, wordsOf};
 ghost use Rattle.value.specs.Answer.{innerIs, codeIs, formIs, valueIs, ReadsSimple};
 
 // One of n choices.
@@ -176,7 +177,7 @@ pub fn text_fault(s: &[u8], at: Bits, n: Bytes) -> u32
 // A text's bytes after its count: the wall is judged before what is wrong with them.
 fn text_after(s: &[u8], wall: Bits, n: u32, p: Bits) -> Value
     requires { ⌜ (wall .0 ≤ 8 * length (now s)) × (n ≤ mostText) ⌝ }
-    ensures { λ r. ⌜ valueIs (bitAt (now (s .entry))) r ≡ textOf (bitAt (now (s .entry))) (wall .0) n (p .0) ⌝ }
+    ensures { λ r. ⌜ valueIs (bitAt (now (s .entry))) r ≡ wordsOf text (textOf (bitAt (now (s .entry))) (wall .0) n (p .0)) ⌝ }
 {
     let e = wall.0;
     let from = p.0;
@@ -221,5 +222,6 @@ pub fn simple(s: &[u8], wall: Bits, at: Bits, f: Form) -> Value
             Read::Refuse(e) => Value::Refuse(e),
             Read::Value(n, p) => text_after(s, wall, n, p),
         },
+        Form::Dated(clocked) => dates::read(s, wall, at, clocked),
     }
 }

@@ -1,7 +1,7 @@
 -- Each way through values and attributes.
-use Prim.Native.Nat.{ℕ, suc, _+_, _-_, _*_, _<_, _≤_, min}
+use Prim.Native.Nat.{ℕ, suc, _+_, _-_, _*_, _^_, _<_, _≤_, min}
 use mathlib.Core.Path.{_≡_, refl, sym, ap, _∙_}
-use mathlib.Core.Bool.{true, false}
+use mathlib.Core.Bool.{Bool, true, false}
 use mathlib.Core.List.{List, []}
 use native.Mathlib.Omega.{arith}
 use lib.ListN.{getD}
@@ -10,8 +10,10 @@ use Rattle.table.specs.Rows.{Attribute, attributeOf, attributesFrom}
 use Rattle.table.specs.Views.{attributeIs}
 use Rattle.table.proofs.Walk.{attributes-turn, attributes-done}
 use Rattle.table.specs.declared.answers.Attribute as attributeT
-use Rattle.value.specs.Code.{choice}
-use Rattle.value.specs.Simple.{Simple, plain, text, simpleOf, timesCode}
+use Rattle.value.specs.Code.{choice, stamp}
+use Rattle.value.specs.Simple.{Simple, plain, text, dated, firstWord, secondWord, valueOf, simpleOf, timesCode}
+use Rattle.value.specs.Dates.{joined}
+use Rattle.value.proofs.DateLaws.{joined-parts}
 use Rattle.value.specs.Answer.{innerIs, codeIs, formIs}
 use Rattle.value.specs.declared.Inner.the-variants as iv
 use Rattle.value.specs.declared.Code as codeT
@@ -50,19 +52,29 @@ module _ (L X : List ℕ) (c : Spot) (N : List ℕ) (s : Judgement) (M : List �
 
   module _ (v : ℕ) (z : v ≡ getD L (4 * c .event + 1) 0) where
     module _ (simple b d : ℕ) (f : formT.Form) (e : formIs f ≡ simpleOf simple b d) where
-      value-as : (sm : Simple) → formIs f ≡ sm → Walked L X (noted (wanted 3 v 0) (simpleOut sm v T) (eventsAt L (c .event))) c N s M → Walks L X (alone (valued simple b d)) c N s M
+      -- by the form, what the event's words are as a value, and this value's words
+      value-as : (sm : Simple) (q value : ℕ) → formIs f ≡ sm → valueOf sm v (Event .q) ≡ value → firstWord sm value ≡ v → secondWord sm value ≡ q
+          → Walked L X (noted (wanted 3 v q) (simpleOut sm value T) (eventsAt L (c .event))) c N s M → Walks L X (alone (valued simple b d)) c N s M
       unfolding eventOf wordOf
-      value-as sm g h =
-          let same : simpleOut (simpleOf simple b d) v T ≡ simpleOut sm v T = ap (λ (x : Simple). simpleOut x v T) (sym e ∙ g) in
-          item-as (valued simple b d) (wanted 3 v 0) (simpleOut sm v T) (rw z) (out-valued (wordOf (valued simple b d) Event) T simple b d ∙ rw (← z) same) h
+      value-as sm q value g m x y h =
+          let k : simpleOf simple b d ≡ sm = sym e ∙ g in
+          let w : valueOf (simpleOf simple b d) (Event .p) (Event .q) ≡ value = rw (k, ← z) m in
+          item-as (valued simple b d) (wanted 3 v q) (simpleOut sm value T) (rw (w, k, x, y)) (out-valued (wordOf (valued simple b d) Event) T simple b d ∙ rw (w, k)) h
 
       pub value-number : (code : codeT.Code) → f ≡ fv.Number code → Walked L X (noted (wanted 3 v 0) (simpleOut (plain (codeIs code)) v T) (eventsAt L (c .event))) c N s M → Walks L X (alone (valued simple b d)) c N s M
-      unfolding formIs
-      value-number code w h = value-as (plain (codeIs code)) (rw w) h
+      unfolding formIs valueOf firstWord secondWord
+      value-number code w h = value-as (plain (codeIs code)) 0 v (rw w) refl refl refl h
 
       pub value-text : f ≡ fv.Text → Walked L X (noted (wanted 3 v 0) (simpleOut text v T) (eventsAt L (c .event))) c N s M → Walks L X (alone (valued simple b d)) c N s M
-      unfolding formIs
-      value-text w h = value-as text (rw w) h
+      unfolding formIs valueOf firstWord secondWord
+      value-text w h = value-as text 0 v (rw w) refl refl refl h
+
+      pub value-dated : (clock : Bool) (q : ℕ) → f ≡ fv.Dated clock → q ≡ getD L (4 * c .event + 2) 0 → q < 2 ^ 32
+          → Walked L X (noted (wanted 3 v q) (simpleOut (dated (stamp clock)) (joined v q) T) (eventsAt L (c .event))) c N s M → Walks L X (alone (valued simple b d)) c N s M
+      unfolding formIs valueOf firstWord secondWord
+      value-dated clock q w y l h =
+          let j = joined-parts v q l in
+          value-as (dated (stamp clock)) q (joined v q) (rw w) (rw (← y)) (j .0) (j .1) h
 
     pub picked-way : (n : ℕ) → Walked L X (noted (wanted 4 v 0) (simpleOut (plain (codeIs (cv.Plain (iv.Choice n)))) v T) (eventsAt L (c .event))) c N s M → Walks L X (alone (picked n)) c N s M
     unfolding eventOf wordOf codeIs innerIs
@@ -82,7 +94,7 @@ module _ (L X : List ℕ) (c : Spot) (N : List ℕ) (s : Judgement) (M : List �
   unfolding eventOf wordOf codeIs innerIs
   optional-as name q z h = item-as (optional name) (wanted 2 name q) (simpleOut (plain (choice 2)) q T) (rw z) (out-optional (wordOf (optional name) Event) T name ∙ rw (← z)) h
 
-pub ruleset value-ways = (value-number, value-text)
+pub ruleset value-ways = (value-number, value-text, value-dated)
 
 -- an item and then the rest
 module _ (L X : List ℕ) (c : Spot) (N : List ℕ) (r : Judgement) (M : List ℕ) (i : Item) (k : ℕ → List Bare → List ℕ → Out) (h : Walks L X (alone i) c N r M) where

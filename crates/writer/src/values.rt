@@ -8,6 +8,7 @@ use value::forms;
 use writer_parts::Judgement;
 use writer_parts::Spot;
 use writer_parts::leaves::note_code;
+use writer_parts::leaves::note_date;
 use writer_parts::leaves::note_text;
 ghost use mathlib.Core.Path.{_≡_};
 ghost use Prim.Native.Nat.{_+_, _*_};
@@ -35,6 +36,10 @@ pub fn value(
     match forms::simple(simple, x, y) {
         Form::Number(code) => note_code(events, texts, notes, c, kind::VALUE, v, 0, code, v),
         Form::Text => note_text(events, texts, notes, c, v),
+        Form::Dated(clocked) => {
+            let q = word(events, 4 * i + 2);
+            note_date(events, texts, notes, c, clocked, v, q)
+        }
     }
 }
 

@@ -21,12 +21,15 @@ use Rattle.wire.specs.Res.{Res, got, fault, _>>_, guard}
 use Rattle.wire.proofs.Res.{tested-then, tested-fault, then, then-fault, under-then, under-fault}
 use Rattle.wire.specs.Number.{code5}
 use Rattle.utf8.specs.Text.{textFault}
-use Rattle.value.specs.Code.{Code, bitsOf, fits, codeOut, sizeOut}
-use Rattle.value.specs.Simple.{plain, text, bytes}
+use Rattle.value.specs.Code.{Code, stamp, bitsOf, fits, codeOut, sizeOut}
+use Rattle.value.specs.Dates.{joined, stampBits}
+use Rattle.value.specs.Simple.{plain, text, dated, bytes}
 use Rattle.value.proofs.SimpleLaws.{length-bytes, passes-then, passes-fault}
-use Rattle.value.specs.Answer.{codeIs, sizeIs, Under}
+use Rattle.value.specs.Answer.{codeIs, sizeIs, stampIs, Under}
 use Rattle.value.proofs.WriteWays.{size-small, code5-short}
 use Rattle.value.specs.declared.Code as codeT
+use Rattle.value.specs.declared.Stamp as stampT
+use Rattle.value.specs.declared.Stamp.the-variants as tv
 use Rattle.value.specs.declared.Size as sizeT
 use Rattle.value.specs.declared.Size.the-variants as sv
 use Rattle.model.specs.Write.{Bare, wrote, unlike, coded, simpleOut, asEnd, headOut, lengthOf, sealed}
@@ -37,7 +40,7 @@ use Rattle.writer_parts.specs.declared.Note.{Note}
 use Rattle.writer_parts.specs.declared.SizedNote.{SizedNote}
 use Rattle.writer_parts.specs.declared.Spot.{Spot}
 use Rattle.writer_parts.specs.declared.Judgement.the-variants.{Go, Refuse}
-use Rattle.writer_parts.specs.Notes.{noteBits, noteAt, spells, keeps, fixedPiece, only, textNote, Noted, HeadNote}
+use Rattle.writer_parts.specs.Notes.{noteBits, noteAt, spells, keeps, fixedPiece, only, textNote, Noted, HeadNote, DateNote}
 use Rattle.writer_parts.proofs.NoteLaws.{piece-five, piece-bytes, piece-none, spells-one, spells-by, spells-same, kept-other, kept-note, kept-length}
 use Rattle.writer_parts.specs.Walk.{eventsIn, eventsAt, textsAt, Ready, between, past, Sealing, Walked, wanted, judged, noted, textWrong}
 use Rattle.writer_parts.proofs.WalkLaws.{events-count, judged-in, taken-like, taken-unlike}
@@ -293,6 +296,30 @@ module _ (L X : List ℕ) (c : Spot) (N : List ℕ) (v : ℕ) (r : Ready L X N c
           p refl (omega arith) (omega arith) (f .1) (omega arith)
 
 pub ruleset text-ways = (noted-unlike, judged-few, judged-room, text-refused, text-small, text-place, text-end, text-eight, text-part, text-bits, text-go)
+
+-- note_date
+module _ (L X : List ℕ) (c : Spot) (N : List ℕ) (clock : Bool) (p q : ℕ) (r : Ready L X N c) (b : ℕ) (j : b ≡ judged L (c .event) (wanted kinds.value p q)) (z : b ≤ 0)
+    (s : stampT.Stamp) (e : stampIs clock s ≡ codeOut (stamp clock) (joined p q)) where
+  pub date-refused : (n : ℕ) → s ≡ tv.Refuse n
+      → Walked L X (noted (wanted kinds.value p q) (simpleOut (dated (stamp clock)) (joined p q) (textsAt X (c .used))) (eventsAt L (c .event))) c N (Refuse n (c .event)) N
+  unfolding simpleOut stampIs
+  date-refused n w = noted-fault L X c N (wanted kinds.value p q) _ r b j z n (then-fault _ (sym e ∙ rw w))
+
+  module _ (days ms : ℕ) (w : s ≡ tv.Takes days ms) (h : SizedNote) (g : DateNote h (stampBits clock days ms)) where
+    pub date-fits : FitsIn w32 (c .bits + h .bits)
+    date-fits = let k = g .short in let a = r .small in let d = r .few in let i = r .inside in record { fits = omega arith }
+
+    pub date-go : (n : Note) (M : List ℕ) → n ≡ h .note → M ≡ keeps N (c .event) n
+        → Walked L X (noted (wanted kinds.value p q) (simpleOut (dated (stamp clock)) (joined p q) (textsAt X (c .used))) (eventsAt L (c .event))) c N
+        (Go (record { event = c .event + 1; used = c .used; bits = c .bits + h .bits })) M
+    unfolding simpleOut stampIs
+    date-go n M m k =
+        let long = g .long in
+        let few = g .short in
+        noted-got L X c N (wanted kinds.value p q) _ r b j z (stampBits clock days ms) n M (record { event = c .event + 1; used = c .used; bits = c .bits + h .bits })
+        (then _ (sym e ∙ rw w) refl) (rw m (g .note .is X)) k refl (omega arith) (omega arith) (r .used) (omega arith)
+
+pub ruleset date-ways = (noted-unlike, judged-few, judged-room, date-refused, date-fits, date-go)
 
 -- close
 module _ (L X : List ℕ) (c e : Spot) (N : List ℕ) (lengths : lengthsT.Lengths) (q : ℕ) (r : Ready L X N c) (s : Sealing L X N c e) (b : ℕ) (j : b ≡ judged L (e .event) (wanted kinds.end 0 0)) where

@@ -17,6 +17,7 @@ use Rattle.signed.specs.Words.{down, signOf}
 use Rattle.signed.specs.Views.{Parts}
 use Rattle.signed.proofs.Laws.{met-minus, met-plus}
 use Rattle.value.specs.Code.{Code, choice, signed, some, shifted, wordLess, bitsOf}
+use Rattle.value.specs.Dates.{stampBits}
 use Rattle.value.specs.Simple.{oneOf}
 use Rattle.value.specs.Answer.{innerIs, codeIs}
 use Rattle.value.proofs.WriteWays.{width-two, code5-short}
@@ -31,7 +32,7 @@ use Rattle.model.specs.Write.{headOut, lengthOf}
 use Rattle.writer_parts.specs.declared.Piece.{Piece}
 use Rattle.writer_parts.specs.declared.Note.{Note}
 use Rattle.writer_parts.specs.declared.SizedNote.{SizedNote}
-use Rattle.writer_parts.specs.Notes.{piece, fixedPiece, fivePiece, both, only, Spelt, Noted, PieceNote, HeadNote, mostChoices}
+use Rattle.writer_parts.specs.Notes.{piece, fixedPiece, fivePiece, both, only, Spelt, Noted, PieceNote, HeadNote, DateNote, mostChoices}
 use Rattle.writer_parts.proofs.NoteLaws.{piece-fixed, piece-five, piece-none}
 
 -- pieces
@@ -239,3 +240,23 @@ module _ (lengths : lengthsT.Lengths) (q n : ℕ) (note : Note) where
   head-fits k s l = record { fits = omega (arith, code5-short n s) }
 
 pub ruleset head-ways = (head-never, head-off, head-bare, head-long, head-on, head-fits)
+
+-- a date
+module _ (clock : Bool) (days ms : ℕ) (n : Note) where
+  pub date-timed : (a b : Piece) → clock ≡ true → n ≡ both a b → a ≡ fixedPiece 32 days → b ≡ fixedPiece 32 ms → DateNote (record { note = n; bits = 64 }) (stampBits clock days ms)
+  unfolding stampBits
+  date-timed a b t e f g = rw t (record {
+    note = noted-both n a b (digits 32 days) (digits 32 ms) e (spelt-fixed a 32 days (omega arith) f) (spelt-fixed b 32 ms (omega arith) g);
+    long = omega (arith, length-append (digits 32 days) (digits 32 ms), length-digits 32 days, length-digits 32 ms);
+    short = omega arith;
+  })
+
+  pub date-plain : (a : Piece) → clock ≡ false → n ≡ only a → a ≡ fixedPiece 32 days → DateNote (record { note = n; bits = 32 }) (stampBits clock days ms)
+  unfolding stampBits
+  date-plain a t e f = rw (t, append-nil (digits 32 days)) (record {
+    note = noted-only n a (digits 32 days) e (spelt-fixed a 32 days (omega arith) f);
+    long = omega (arith, length-digits 32 days);
+    short = omega arith;
+  })
+
+pub ruleset date-note-ways = (date-timed, date-plain)

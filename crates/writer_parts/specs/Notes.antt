@@ -81,3 +81,9 @@ pub record HeadNote (h : SizedNote) (w : List ℕ) : Type 0 where
   pub note : Noted (h .note) w
   pub long : h .bits ≡ length w
   pub short : h .bits ≤ 41
+
+-- a date that is these bits, few of them
+pub record DateNote (h : SizedNote) (w : List ℕ) : Type 0 where
+  pub note : Noted (h .note) w
+  pub long : h .bits ≡ length w
+  pub short : h .bits ≤ 64

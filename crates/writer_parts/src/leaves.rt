@@ -3,6 +3,7 @@ use crate::Judgement;
 use crate::Note;
 use crate::Piece;
 use crate::Spot;
+use crate::notes::date;
 use crate::notes::head;
 use crate::notes::just;
 use crate::notes::number;
@@ -14,6 +15,8 @@ use table::rows::word;
 use utf8::check;
 use value::Code;
 use value::Size;
+use value::Stamp;
+use value::dates::stamp_of;
 use value::writing::size;
 use wire::writing::size5;
 ghost use mathlib.Core.Path.{_≡_};
@@ -23,7 +26,9 @@ ghost use lib.ListN.{length, getD};
 ghost use Rattle.numbers.specs.Kind as kinds;
 ghost use Rattle.numbers.specs.Limit.{mostText};
 ghost use Rattle.wire.specs.Res.{got};
-ghost use Rattle.value.specs.Simple.{plain, text};
+ghost use Rattle.value.specs.Code.{stamp};
+ghost use Rattle.value.specs.Dates.{joined};
+ghost use Rattle.value.specs.Simple.{plain, text, dated};
 ghost use Rattle.value.specs.Answer.{codeIs};
 ghost use Rattle.model.specs.Modes.{lengthsIs};
 ghost use Rattle.model.specs.Write.{wrote, simpleOut, sealed};
@@ -205,6 +210,45 @@ pub fn note_text(events: &[u32], texts: &[u8], notes: &mut [u32], c: Spot, v: u3
         bits,
     };
     Judgement::Go(next)
+}
+
+// A date's event, of the words p and q, which may be no date.
+pub fn note_date(
+    events: &[u32],
+    texts: &[u8],
+    notes: &mut [u32],
+    c: Spot,
+    clocked: bool,
+    p: u32,
+    q: u32,
+) -> Judgement
+    requires { ⌜ Ready (now events) (now texts) (now notes) c ⌝ }
+    ensures { λ r. ⌜
+        Walked (now (events .entry)) (now (texts .entry))
+        (noted (wanted kinds.value p q) (simpleOut (dated (stamp clocked)) (joined p q) (textsAt (now (texts .entry)) (c .used)))
+        (eventsAt (now (events .entry)) (c .event)))
+        c (now (notes .entry)) r (now (notes .exit)) ⌝ }
+{
+    let at = c.event;
+    let bad = unlike(events, at, kind::VALUE, p, q);
+    if 0 < bad {
+        return Judgement::Refuse(bad, at);
+    }
+    match stamp_of(clocked, p, q) {
+        Stamp::Refuse(e) => Judgement::Refuse(e, at),
+        Stamp::Takes { days, ms } => {
+            let h = date(clocked, days, ms);
+            let note = h.note;
+            keep(notes, at, note);
+            let bits = c.bits + h.bits;
+            let next = Spot {
+                event: at + 1,
+                used: c.used,
+                bits,
+            };
+            Judgement::Go(next)
+        }
+    }
 }
 
 // The end of an element whose Start, with the second word q, is at c, and inside which the walk went on to e: End, then the head noted at Start.

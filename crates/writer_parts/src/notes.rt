@@ -13,11 +13,12 @@ use wire::writing::size5;
 ghost use mathlib.Core.Path.{_≡_};
 ghost use Prim.Native.Nat.{_≤_};
 ghost use Rattle.value.specs.Code.{bitsOf, signed, some};
+ghost use Rattle.value.specs.Dates.{stampBits};
 ghost use Rattle.value.specs.Simple.{oneOf};
 ghost use Rattle.value.specs.Answer.{innerIs, codeIs};
 ghost use Rattle.model.specs.Modes.{lengthsIs};
 ghost use Rattle.model.specs.Write.{headOut, lengthOf};
-ghost use Rattle.writer_parts.specs.Notes.{Spelt, Noted, PieceNote, HeadNote, mostChoices, only, both, fixedPiece, fivePiece};
+ghost use Rattle.writer_parts.specs.Notes.{Spelt, Noted, PieceNote, HeadNote, DateNote, mostChoices, only, both, fixedPiece, fivePiece};
 
 // So many bits of x.
 fn fixed(width: u32, x: u32) -> Piece
@@ -90,6 +91,18 @@ pub fn number(c: Code, v: u32) -> Note
         Code::Some(i) => some_number(i, v),
         Code::Shifted(lo, i) => just(inner(i, lowered(lo, v))),
     }
+}
+
+// The days of a date and, with a clock, its milliseconds.
+pub fn date(clocked: bool, days: u32, ms: u32) -> SizedNote
+    ensures { λ r. ⌜ DateNote r (stampBits clocked days ms) ⌝ }
+{
+    if clocked {
+        let note = pair(fixed(32, days), fixed(32, ms));
+        return SizedNote { note, bits: 64 };
+    }
+    let note = just(fixed(32, days));
+    SizedNote { note, bits: 32 }
 }
 
 // None, or one of n, counted from 1: a bit for none, or a bit and the number less one, as one piece; no bits where there are none.

@@ -32,8 +32,8 @@ fn main() -> ExitCode {
         }
     }
 
-    // The seeded cases alone have to meet every refusal of substitution and casting.
-    tally.casts = peer::tally::Tally::default();
+    // The seeded cases alone have to meet every refusal of substitution, casting and dates.
+    tally.items = peer::tally::Tally::default();
     let mut kinds = [0_u64; KINDS.len()];
     for index in 0..count {
         // A panic is a call that did not end with an answer (demand 1), unless the trial itself is at fault.
@@ -55,7 +55,7 @@ fn main() -> ExitCode {
     }
     println!("named cases {}, sides of limits {}", cases.len(), sides.len());
     report(&tally, &kinds);
-    if !tally.is_whole() || !tally.casts_are_whole() || !tally.pairs.are_whole() || !tally.parties_are_whole() {
+    if !tally.is_whole() || !tally.items_are_whole() || !tally.pairs.are_whole() || !tally.parties_are_whole() {
         faults.push("not all was met".to_string());
     }
     println!("time {:.1} s", begun.elapsed().as_secs_f64());
@@ -73,7 +73,7 @@ fn report(tally: &Tally, kinds: &[u64]) {
     for (side, _, numbers) in tally.met.rows() {
         println!("{side}: {}", numbers.replacen("0: ", "accepted ", 1));
     }
-    for (item, _, numbers) in tally.casts.rows() {
+    for (item, _, numbers) in tally.items.rows() {
         println!("refused, {item}: {numbers}");
     }
     println!("table check: right {}, wrong {}", tally.tables[0], tally.tables[1]);

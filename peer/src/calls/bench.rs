@@ -4,7 +4,7 @@ use super::case::{Case, Left};
 use super::tally::Tally;
 use super::{Calls, Judge};
 use crate::bim;
-use crate::demands::{Pair, CASTS};
+use crate::demands::{Pair, ITEMS};
 use crate::rng::Rng;
 use std::hint::black_box;
 
@@ -25,8 +25,8 @@ pub struct Bench<'a> {
     calls_made: u64,
     /// Whether the cases are too few to meet every number.
     sample: bool,
-    /// Whether every fourth refusal is looked at for substitution and casting.
-    casts: bool,
+    /// Whether every fourth refusal is looked at for substitution, casting and dates.
+    items: bool,
     /// The parts before this one, and their cases.
     done: Vec<(&'static str, u64)>,
     /// The seed of the round at hand.
@@ -44,7 +44,7 @@ impl<'a> Bench<'a> {
             cases: 0,
             calls_made: 0,
             sample: false,
-            casts: false,
+            items: false,
             done: vec![],
             round: 0,
         }
@@ -55,17 +55,17 @@ impl<'a> Bench<'a> {
         self.sample = true;
     }
 
-    /// Refusals of substitution and casting are counted from here on.
-    pub fn count_casts(&mut self) {
-        self.casts = true;
+    /// Refusals of substitution, casting and dates are counted from here on.
+    pub fn count_items(&mut self) {
+        self.items = true;
     }
 
-    /// Whether every refusal that substitution and casting have of their own was met; tells all of them.
-    pub fn casts_are_whole(&self) -> bool {
-        for (item, _, numbers) in self.tally.casts.rows() {
+    /// Whether every refusal that substitution, casting and dates have of their own was met; tells all of them.
+    pub fn items_are_whole(&self) -> bool {
+        for (item, _, numbers) in self.tally.items.rows() {
             println!("refused, {item}: {numbers}");
         }
-        self.tally.casts.has_met(&CASTS)
+        self.tally.items.has_met(&ITEMS)
     }
 
     /// The cases from here on belong to `part`.
@@ -115,8 +115,8 @@ impl<'a> Bench<'a> {
         self.cases += 1;
         self.calls_made += 1;
         self.tally.count(self.part, kind, case.call, expected.number);
-        if self.casts && expected.number > bim::ACCEPTED && self.calls_made.is_multiple_of(4) {
-            self.tally.count_cast(case, expected.number);
+        if self.items && expected.number > bim::ACCEPTED && self.calls_made.is_multiple_of(4) {
+            self.tally.count_item(case, expected.number);
         }
         if got != expected || touched.is_some() {
             let place = format!("{}, {kind}, round {}: {}", self.part, self.round, case.call.name());

@@ -4,9 +4,11 @@ use super::bench::on_peer;
 use super::case::{Call, Case};
 use super::reading::root;
 use crate::bim;
-use crate::bits::put_byte;
+use crate::bits::{put_byte, put_word};
 use crate::demands::text_places;
-use crate::gen::{self, damage_list, damage_payload, damage_table, let_go, padded_groups, table_and_sample, text_byte};
+use crate::gen::{
+    self, damage_date, damage_list, damage_payload, damage_table, let_go, padded_groups, table_and_sample, text_byte,
+};
 use crate::host;
 use crate::padding::padded;
 use crate::rng::Rng;
@@ -15,8 +17,9 @@ use crate::words::{big_endian, words_of};
 
 /// Changes the case.
 pub fn change(rng: &mut Rng, case: &mut Case) {
-    match rng.below(18) {
+    match rng.below(20) {
         16..=17 => other_party(rng, case),
+        18..=19 => put_date(rng, case),
         0 => other_mode(rng, case),
         1 => case.root = root(rng, case.root, case.inputs[0].get(7).map_or(1, |&types| u32::from(types).max(1))),
         2 => other_room(rng, case),
@@ -155,6 +158,39 @@ fn put_control(rng: &mut Rng, case: &mut Case) {
             }
         }
         _ => change_content(rng, case),
+    }
+}
+
+/// Another day or time of day in place of a date's, or milliseconds that no day has; of a list, a date with one field changed.
+fn put_date(rng: &mut Rng, case: &mut Case) {
+    match case.call {
+        Call::Write | Call::WriteLengths => {
+            let mut words = words_of(&case.inputs[1]);
+            let all = gen::dates(words.as_chunks().0);
+            if all.is_empty() || !case.inputs[1].len().is_multiple_of(4) {
+                return change_content(rng, case);
+            }
+            let at = 4 * rng.pick(&all) + 1;
+            [words[at], words[at + 1]] = damage_date(rng, [words[at], words[at + 1]]);
+            case.inputs[1] = big_endian(&words);
+        }
+        Call::Read => {
+            let left = on_peer(case);
+            let list = left.reading().filter(|_| left.is_accepted()).map_or(vec![], |reading| reading.list());
+            let all = gen::dates(&list);
+            if all.is_empty() {
+                return change_content(rng, case);
+            }
+            let at = rng.pick(&all);
+            let place = gen::place_of(&list, at);
+            if list[at][3] == 64 && rng.one_in(2) {
+                let ms = if rng.one_in(2) { gen::any_ms(rng) } else { gen::late_ms(rng) };
+                put_word(&mut case.inputs[1], place + 32, ms);
+            } else {
+                put_word(&mut case.inputs[1], place, gen::any_day(rng));
+            }
+        }
+        Call::Check | Call::SetHeld => change_content(rng, case),
     }
 }
 

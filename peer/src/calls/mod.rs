@@ -138,7 +138,7 @@ pub fn run(calls: &dyn Calls, cases: u64, seed: u64) -> Bench<'_> {
     reading::named(&mut bench);
     writing::named(&mut bench);
     setting::named(&mut bench);
-    bench.count_casts();
+    bench.count_items();
     all_seeded(&mut bench, cases, seed);
     bench
 }

@@ -3,9 +3,11 @@
 use super::bench::Bench;
 use super::case::{Call, Case, Left};
 use crate::bim;
+use crate::bits::put_word;
 use crate::cases;
 use crate::gen::{
-    self, damage_payload, damage_table, edge_word, let_go, table_and_control, table_and_padded, table_and_sample,
+    self, damage_payload, damage_table, edge_word, late_ms, let_go, table_and_control, table_and_dates,
+    table_and_padded, table_and_sample,
 };
 use crate::padding::lengths_are_shortest;
 use crate::rng::Rng;
@@ -15,7 +17,7 @@ const MOST: usize = bim::MOST_EVENTS;
 
 /// One seeded round: a case and its neighbours.
 pub fn round(bench: &mut Bench<'_>, rng: &mut Rng) {
-    match rng.below(52) {
+    match rng.below(56) {
         0..=9 => valid(bench, rng),
         10..=16 => odd_codes(bench, rng),
         17..=25 => damaged(bench, rng),
@@ -28,6 +30,7 @@ pub fn round(bench: &mut Bench<'_>, rng: &mut Rng) {
         36..=38 => deep(bench, rng),
         39..=44 => padded(bench, rng),
         45..=50 => controls(bench, rng),
+        52..=55 => dates(bench, rng),
         _ if rng.one_in(5) => large(bench, rng),
         _ => valid(bench, rng),
     }
@@ -154,6 +157,37 @@ fn controls(bench: &mut Bench<'_>, rng: &mut Rng) {
     for times in [2, 5] {
         case.inputs[0] = big_endian(&let_go(rng, case.party, &table, times));
         ask(bench, "control characters, types not held", &case);
+    }
+}
+
+/// Dates: another day or time of day, milliseconds that no day has, each of their ends; rooms about the need, and types not held.
+fn dates(bench: &mut Bench<'_>, rng: &mut Rng) {
+    let (table, sample) = table_and_dates(rng);
+    let mut case = Case::read_sample(&table, &sample);
+    let left = ask(bench, "dates", &case);
+    rooms_around(bench, rng, &mut case.clone(), &left);
+    let at = rng.pick(&gen::dates(&sample.events));
+    let first = gen::place_of(&sample.events, at);
+    let bits = sample.events[at][3] as usize;
+    for _ in 0..4 {
+        let mut other = case.clone();
+        put_word(&mut other.inputs[1], first, gen::any_day(rng));
+        if bits == 64 {
+            let ms = if rng.one_in(2) { gen::any_ms(rng) } else { late_ms(rng) };
+            put_word(&mut other.inputs[1], first + 32, ms);
+        }
+        ask(bench, "dates, others in their place", &other);
+        let rooms = vec![bim::EVENT * at + rng.below(bim::EVENT), case.rooms[1], bim::AREA];
+        ask(bench, "dates, others in their place, and no room", &Case { rooms, ..other.clone() });
+        // The payload ends in the date, or right before or behind it.
+        other.inputs[1].truncate((first + rng.below(bits + 9)).div_ceil(8));
+        ask(bench, "dates, cut", &other);
+        damage_payload(rng, &mut other.inputs[1]);
+        ask(bench, "dates, damaged", &other);
+    }
+    for times in [2, 5] {
+        case.inputs[0] = big_endian(&let_go(rng, case.party, &table, times));
+        ask(bench, "dates, types not held", &case);
     }
 }
 

@@ -19,8 +19,8 @@ pub struct Tally {
     readings: [[u64; 2]; 2],
     /// Answers and differences.
     pub met: tally::Tally,
-    /// What was refused of substitution and casting, by the model's words for it.
-    pub casts: tally::Tally,
+    /// What was refused of substitution, casting and dates, by the model's words for it.
+    pub items: tally::Tally,
     /// The smallest case that differs.
     pub smallest: Option<Case>,
 }
@@ -37,8 +37,8 @@ impl Tally {
         self.readings[usize::from(padded)][usize::from(blanks)] += 1;
     }
 
-    /// Counts what is refused, as far as substitution and casting have to do with it.
-    pub fn count_cast(&mut self, case: &Case, number: u32) {
+    /// Counts what is refused, as far as substitution, casting and dates have to do with it.
+    pub fn count_item(&mut self, case: &Case, number: u32) {
         if number == bim::AREA_SIZE || !case.inputs[0].len().is_multiple_of(4) {
             return;
         }
@@ -57,7 +57,7 @@ impl Tally {
             }
         };
         if !item.is_empty() {
-            self.casts.count(item, number);
+            self.items.count(item, number);
         }
     }
 

@@ -4,13 +4,16 @@ use super::bench::Bench;
 use super::case::{Call, Case, Left};
 use super::reading::{area, root};
 use crate::bim;
-use crate::gen::{self, damage_list, damage_table, edge_word, let_go, table_and_sample, Sample};
+use crate::gen::{
+    self, damage_date, damage_list, damage_table, edge_word, let_go, table_and_dates, table_and_sample, Sample,
+};
+use crate::model;
 use crate::rng::Rng;
 use crate::words::big_endian;
 
 /// One seeded round: a case and its neighbours.
 pub fn round(bench: &mut Bench<'_>, rng: &mut Rng) {
-    match rng.below(40) {
+    match rng.below(44) {
         0..=9 => valid(bench, rng),
         10..=12 => each_word(bench, rng),
         13..=18 => damaged(bench, rng),
@@ -23,6 +26,7 @@ pub fn round(bench: &mut Bench<'_>, rng: &mut Rng) {
         34 => malformed_tables(bench, rng),
         35 => noise(bench, rng),
         36..=38 => deep(bench, rng),
+        40..=43 => dates(bench, rng),
         _ if rng.one_in(5) => large(bench, rng),
         _ => valid(bench, rng),
     }
@@ -219,6 +223,34 @@ fn texts(bench: &mut Bench<'_>, rng: &mut Rng) {
             case.inputs[2].pop();
             ask(bench, "control characters, texts short", &case);
         }
+    }
+}
+
+/// A field of a date changed, or the date another; a second word where the value is none.
+fn dates(bench: &mut Bench<'_>, rng: &mut Rng) {
+    let (table, sample) = table_and_dates(rng);
+    let mut case = Case::write_sample(&table, &sample);
+    ask(bench, "dates", &case);
+    let all = gen::dates(&sample.events);
+    for _ in 0..6 {
+        let mut events = sample.events.clone();
+        let event = &mut events[rng.pick(&all)];
+        [event[1], event[2]] = match rng.below(4) {
+            0 => model::date_words(gen::any_day(rng).into(), (event[2] % (1 << bim::MS_BITS)).into()),
+            _ => damage_date(rng, [event[1], event[2]]),
+        };
+        put_list(&mut case, &events);
+        ask(bench, "dates, changed", &case);
+        let rooms = vec![rng.below(2) * rng.below(case.rooms[0] + 1), bim::AREA];
+        ask(bench, "dates, changed, and no room", &Case { rooms, ..case.clone() });
+    }
+    let others: Vec<_> =
+        (0..sample.events.len()).filter(|&at| sample.events[at][0] == bim::KIND_VALUE && !all.contains(&at)).collect();
+    if !others.is_empty() {
+        let mut events = sample.events.clone();
+        events[rng.pick(&others)][2] = edge_word(rng);
+        put_list(&mut case, &events);
+        ask(bench, "second words of no dates", &case);
     }
 }
 

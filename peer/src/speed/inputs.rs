@@ -6,10 +6,14 @@ use crate::call::Write;
 use crate::calls::Case;
 use crate::cases;
 use crate::list::List;
+use crate::model::date_words;
 use crate::padding::padded;
 use crate::rng::Rng;
 use crate::rows::{complex, element, occurs, simple, Rows, NOTHING};
 use crate::words::big_endian;
+
+/// How many elements of one value a list of 2,048 events has beside what stands around them.
+pub const VALUES: u32 = 681;
 
 /// One payload and the list that it is, under a table.
 #[derive(Clone)]
@@ -141,18 +145,47 @@ fn texts(name: &str, texts: u32, bytes: usize, accents: usize) -> Input {
     panic!("{name}: no last text fits")
 }
 
-/// So many numbers, each an element of its own: three events each, and five around them.
-fn numbers(name: &str, elements: u32) -> Input {
+/// So many elements of one type, whose value `put` puts into the list, and five events around them.
+fn elements(name: &str, elements: u32, of_type: [u32; 7], put: fn(&mut Rng, &mut List)) -> Input {
     let mut rng = Rng::new(4);
     let mut list = List::new(bim::MODE_NEVER, |_| false);
     list.start(29);
     list.attribute(30, Some(1));
     list.times(elements);
     for _ in 0..elements {
-        list.simple(31, rng.below(1000) as u32);
+        list.start(31);
+        put(&mut rng, &mut list);
+        list.end();
     }
     list.end();
-    Input::new(name, many_of(simple(bim::RANGED, 0, 999)), (29, 0), list)
+    Input::new(name, many_of(of_type), (29, 0), list)
+}
+
+/// So many numbers, each an element of its own.
+fn numbers(name: &str, count: u32) -> Input {
+    elements(name, count, simple(bim::RANGED, 0, 999), |rng, list| {
+        list.value(rng.below(1000) as u32);
+    })
+}
+
+/// A day of 1968 to 2077.
+fn day(rng: &mut Rng) -> u32 {
+    rng.within(40_000, 80_000) as u32
+}
+
+/// So many days as numbers that are no dates.
+fn unsigned(name: &str, count: u32) -> Input {
+    elements(name, count, simple(bim::UNSIGNED, 0, 0), |rng, list| {
+        list.value(day(rng));
+    })
+}
+
+/// So many dateTimes of the same days.
+fn date_times(name: &str, count: u32) -> Input {
+    elements(name, count, simple(bim::DATE_TIME, 0, 0), |rng, list| {
+        let days = day(rng);
+        list.date(date_words(days.into(), rng.below(bim::DAY_MS as usize) as i64));
+    })
 }
 
 /// A chain of so many elements, each alone in the one around it, all with a length, and a number in the innermost.
@@ -181,10 +214,24 @@ pub fn standard() -> Vec<Input> {
         texts("texts, 8,192 bytes", 9, bim::MOST_PAYLOAD, 40),
         texts("texts in ASCII, 8,192 bytes", 9, bim::MOST_PAYLOAD, 0),
         chain("64 rows open", 64),
-        numbers("2,048 events", 681),
+        numbers("2,048 events", VALUES),
         guide(50).refused(),
         cast_guide(50),
         chain("64 rows open", 64).padded(),
+        unsigned("681 unsigned values", VALUES),
+        date_times("681 dateTimes", VALUES),
+    ]
+}
+
+/// What dates are told apart by: as many elements without a value, of an unsigned value, of a dateTime, of a date.
+pub fn of_dates() -> [Input; 4] {
+    [
+        elements("empty", VALUES, NOTHING, |_, _| {}),
+        unsigned("unsigned", VALUES),
+        date_times("dateTime", VALUES),
+        elements("date", VALUES, simple(bim::DATE, 0, 0), |rng, list| {
+            list.date(date_words(day(rng).into(), 0));
+        }),
     ]
 }
 

@@ -3,4 +3,4 @@
 mod guide;
 mod inputs;
 
-pub use inputs::{growing, standard, with_lengths, Growth, Input};
+pub use inputs::{growing, of_dates, standard, with_lengths, Growth, Input, VALUES};

@@ -2,6 +2,7 @@
 //! texts eight bytes at a time; nothing is allocated, and only what a call leaves unused is cleared. `host` judges it (tests/swift.rs).
 
 mod bits;
+pub mod calendar;
 mod reading;
 mod table;
 mod writing;

@@ -157,7 +157,7 @@ impl<'a> Table<'a> {
                 bim::SIMPLE => match a {
                     bim::RANGED => b as i32 <= c as i32,
                     bim::ENUMERATION => (b.wrapping_sub(1) < bim::MOST_VALUES) & (c == 0),
-                    _ => (a <= bim::FLOAT) & (b | c == 0),
+                    _ => (a <= bim::DATE) & (b | c == 0),
                 },
                 _ => false,
             }

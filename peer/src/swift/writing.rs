@@ -1,6 +1,7 @@
 //! The writer, for speed: a walk judges every event and packs its code into a word; then the words are put out.
 
 use super::bits::{code5, text_fault, width, Pen};
+use super::calendar;
 use super::table::{word, Casts, Table};
 use super::{check_party, fill_area, refuse, whole_area};
 use crate::bim;
@@ -75,17 +76,24 @@ fn begin(table: &[u8], party: u32, root_name: u32, root_type: u32, mode: u32) ->
     Ok(table)
 }
 
-/// The code of an event in a word: text bytes behind it (12 bits), its width (6), its bits (41 at most).
+/// The code of an event in a word: text bytes behind it (12 bits), its width (6), its bits (41 at most). A dateTime has the top bit, and
+/// then its days and 27 bits of milliseconds.
 #[derive(Clone, Copy)]
 struct Piece(u64);
 
-const BITS: u32 = 46;
+const BITS: u32 = 45;
 const WIDTH: u32 = 6;
+const DATE_TIME: u64 = 1 << 63;
 
 impl Piece {
     #[inline(always)]
     fn new((bits, width): (u64, u32), text: u32) -> Self {
         Piece(u64::from(text) << (BITS + WIDTH) | u64::from(width) << BITS | bits)
+    }
+
+    #[inline(always)]
+    fn date_time(days: u32, ms: u32) -> Self {
+        Piece(DATE_TIME | u64::from(days) << bim::MS_BITS | u64::from(ms))
     }
 
     #[inline(always)]
@@ -155,8 +163,13 @@ fn put_out(pieces: &[Piece], mut texts: &[u8], mode_byte: u8, payload: &mut [u8]
     let mut pen = Pen::new(payload, mode_byte);
     for piece in pieces {
         let (bits, width, text) = piece.parts();
-        pen.put(bits, width);
-        if text > 0 {
+        if text == 0 {
+            pen.put(bits, width);
+        } else if piece.0 & DATE_TIME != 0 {
+            pen.put(piece.0 >> bim::MS_BITS & u64::from(u32::MAX), 32);
+            pen.put(piece.0 & ((1 << bim::MS_BITS) - 1), 32);
+        } else {
+            pen.put(bits, width);
             let (text, rest) = texts.split_at(text);
             pen.put_text(text);
             texts = rest;
@@ -372,6 +385,9 @@ impl Walk<'_> {
 
     #[inline(always)]
     fn value(&mut self, of_kind: u32, b: u32, c: u32) -> Step {
+        if of_kind >= bim::DATE_TIME {
+            return self.date(of_kind);
+        }
         let p = self.word(bim::KIND_VALUE)?;
         let code = match of_kind {
             bim::BOOLEAN => choice(1, p),
@@ -397,6 +413,23 @@ impl Walk<'_> {
         match code {
             Some(code) => self.put(code, 0),
             None => return self.refuse(bim::OUTSIDE_ROW),
+        }
+        Some(())
+    }
+
+    /// A dateTime or a date, which has a second word.
+    #[inline(never)]
+    fn date(&mut self, of_kind: u32) -> Step {
+        let (p, q) = self.take(bim::KIND_VALUE)?;
+        match calendar::days_of(p, q) {
+            Some((days, ms)) if of_kind == bim::DATE_TIME => {
+                self.pieces[self.filled] = Piece::date_time(days, ms);
+                self.filled += 1;
+                self.bits += 64;
+                self.next += 1;
+            }
+            Some((days, 0)) => self.put((u64::from(days), 32), 0),
+            _ => return self.refuse(bim::OUTSIDE_ROW),
         }
         Some(())
     }

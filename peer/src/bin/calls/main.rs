@@ -1,5 +1,5 @@
 //! The proved library's C calls against the peer: `calls [--sample] [cases] [seed]`. Exit status 1 on a difference, or where
-//! a number that a call can answer was never met, or a refusal of substitution and casting among the seeded cases. A sample has no
+//! a number that a call can answer was never met, or a refusal of substitution, casting and dates among the seeded cases. A sample has no
 //! named cases, and may miss numbers.
 
 mod proved;
@@ -18,7 +18,7 @@ fn main() -> ExitCode {
     let library = proved::Library::default();
     let run = if sample { peer::calls::sample } else { peer::calls::run };
     let mut bench = run(&library, cases, seed);
-    let good = bench.report() && (sample || bench.casts_are_whole());
+    let good = bench.report() && (sample || bench.items_are_whole());
     // Codes are small: a sample takes more of them, so that every number is met.
     let codes = if sample { 20 * cases } else { cases };
     let good = peer::calls::run_bits(&library, codes, seed).report() && good;

@@ -1,6 +1,7 @@
 //! The proved leaves against the peer: `leaves [rounds] [seed]`. Exit status 1 on a difference, or where a number that a leaf
 //! can answer was never met.
 
+mod dates;
 mod proved;
 mod reads;
 mod signs;
@@ -30,7 +31,7 @@ const SIZE: &[u32] = &[bim::ACCEPTED, bim::OUTSIDE_ROW];
 const YES_NO: &[u32] = &[0, 1];
 
 /// Every number that a leaf can answer; of a row's leaf, its kind.
-const NUMBERS: [Numbers; 31] = [
+const NUMBERS: [Numbers; 34] = [
     ("any5", FIXED),
     ("any8", FIXED),
     ("attribute", YES_NO),
@@ -38,6 +39,8 @@ const NUMBERS: [Numbers; 31] = [
     ("byte", PUT),
     ("choice", &[bim::ACCEPTED, bim::PAST_END, bim::NO_SUCH_CODE, OUTSIDE]),
     ("content", &[bim::EMPTY, bim::SIMPLE, bim::PARTICLES]),
+    ("date_of", &[bim::ACCEPTED]),
+    ("day_of", SIZE),
     ("fixed", FIXED),
     ("gap", YES_NO),
     ("held", YES_NO),
@@ -47,6 +50,7 @@ const NUMBERS: [Numbers; 31] = [
     ("put5", PUT),
     ("put8", PUT_ROW),
     ("put_bytes", PUT),
+    ("put_date", PUT_ROW),
     ("put_range", PUT_ROW),
     ("put_simple", PUT_ROW),
     ("put_times", PUT_ROW),
@@ -77,6 +81,7 @@ fn main() -> ExitCode {
     tables::named(&mut tally);
     for _ in 0..rounds {
         reads::round(&mut rng, &mut tally);
+        dates::round(&mut rng, &mut tally);
         writes::round(&mut rng, &mut tally);
         texts::round(&mut rng, &mut tally);
         signs::round(&mut rng, &mut tally);

@@ -112,12 +112,15 @@ writes! {
     put_range = probe_put_range(b, c, value);
     put_times = probe_put_times(least, most, value);
     put_simple = probe_put_simple(kind, b, c, value);
+    put_date = probe_put_date(kind, p, q);
 }
 
 words! {
     size_range = probe_size_range(b, c, value);
     size_times = probe_size_times(least, most, value);
     size_simple = probe_size_simple(kind, b, c, value);
+    date_of = probe_date_of(days);
+    day_of = probe_day_of(year, month, day);
 }
 
 plain! {

@@ -5,14 +5,14 @@ use crate::texts;
 use peer::bim;
 use peer::bits::fixed;
 use peer::codes::{self, Reading, Taken};
-use peer::gen::{any_bits, edge_word};
+use peer::gen::{any_bits, any_day, any_ms, edge_word, late_ms};
 use peer::model::{bits5, bits_of, bytes_of, groups};
 use peer::rng::Rng;
 use peer::tally::Tally;
 use peer::value;
 
-/// What the peer says of a code: value, bits and the number more that some codes tell.
-type Said = Result<(u32, usize, u32), u32>;
+/// What the peer says of a code: value, bits and the two numbers more that some codes tell.
+type Said = Result<(u32, usize, [u32; 2]), u32>;
 
 /// One round: every leaf once, each with its own bits.
 pub fn round(rng: &mut Rng, tally: &mut Tally) {
@@ -75,7 +75,9 @@ impl Pattern {
                 peer(&self.payload, wall, self.at)
             };
             let expected = match said {
-                Ok((value, bits, more)) => Answer::accepted(value, self.at + bits, more),
+                Ok((value, bits, [more, second])) => {
+                    Answer { number: 0, out: [value, (self.at + bits) as u32, more, second] }
+                }
                 Err(number) => Answer::refused(number),
             };
             tally.hold(leaf, expected.number, answer, expected, || {
@@ -122,12 +124,12 @@ fn eight(rng: &mut Rng) -> Vec<bool> {
     bits_of(u64::from(first << 8 | second), 16)
 }
 
-fn loose(read: Reading) -> (u32, usize, u32) {
-    (read.value, read.bits, u32::from(read.shortest))
+fn loose(read: Reading) -> (u32, usize, [u32; 2]) {
+    (read.value, read.bits, [u32::from(read.shortest), 0])
 }
 
-fn taken(read: Taken) -> (u32, usize, u32) {
-    (read.value, read.bits, 0)
+fn taken(read: Taken) -> (u32, usize, [u32; 2]) {
+    (read.value, read.bits, [0, 0])
 }
 
 fn fixed_width(rng: &mut Rng, tally: &mut Tally) {
@@ -149,7 +151,7 @@ fn fixed_width(rng: &mut Rng, tally: &mut Tally) {
         "fixed",
         &[width],
         |s, end, at| proved::fixed(s, end, at, width),
-        |s, end, at| fixed(s, end, at, width).map(|value| (value, width as usize, 0)),
+        |s, end, at| fixed(s, end, at, width).map(|value| (value, width as usize, [0, 0])),
     );
 }
 
@@ -309,11 +311,12 @@ fn counts(rng: &mut Rng, tally: &mut Tally) {
 /// A simple kind with parameters, as a type row has them, now and then of none.
 pub fn simple_row(rng: &mut Rng) -> (u32, u32, u32) {
     match rng.below(30) {
-        0 => (rng.pick(&[7, 8, 65_536, u32::MAX]), edge_word(rng), edge_word(rng)),
+        0 => (rng.pick(&[9, 10, 65_536, u32::MAX]), edge_word(rng), edge_word(rng)),
         1..=8 => {
             let (b, c) = range_ends(rng);
             (bim::RANGED, b as u32, c as u32)
         }
+        15..=17 => (rng.pick(&[bim::DATE_TIME, bim::DATE]), 0, 0),
         9..=14 => (bim::ENUMERATION, pick(rng, &[1, 2, 3, 5, 64, 65, 65_535, 65_536]), 0),
         _ => (rng.pick(&[bim::BOOLEAN, bim::UNSIGNED, bim::SIGNED, bim::SIGNED, bim::TEXT, bim::FLOAT]), 0, 0),
     }
@@ -331,6 +334,11 @@ fn value_code(rng: &mut Rng, kind: u32, b: u32, c: u32) -> Vec<bool> {
         bim::ENUMERATION => index(rng, b),
         bim::TEXT => text_code(rng),
         bim::FLOAT => any_bits(rng, 32),
+        bim::DATE => bits_of(any_day(rng).into(), 32),
+        bim::DATE_TIME => {
+            let ms = if rng.one_in(3) { late_ms(rng) } else { any_ms(rng) };
+            bits_of(u64::from(any_day(rng)) << 32 | u64::from(ms), 64)
+        }
         _ => {
             let value = edge_word(rng);
             five(rng, value)
@@ -366,10 +374,10 @@ fn values(rng: &mut Rng, tally: &mut Tally) {
         &[kind, b, c],
         |s, end, at| proved::simple(s, end, at, kind, b, c),
         |s, end, at| {
-            if kind > bim::FLOAT || kind == bim::RANGED && b as i32 > c as i32 {
+            if kind > bim::DATE || kind == bim::RANGED && b as i32 > c as i32 {
                 return nothing();
             }
-            value::read(kind, b, c, s, end, at).map(|read| (read.word, read.bits, read.text as u32))
+            value::read(kind, b, c, s, end, at).map(|read| (read.word, read.bits, [read.text as u32, read.second]))
         },
     );
 }

@@ -12,7 +12,7 @@ use peer::tally::Tally;
 use peer::value;
 
 /// No code takes more, so with this room a value that its row lacks is told.
-const MOST_BITS: usize = 41;
+const MOST_BITS: usize = 64;
 
 /// One round: every leaf once.
 pub fn round(rng: &mut Rng, tally: &mut Tally) {
@@ -65,7 +65,8 @@ fn values(rng: &mut Rng, tally: &mut Tally) {
         bim::TEXT => near(rng, 0, bim::MOST_TEXT),
         _ => edge_word(rng),
     };
-    let code = if kind > bim::FLOAT { None } else { value::write(kind, b, c, word).ok() };
+    // One word is no date.
+    let code = if kind > bim::FLOAT { None } else { value::write(kind, b, c, word, 0).ok() };
     size(tally, "size_simple", &[kind, b, c, word], code, proved::size_simple(kind, b, c, word));
     ask(rng, tally, "put_simple", &[kind, b, c, word], code, word, |buf, at| {
         proved::put_simple(buf, at, kind, b, c, word)
@@ -123,7 +124,7 @@ impl Area {
 }
 
 /// Writes `value` at a place of a buffer by both, and compares all bytes.
-fn ask(
+pub fn ask(
     rng: &mut Rng,
     tally: &mut Tally,
     leaf: &'static str,

@@ -9,7 +9,7 @@ mod sides;
 mod times;
 
 use peer::calls::{Call, Case};
-use peer::speed::{growing, standard, with_lengths, Input};
+use peer::speed::{growing, of_dates, standard, with_lengths, Input};
 
 /// A call to be measured, and where it stands on the page.
 pub struct Item {
@@ -32,6 +32,8 @@ pub enum Part {
     Inputs,
     /// One measure grows, to this size.
     Growth(usize),
+    /// So many values of one kind, which dates are told apart by.
+    Values,
 }
 
 /// Everything that is measured, in order.
@@ -62,6 +64,14 @@ fn items() -> Vec<Item> {
                 let name = growth.measure.to_string();
                 items.push(Item { name, size: size.to_string(), words: table.len(), case, part: Part::Growth(*size) });
             }
+        }
+    }
+    for call in [Call::Read, Call::Write] {
+        for input in of_dates() {
+            let [table, _] = input.tables();
+            let case = if call == Call::Read { input.reading(&table) } else { input.writing(&table) };
+            let size = input.sizes().0.to_string();
+            items.push(Item { name: input.name, size, words: table.len(), case, part: Part::Values });
         }
     }
     items

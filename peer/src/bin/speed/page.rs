@@ -2,6 +2,7 @@
 
 use crate::{Item, Part};
 use peer::calls::Call;
+use peer::speed::VALUES;
 use std::fs;
 use std::process::Command;
 
@@ -91,6 +92,39 @@ pub fn print(items: &[Item], times: &[[f64; 4]], counts: &[[u64; 4]]) {
             units[1]
         );
         before = Some((&item.name, item.case.call, size, **counts));
+    }
+    print_dates(&rows);
+}
+
+/// A value's own instructions are those of a list less those of as many elements without a value; a date's are then told by an unsigned
+/// value's.
+fn print_dates(rows: &[(&Item, &[f64; 4], &[u64; 4])]) {
+    println!("\n## Dates against unsigned values\n");
+    println!("As many elements each, with the same table but for their type. A value's instructions: a call's less that of the empty elements, for each of them.\n");
+    println!("| elements | call | proved instr. | a value | to an unsigned one | the calls | peer instr. | a value | to an unsigned one |");
+    println!("|---|---|---|---|---|---|---|---|---|");
+    let values: Vec<_> = rows.iter().filter(|(item, ..)| item.part == Part::Values).collect();
+    for of_call in values.chunks(4) {
+        let [(_, _, empty), (_, _, unsigned), ..] = of_call else {
+            return;
+        };
+        for (item, _, counts) in &of_call[1..] {
+            let value = |counts: &[u64; 4], side: usize| counts[side] as f64 - empty[side] as f64;
+            let each = |side: usize| value(counts, side) / f64::from(VALUES);
+            let ratio = |side: usize| value(counts, side) / value(unsigned, side);
+            println!(
+                "| {} | {} | {} | {:.1} | {:.2} | {:.2} | {} | {:.1} | {:.2} |",
+                item.name,
+                verb(item),
+                counts[0],
+                each(0),
+                ratio(0),
+                counts[0] as f64 / unsigned[0] as f64,
+                counts[1],
+                each(1),
+                ratio(1),
+            );
+        }
     }
 }
 

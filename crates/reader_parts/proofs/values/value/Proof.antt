@@ -1,4 +1,4 @@
--- Refused by its code, or kept.
+-- Refused by its code, or kept, or stored as a date.
 use Rattle.reader_parts.proofs.ValueWays.{value-ways}
 use borrow.Author.Needs.{needs}
 use Rattle.reader_parts.proofs.values.value.Statement.{statement}
@@ -16,6 +16,12 @@ enum-known-word c = search needs
 keep-requires : tie.Need-keep-requires
 keep-requires c κs = search (needs, value-ways)
 
+enum-known-p : tie.Need-enum-known-p
+enum-known-p c = search needs
+
+store-requires : tie.Need-store-requires
+store-requires c κs = search needs
+
 returns : tie.Need-returns
 returns c = search (needs, value-ways)
 
@@ -28,6 +34,12 @@ same-length-2 c = search needs
 returns-2 : tie.Need-returns-2
 returns-2 c = search (needs, value-ways)
 
+same-length-3 : tie.Need-same-length-3
+same-length-3 c = search needs
+
+returns-3 : tie.Need-returns-3
+returns-3 c = search (needs, value-ways)
+
 pub value-spec : {M : Type 1} → statement M
 value-spec =
     tie.close
@@ -36,7 +48,11 @@ value-spec =
     enum-known-n
     enum-known-word
     keep-requires
+    enum-known-p
+    store-requires
     returns
     same-length
     same-length-2
-    returns-2)
+    returns-2
+    same-length-3
+    returns-3)

@@ -1,6 +1,5 @@
--- The writer's way: one event walked, its notes put down where its bits have room.
-use native.Mathlib.Omega.{arith}
-use Rattle.test_leaves.proofs.Room.{one-room, one-noted}
+-- The writer's way: one event walked, and what it noted put down.
+use Rattle.test_leaves.proofs.Room.{one-bits, one-noted}
 use borrow.Author.Needs.{needs}
 use Rattle.test_leaves.proofs.writing.put_in_room.Statement.{statement}
 use Rattle.test_leaves.proofs.writing.put_in_room.Tie as tie
@@ -26,45 +25,20 @@ refused-requires c κs = search needs
 enum-known-end : tie.Need-enum-known-end
 enum-known-end c = search needs
 
-reach-requires : tie.Need-reach-requires
-reach-requires c κs = search needs
+slice-aggregate-put-noted : tie.Need-slice-aggregate-put-noted
+slice-aggregate-put-noted c = search needs
 
-refused-requires-2 : tie.Need-refused-requires-2
-refused-requires-2 c κs = search needs
+put-noted-requires : tie.Need-put-noted-requires
+put-noted-requires c κs = search (needs, one-bits, one-noted)
 
 returns : tie.Need-returns
 returns c = search needs
 
-refused-requires-3 : tie.Need-refused-requires-3
-refused-requires-3 c κs = search needs
-
-returns-2 : tie.Need-returns-2
-returns-2 c = search needs
-
-slice-aggregate-put-notes : tie.Need-slice-aggregate-put-notes
-slice-aggregate-put-notes c = search needs
-
-slice-aggregate-put-notes-2 : tie.Need-slice-aggregate-put-notes-2
-slice-aggregate-put-notes-2 c = search needs
-
-put-notes-requires : tie.Need-put-notes-requires
-put-notes-requires c κs =
-    let at-end = c .before .before .before .before .before .before .before .before in
-    let at-coded = at-end .before .before .before in
-    let entry = at-coded .before .before .before .before .before .args in
-    (one-room _ _ _ _ _ _ (at-coded .note-code .ensures) _ (at-end .end .given .1) (entry .buf .now) (entry .at) (omega arith) (omega arith), one-noted _ _ _ _ _ _ (at-coded .note-code .ensures) _ (at-end .end .given .1))
-
-accepted-requires : tie.Need-accepted-requires
-accepted-requires c κs = search needs
-
-returns-3 : tie.Need-returns-3
-returns-3 c = search needs
-
 same-length : tie.Need-same-length
 same-length c = search needs
 
-returns-4 : tie.Need-returns-4
-returns-4 c = search needs
+returns-2 : tie.Need-returns-2
+returns-2 c = search needs
 
 pub put-in-room-spec : {M : Type 1} → statement M
 put-in-room-spec =
@@ -77,15 +51,8 @@ put-in-room-spec =
     enum-known-e
     refused-requires
     enum-known-end
-    reach-requires
-    refused-requires-2
+    slice-aggregate-put-noted
+    put-noted-requires
     returns
-    refused-requires-3
-    returns-2
-    slice-aggregate-put-notes
-    slice-aggregate-put-notes-2
-    put-notes-requires
-    accepted-requires
-    returns-3
     same-length
-    returns-4)
+    returns-2)

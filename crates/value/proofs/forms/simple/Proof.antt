@@ -1,6 +1,6 @@
 -- Kind by kind.
-use Rattle.value.proofs.FormWays.{simple-ways}
 use borrow.Author.Needs.{needs}
+use Rattle.value.proofs.FormWays.{simple-ways}
 use Rattle.value.proofs.forms.simple.Statement.{statement}
 use Rattle.value.proofs.forms.simple.Tie as tie
 
@@ -31,6 +31,12 @@ returns-7 c = search (needs, simple-ways)
 returns-8 : tie.Need-returns-8
 returns-8 c = search (needs, simple-ways)
 
+returns-9 : tie.Need-returns-9
+returns-9 c = search (needs, simple-ways)
+
+returns-10 : tie.Need-returns-10
+returns-10 c = search (needs, simple-ways)
+
 pub simple-spec : {M : Type 1} → statement M
 simple-spec =
     tie.close
@@ -43,4 +49,6 @@ simple-spec =
     returns-5
     returns-6
     returns-7
-    returns-8)
+    returns-8
+    returns-9
+    returns-10)

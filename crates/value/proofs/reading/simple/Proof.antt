@@ -1,6 +1,6 @@
 -- By the form.
-use Rattle.value.proofs.ReadWays.{simple-ways}
 use borrow.Author.Needs.{needs}
+use Rattle.value.proofs.ReadWays.{simple-ways}
 use Rattle.value.proofs.reading.simple.Statement.{statement}
 use Rattle.value.proofs.reading.simple.Tie as tie
 
@@ -31,6 +31,12 @@ enum-known-n c = search (needs, simple-ways)
 text-after-requires : tie.Need-text-after-requires
 text-after-requires c κs = search (needs, simple-ways)
 
+enum-known-f-2 : tie.Need-enum-known-f-2
+enum-known-f-2 c = search (needs, simple-ways)
+
+read-requires : tie.Need-read-requires
+read-requires c κs = search (needs, simple-ways)
+
 returns : tie.Need-returns
 returns c = search (needs, simple-ways)
 
@@ -42,6 +48,9 @@ returns-3 c = search (needs, simple-ways)
 
 returns-4 : tie.Need-returns-4
 returns-4 c = search (needs, simple-ways)
+
+returns-5 : tie.Need-returns-5
+returns-5 c = search (needs, simple-ways)
 
 pub simple-spec : {M : Type 1} → statement M
 simple-spec =
@@ -56,7 +65,10 @@ simple-spec =
     enum-known-e-2
     enum-known-n
     text-after-requires
+    enum-known-f-2
+    read-requires
     returns
     returns-2
     returns-3
-    returns-4)
+    returns-4
+    returns-5)

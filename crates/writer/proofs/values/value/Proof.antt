@@ -1,4 +1,4 @@
--- A value is an event noted, as number or text.
+-- A value is an event noted, as number, text or date.
 use Rattle.writer.proofs.SimpleWays.{value-ways}
 use borrow.Author.Needs.{needs}
 use Rattle.writer.proofs.values.value.Statement.{statement}
@@ -28,6 +28,21 @@ enum-told c = search needs
 note-text-requires : tie.Need-note-text-requires
 note-text-requires c κs = search (needs, value-ways)
 
+enum-known-clocked : tie.Need-enum-known-clocked
+enum-known-clocked c = search needs
+
+mul-word-2 : tie.Need-mul-word-2
+mul-word-2 c = search (needs, value-ways)
+
+add-word-2 : tie.Need-add-word-2
+add-word-2 c = search (needs, value-ways)
+
+word-requires-2 : tie.Need-word-requires-2
+word-requires-2 c κs = search (needs, value-ways)
+
+note-date-requires : tie.Need-note-date-requires
+note-date-requires c κs = search (needs, value-ways)
+
 same-length : tie.Need-same-length
 same-length c = search needs
 
@@ -39,6 +54,12 @@ same-length-2 c = search needs
 
 returns-2 : tie.Need-returns-2
 returns-2 c = search (needs, value-ways)
+
+same-length-3 : tie.Need-same-length-3
+same-length-3 c = search needs
+
+returns-3 : tie.Need-returns-3
+returns-3 c = search (needs, value-ways)
 
 pub value-spec : {M : Type 1} → statement M
 value-spec =
@@ -52,7 +73,14 @@ value-spec =
     note-code-requires
     enum-told
     note-text-requires
+    enum-known-clocked
+    mul-word-2
+    add-word-2
+    word-requires-2
+    note-date-requires
     same-length
     returns
     same-length-2
-    returns-2)
+    returns-2
+    same-length-3
+    returns-3)
