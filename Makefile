@@ -6,13 +6,14 @@ CFLAGS = -O2
 # What every C file here is compiled with, besides.
 STRICT = -std=c99 -pedantic -Wall -Wextra -Wconversion -Wsign-conversion -Werror -Iinclude -Itools
 ARCHIVE = target/staticlib/libbim.a
-PROGRAMS = host lengths explain holds mark pack
-TRIALS = refusals faults bits exact threads stack
+PROGRAMS = host lengths write explain holds mark pack
+TRIALS = refusals faults bits exact walk threads stack
 # The programs whose C code runs under the sanitizers. Not stack: it brings a stack of its own, of which they know nothing.
-SANITIZED = $(PROGRAMS) refusals faults bits exact threads header
+SANITIZED = $(PROGRAMS) refusals faults bits exact walk threads header
 SANITIZERS = -O1 -g -fsanitize=$(SANITIZE) -fno-sanitize-recover=all
 export SANITIZE = address,undefined
-VERSION = 2.0
+# The header says which.
+VERSION := $(shell awk '/^.define BIM_VERSION / { printf "%d.%d", $$3 / 100, $$3 % 100 }' include/bim.h)
 
 # The archive is for x86-64. On another processor what is linked with it is compiled for that, and run under an emulator, by tests/emulated/bin.
 ifneq ($(shell uname -m),x86_64)
@@ -60,7 +61,7 @@ $(ARCHIVE): crates.txt $(shell find crates -path '*/src/*.rt' -o -path '*/specs/
 install: $(ARCHIVE)
 	install -d $(DESTDIR)$(PREFIX)/lib/pkgconfig $(DESTDIR)$(PREFIX)/include
 	install -m 644 $(ARCHIVE) $(DESTDIR)$(PREFIX)/lib/libbim.a
-	install -m 644 include/bim.h include/bim_table.h $(DESTDIR)$(PREFIX)/include
+	install -m 644 include/bim.h include/bim_table.h include/bim_walk.h $(DESTDIR)$(PREFIX)/include
 	printf '%s\n' 'prefix=$(abspath $(PREFIX))' 'Name: bim' 'Description: Proved reader and writer of BiM guide fragments' \
 	    'Version: $(VERSION)' 'Cflags: -I$${prefix}/include' 'Libs: -L$${prefix}/lib -lbim' >$(DESTDIR)$(PREFIX)/lib/pkgconfig/bim.pc
 
@@ -73,7 +74,7 @@ quotes: host $(TRIALS:%=target/c/%)
 	bash tests/quotes --write
 
 # The C side under AddressSanitizer and UndefinedBehaviorSanitizer, the C calls and a sample of the comparison under valgrind: a part of the gate.
-sanitized: peer/target/release/calls $(SANITIZED:%=target/sanitized/%) target/c/exact target/c/threads target/c/host
+sanitized: peer/target/release/calls $(SANITIZED:%=target/sanitized/%) target/c/exact target/c/threads target/c/host target/c/write
 	bash tests/sanitized
 
 # The stack that each call needs, held to BIM_STACK.

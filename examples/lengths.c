@@ -1,11 +1,15 @@
-/* Gives every element of a payload its length, so that a receiver that holds less can step over what it does not hold:
- *
- *     lengths [-p PARTY] TABLE ROOT_NAME ROOT_TYPE PAYLOAD >WITH_LENGTHS
- *
- * What the party reads, 0 where none is named, is written again by the short call, with a 1 in every Start. Exit status: 0 written, 1
- * refused, 2 a file is no good. */
-#include "bim.h"
-#include "../tools/files.h"
+/* Gives every element of a payload its length, so that a receiver that holds less can step over what it does not hold. What the party reads is
+ * written again by the short call, with a 1 in every Start. */
+#include "../tools/faults.h"
+
+static const char usage[] = "[-p PARTY] TABLE ROOT_NAME ROOT_TYPE PAYLOAD >WITH_LENGTHS";
+static const char help[] =
+    "Reads a payload as PARTY, 0 where none is named, and writes it with a length for every element, so that a receiver\n"
+    "that holds less can step over what it does not hold.\n"
+    "Exit status:\n"
+    "  0  written\n"
+    "  1  refused, read or written; nothing is written\n"
+    "  2  a wrong call, or the table is wrong, or a file could not be read or written\n";
 
 static uint8_t table[BIM_MOST_TABLE + 4], payload[BIM_MOST_PAYLOAD + 1];
 static uint8_t events[BIM_MOST_EVENTS * BIM_EVENT], texts[BIM_MOST_PAYLOAD], area[BIM_AREA];
@@ -19,37 +23,36 @@ static void give_lengths(uint32_t count)
             events[BIM_EVENT * i + 11] = 1;
 }
 
-/* Whether the call was accepted; if not, says of what it was and where it stopped. */
-static int accepted(const char *what, uint32_t number)
+/* Whether the payload was accepted, read or written; if not, says where it stopped. */
+static int accepted(const char *path, const char *done, const char *place, uint32_t number)
 {
-    if (number != BIM_ACCEPTED)
-        fprintf(stderr, "%s: refused %lu, %s, at %lu\n", what, (unsigned long)number, bim_refusal_name(number), (unsigned long)bim_area_place(area));
-    return number == BIM_ACCEPTED;
+    return number == BIM_ACCEPTED || complain(path, 0, "%s: refused %lu, %s, at %s %lu", done, (unsigned long)number, bim_refusal_name(number),
+                                              place, (unsigned long)bim_area_place(area));
 }
 
 int main(int argc, char **argv)
 {
+    struct call call = begin_call("lengths", usage, help, argc, argv);
+    const char *party_named = option_value(&call, "-p");
     size_t table_bytes, bytes;
-    uint32_t party, root_name, root_type, count;
-    argv = with_party(&argc, argv, &party);
-    if (argv == NULL || argc != 5 || !number_of(argv[2], &root_name) || !number_of(argv[3], &root_type)) {
-        fprintf(stderr, "lengths [-p PARTY] TABLE ROOT_NAME ROOT_TYPE PAYLOAD\n");
-        return 2;
+    uint32_t party = 0, root_name, root_type, count;
+    if (!options_end(&call) || (party_named != NULL && !number_of(party_named, &party)) || call.left != 4 || !number_of(call.next[1], &root_name) ||
+        !number_of(call.next[2], &root_type))
+        return wrong_call(&call);
+    if (!read_file(call.next[0], table, sizeof table, &table_bytes) || !read_file(call.next[3], payload, sizeof payload, &bytes))
+        return finish(STATUS_NO_GOOD);
+    if (bim_check_table(table, table_bytes, area, sizeof area) != BIM_ACCEPTED) {
+        complain_of_table(call.next[0], table, table_bytes, bim_area_place(area));
+        return finish(STATUS_NO_GOOD);
     }
-    if (!read_file(argv[1], table, sizeof table, &table_bytes) || !read_file(argv[4], payload, sizeof payload, &bytes))
-        return 2;
-    if (!accepted("read", bim_read(table, table_bytes, party, root_name, root_type, payload, bytes,
+    if (!accepted(call.next[3], "read", "bit", bim_read(table, table_bytes, party, root_name, root_type, payload, bytes,
                                    events, sizeof events, texts, sizeof texts, area, sizeof area)))
-        return 1;
+        return finish(STATUS_REFUSED);
     count = bim_area_events(area);
     give_lengths(count);
-    if (!accepted("written", bim_write_lengths(table, table_bytes, party, root_name, root_type, events, BIM_EVENT * count,
+    if (!accepted(call.next[3], "written", "event", bim_write_lengths(table, table_bytes, party, root_name, root_type, events, BIM_EVENT * count,
                                                texts, bim_area_text(area), payload, sizeof payload, area, sizeof area)))
-        return 1;
-    bytes = (bim_area_bits(area) + 7) / 8;
-    if (fwrite(payload, 1, bytes, stdout) != bytes || fflush(stdout) != 0) {
-        perror("lengths");
-        return 2;
-    }
-    return 0;
+        return finish(STATUS_REFUSED);
+    fwrite(payload, 1, (bim_area_bits(area) + 7) / 8, stdout);
+    return finish(STATUS_DONE);
 }

@@ -45,6 +45,9 @@
 extern "C" {
 #endif
 
+/* The version of this header: 100 times its first number, and its second. A host may ask for it: #if BIM_VERSION < 200. */
+#define BIM_VERSION 200
+
 /* The bytes of an answer area and of an event; the most events, payload bytes, table bytes, rows open at once (elements and particle
  * rows) and names of a path there are; the greatest word, where places stop.
  * Rooms that are never too small: BIM_MOST_EVENTS * BIM_EVENT bytes for events, BIM_MOST_PAYLOAD bytes for texts and for a payload. */
@@ -221,6 +224,27 @@ uint32_t bim_read(const uint8_t *table, size_t table_bytes,
                   uint8_t *events, size_t events_bytes,
                   uint8_t *texts, size_t texts_bytes,
                   uint8_t *area, size_t area_bytes);
+
+/* THE GRAMMAR OF A LIST, for whoever makes one to be written: the events stand in the order of the table's rows (bim_table.h).
+ *
+ *     list      = element                               of the root's name and type; the root has no Cast
+ *     element   = Start [Cast] attribute.. content End  a Cast where bim_row_has_codes says so; from there on the type is the Cast's
+ *     attribute = Attribute [Value]                     one for each attribute row of the type, in their order, required ones too
+ *     content   = nothing | Value | particle            as the type's content is empty, simple, or particles
+ *     particle  = element                               of an element row: its name and type
+ *               | particle particle ..                  of a sequence: each of its child rows in turn
+ *               | Pick particle                         of a choice: the child row that Pick tells, from 0
+ *               | Times particle ..                     of an occurs row: the child row as often as Times tells, which may be 0
+ *
+ *     Start      p the element's name, that of its row also where a substitute stands for it; q by mode: 0 in the modes 0 and 4, 1 in 2 and 6, and
+ *                in 1 and 5 it is free: 1 codes a length, 0 none
+ *     Cast       p the type in effect: the row's, or that of the substitute, or in the modes 4 to 6 one derived from it; q the substitute, from 1,
+ *                or 0
+ *     Attribute  p its name; q 1, and its Value follows, or 0, which a required one may not have
+ *     Value      p as the simple kind has it, and q of a dateTime or a date; of a text how many bytes: those stand in the texts, one behind the other
+ *     Pick, Times, End  p as above, of End 0
+ *
+ * q is 0 where nothing is said of it, and the fourth word is ignored. A Blank is never written. bim_walk.h walks such a list. */
 
 /* Writes a list of events, as bim_read gives them, as a payload.
  *

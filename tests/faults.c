@@ -2,7 +2,7 @@
  * each: faults TABLE.
  * Where the library finds a fault for which explain has no reason, it says so; exit status 1. */
 #include "faults.h"
-#include "files.h"
+#include "io.h"
 
 static uint8_t table[BIM_MOST_TABLE + 8], area[BIM_AREA];
 static int unexplained;

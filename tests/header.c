@@ -1,6 +1,6 @@
 /* Every inline function of the headers on bytes whose answer is plain; compiled as C and as C++. */
 #include "bim.h"
-#include "bim_table.h"
+#include "bim_walk.h"
 #include <stdio.h>
 #include <stdlib.h>
 #include <string.h>
@@ -156,6 +156,43 @@ static void try_no_past_rows(void)
     free(table);
 }
 
+/* A root of one boolean, true: three steps, and a list that is cut. */
+static void try_walk(void)
+{
+    static const uint32_t words[] = {1, 1, 0, 0, 1, BIM_SIMPLE, 0, 0, BIM_BOOLEAN, 0, 0};
+    static const uint32_t list[] = {BIM_KIND_START, 10, 0, 2, BIM_KIND_VALUE, 1, 0, 1, BIM_KIND_END, 0, 0, 0};
+    uint8_t table[sizeof words], events[sizeof list], area[BIM_AREA];
+    struct bim_walk walk;
+    struct bim_step step;
+    size_t i;
+    memset(table, 0, sizeof table);
+    memset(events, 0, sizeof events);
+    memset(area, 0, sizeof area);
+    for (i = 0; i < sizeof words / 4; i++)
+        table[4 * i + 3] = (uint8_t)words[i];
+    for (i = 0; i < sizeof list / 4; i++)
+        events[4 * i + 3] = (uint8_t)list[i];
+    area[11] = 3;
+    bim_walk_area(&walk, table, 10, 0, events, NULL, area);
+    same("step of the Start", bim_walk_next(&walk, &step), 1);
+    same("its place", step.place, 8);
+    same("its row", step.row, BIM_NO_ROW);
+    same("its simple kind", step.simple, BIM_NO_SIMPLE);
+    same("step of the Value", bim_walk_next(&walk, &step), 1);
+    same("its kind", step.kind, BIM_KIND_VALUE);
+    same("its place", step.place, 10);
+    same("its simple kind", step.simple, BIM_BOOLEAN);
+    same("its element's name", step.name, 10);
+    same("of no attribute", step.of_attribute, 0);
+    same("step of the End", bim_walk_next(&walk, &step), 1);
+    same("its depth", step.depth, 0);
+    same("the list's end", bim_walk_next(&walk, &step), 0);
+    bim_walk_begin(&walk, table, 10, 0, BIM_MODE_ALWAYS, events, 2, NULL, 0);
+    same("step of the Start", bim_walk_next(&walk, &step), 1);
+    same("step of the Value", bim_walk_next(&walk, &step), 1);
+    same("no End", bim_walk_next(&walk, &step), -1);
+}
+
 static void try_names(void)
 {
     uint32_t one, other;
@@ -208,6 +245,8 @@ int main(void)
     try_rows();
     try_past_rows();
     try_no_past_rows();
+    try_walk();
+    same("version", BIM_VERSION, 200);
     try_names();
     try_calls();
     try_bits();

@@ -4,7 +4,7 @@
 #define _XOPEN_SOURCE 700
 #include <pthread.h>
 #include "bim_table.h"
-#include "files.h"
+#include "io.h"
 
 enum { THREADS = 2 };
 

@@ -1,10 +1,15 @@
-/* Says of a table file whether it is right; of a wrong one which word is at fault, and why; of a right one what each row is.
- *
- *     explain [-n NAMES] TABLE
- *
- * Exit status: 0 right, 1 wrong, 2 it could not be read. */
+/* Says of a table file whether it is right; of a wrong one which word is at fault, and why; of a right one what each row is. */
 #include "faults.h"
-#include "files.h"
+#include "names.h"
+
+static const char usage[] = "[-n NAMES] TABLE";
+static const char help[] =
+    "Says of a table whether it is right; of a wrong one which word is at fault, and why; of a right one what each row is.\n"
+    "NAMES has a number and its word on each line.\n"
+    "Exit status:\n"
+    "  0  right\n"
+    "  1  wrong\n"
+    "  2  a wrong call, or a file could not be read or written\n";
 
 static uint8_t table[BIM_MOST_TABLE + 4], area[BIM_AREA];
 
@@ -159,22 +164,21 @@ static void print_row_substitutes(uint32_t row)
 
 int main(int argc, char **argv)
 {
+    struct call call = begin_call("explain", usage, help, argc, argv);
+    const char *names_path = option_value(&call, "-n");
     size_t bytes;
     uint32_t row;
-    argv = with_names(&argc, argv);
-    if (argv == NULL || argc != 2) {
-        fprintf(stderr, "explain [-n NAMES] TABLE\n");
-        return 2;
-    }
-    if (!read_file(argv[1], table, sizeof table, &bytes))
-        return 2;
+    if (!options_end(&call) || call.left != 1)
+        return wrong_call(&call);
+    if ((names_path != NULL && !read_names(names_path)) || !read_file(call.next[0], table, sizeof table, &bytes))
+        return finish(STATUS_NO_GOOD);
     if (bim_check_table(table, bytes, area, sizeof area) != BIM_ACCEPTED) {
         struct sentence why;
         const uint32_t place = bim_area_place(area);
         if (!fault_in_words(&why, table, bytes, place))
             say(&why, "at fault");
         printf("wrong at word %lu: %s\n", (unsigned long)place, why.words);
-        return 1;
+        return finish(STATUS_REFUSED);
     }
     printf("right: %lu words", (unsigned long)(bytes / 4));
     print_count("type", "types", bim_types(table));
@@ -199,5 +203,5 @@ int main(int argc, char **argv)
         print_type_derived(row);
     for (row = 0; row < bim_particles(table); row++)
         print_row_substitutes(row);
-    return 0;
+    return finish(STATUS_DONE);
 }

@@ -2,9 +2,8 @@
 #ifndef FAULTS_H
 #define FAULTS_H
 
-#include <stdarg.h>
-#include <stdio.h>
 #include "bim_table.h"
+#include "io.h"
 
 /* The sentence as it grows. */
 struct sentence {
@@ -340,6 +339,14 @@ static int fault_in_words(struct sentence *s, const uint8_t *table, size_t bytes
     if (place < bim_rows_end(table))
         return fault_particle(s, table, (place - at) / 4, (place - at) % 4);
     return fault_past_rows(s, table, place);
+}
+
+/* Says of a table file that it is wrong, where and why; answers 0. */
+static inline int complain_of_table(const char *path, const uint8_t *table, size_t bytes, uint32_t place)
+{
+    struct sentence why;
+    fault_in_words(&why, table, bytes, place);
+    return complain(path, 0, "wrong at word %lu: %s", (unsigned long)place, why.words);
 }
 
 #endif
