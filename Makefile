@@ -1,15 +1,15 @@
 # Two commands for everybody (run, test), two for C programmers (host, install), the rest for those who work here.
-.PHONY: test run host install fuzz soak stack sanitized bench figures peer fmt face quotes
+.PHONY: test run host install fuzz soak soak-shelves stack sanitized bench figures peer fmt face quotes
 
 PREFIX = /usr/local
 CFLAGS = -O2
 # What every C file here is compiled with, besides.
 STRICT = -std=c99 -pedantic -Wall -Wextra -Wconversion -Wsign-conversion -Werror -Iinclude -Itools
 ARCHIVE = target/staticlib/libbim.a
-PROGRAMS = host lengths write explain holds mark pack
-TRIALS = refusals faults bits exact walk threads stack
+PROGRAMS = host lengths write explain holds mark pack shelf
+TRIALS = refusals faults bits exact walk threads stack shelves cuts
 # The programs whose C code runs under the sanitizers. Not stack: it brings a stack of its own, of which they know nothing.
-SANITIZED = $(PROGRAMS) refusals faults bits exact walk threads header
+SANITIZED = $(PROGRAMS) refusals faults bits exact walk threads header shelves cuts
 SANITIZERS = -O1 -g -fsanitize=$(SANITIZE) -fno-sanitize-recover=all
 export SANITIZE = address,undefined
 # The header says which.
@@ -46,6 +46,9 @@ target/c/%: %.c $(ARCHIVE) $(wildcard include/*.h tools/*.h tests/*.h)
 # Two threads, by POSIX.
 target/c/threads target/sanitized/threads: STRICT += -pthread
 
+# The program whose calls of the system it cuts is a part of it.
+target/c/cuts target/sanitized/cuts: tools/shelf.c
+
 target/sanitized/%: %.c $(ARCHIVE) $(wildcard include/*.h tools/*.h tests/*.h)
 	@mkdir -p target/sanitized
 	$(CC) $(STRICT) $(SANITIZERS) $< $(ARCHIVE) -o $@
@@ -74,7 +77,7 @@ quotes: host $(TRIALS:%=target/c/%)
 	bash tests/quotes --write
 
 # The C side under AddressSanitizer and UndefinedBehaviorSanitizer, the C calls and a sample of the comparison under valgrind: a part of the gate.
-sanitized: peer/target/release/calls $(SANITIZED:%=target/sanitized/%) target/c/exact target/c/threads target/c/host target/c/write
+sanitized: peer/target/release/calls $(SANITIZED:%=target/sanitized/%) target/c/exact target/c/threads target/c/host target/c/write target/c/shelf target/c/shelves
 	bash tests/sanitized
 
 # The stack that each call needs, held to BIM_STACK.
@@ -93,6 +96,12 @@ soak: SEED = $(shell date +%s)
 soak: peer/target/release/calls
 	bash tests/soak $(CASES) $(SEED)
 
+# Damaged shelf files alone, at least a million of them: make soak-shelves FILES=1000000 SEED=1. Prints rows of docs/FIGURES.md.
+soak-shelves: FILES = 1000000
+soak-shelves: SEED = $(shell date +%s)
+soak-shelves: peer/target/release/calls
+	bash tests/soak --shelves $(FILES) $(SEED)
+
 peer/target/release/calls: $(ARCHIVE) $(shell find peer/src peer/build.rs peer/Cargo.toml) $(wildcard examples/*.txt)
 	cd peer && cargo build --release --locked --offline --quiet --features host_write --bin calls
 	@touch $@
@@ -102,7 +111,7 @@ bench:
 	@$(MAKE) --no-print-directory $(ARCHIVE) >&2
 	@cd peer && cargo build --profile speed --locked --offline --quiet --features host_write --bin speed && target/speed/speed
 
-# docs/FIGURES.md anew, or only some of its parts: make figures PARTS="lines stack" (lines gate stack speed split soak fuzz).
+# docs/FIGURES.md anew, or only some of its parts: make figures PARTS="lines stack" (lines gate stack speed split soak shelves fuzz).
 figures: PARTS =
 figures: target/c/stack peer/target/release/calls
 	@bash dev/figures $(PARTS) >target/figures.md && mv target/figures.md docs/FIGURES.md

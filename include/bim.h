@@ -125,7 +125,10 @@ enum {
     BIM_TEXT_BYTES = 23,    /* text bytes short, or left over: event, or the event count */
     BIM_AREA_SIZE = 24,     /* the area has not BIM_AREA bytes: 0 */
     BIM_CONTROL = 25,       /* text with a control character, a byte below 32 other than 9, 10, 13: item */
-    BIM_PARTY = 26          /* party over 7: 0 */
+    BIM_PARTY = 26,         /* party over 7: 0 */
+    BIM_BLOCK_CHECK = 31,   /* check of a block of a shelf wrong: block */
+    BIM_BLOCK_TURN = 32,    /* number of a block out of turn: block */
+    BIM_BLOCK_LAYOUT = 33   /* layout of a shelf, or of a stream of records: block */
 };
 
 /* THE AREA, word by word; it has BIM_AREA bytes. */
@@ -185,6 +188,9 @@ static inline const char *bim_refusal_name(uint32_t number)
     case BIM_AREA_SIZE: return "answer area not 152 bytes";
     case BIM_CONTROL: return "control character in a text";
     case BIM_PARTY: return "party over 7";
+    case BIM_BLOCK_CHECK: return "check of a block wrong";
+    case BIM_BLOCK_TURN: return "block number out of turn";
+    case BIM_BLOCK_LAYOUT: return "shelf layout";
     default: return "no number of this library";
     }
 }
@@ -293,6 +299,81 @@ uint32_t bim_write_lengths(const uint8_t *table, size_t table_bytes,
 uint32_t bim_set_held(uint8_t *table, size_t table_bytes,
                       uint32_t party, uint32_t type, uint32_t mark,
                       uint8_t *area, size_t area_bytes);
+
+/* SHELVES: payloads kept in a file.
+ *
+ * A STREAM is records one after another: BIM_RECORD_HEAD bytes, three numbers of 2 (length, root name, root type), then length bytes, at most
+ * BIM_MOST_PAYLOAD, none too. Names, types and payloads are not judged: a shelf keeps what it is given.
+ *
+ * A SHELF FILE is blocks of BIM_BLOCK_BYTES bytes that hold a stream (docs/SHELF.md):
+ *
+ *     bytes    0..3      number   from 0
+ *              4..5      used     data bytes, BIM_BLOCK_DATA in all blocks but the last
+ *              6..7      first    where the first record begins that begins in the data, or BIM_NO_START
+ *              8..505    data     what is not used is 0
+ *            506..507    0
+ *            508..511    the sum of the 127 words before it, modulo 2^32
+ *
+ * A stream has one file and a file one stream. THE AREA has exactly BIM_SHELF_AREA bytes: the place, 4 bytes, then five numbers of 8 bytes,
+ * the last two 0 in these two calls. On a refusal all five are 0, and every output buffer is 0 throughout; an area of another size is
+ * BIM_AREA_SIZE as above. BIM_PAYLOAD_ROOM is an output buffer too small, at 0: what was lent is 0 then too. On acceptance what an output buffer
+ * has past its content is 0. */
+#define BIM_BLOCK_BYTES 512
+#define BIM_BLOCK_HEAD 8    /* before the data */
+#define BIM_BLOCK_DATA 498
+#define BIM_BLOCK_BODY 508  /* before the sum */
+#define BIM_MOST_BLOCKS 4294967296
+#define BIM_NO_START 65535
+#define BIM_RECORD_HEAD 6
+#define BIM_SHELF_AREA 44
+/* The bytes of the file of a stream of n bytes. */
+#define BIM_SHELF_ROOM(n) (((n) / BIM_BLOCK_DATA + ((n) % BIM_BLOCK_DATA != 0)) * BIM_BLOCK_BYTES)
+
+/* The area, number by number. */
+static inline uint64_t bim_long(const uint8_t *bytes)
+{
+    const uint64_t high = bim_word(bytes), low = bim_word(bytes + 4);
+    return high << 32 | low;
+}
+static inline uint32_t bim_shelf_place(const uint8_t *area) { return bim_word(area); }
+static inline uint64_t bim_shelf_records(const uint8_t *area) { return bim_long(area + 4); }       /* how many */
+static inline uint64_t bim_shelf_stream_bytes(const uint8_t *area) { return bim_long(area + 12); }  /* of the stream */
+static inline uint64_t bim_shelf_file_bytes(const uint8_t *area) { return bim_long(area + 20); }    /* of the file read, or written */
+
+/* A record of a stream; the next one begins bim_record_bytes further on. */
+static inline uint32_t bim_half(const uint8_t *bytes)
+{
+    const uint32_t high = bytes[0], low = bytes[1];
+    return high << 8 | low;
+}
+static inline uint32_t bim_record_length(const uint8_t *record) { return bim_half(record); }
+static inline uint32_t bim_record_name(const uint8_t *record) { return bim_half(record + 2); }
+static inline uint32_t bim_record_type(const uint8_t *record) { return bim_half(record + 4); }
+static inline const uint8_t *bim_record_payload(const uint8_t *record) { return record + BIM_RECORD_HEAD; }
+static inline uint32_t bim_record_bytes(const uint8_t *record) { return BIM_RECORD_HEAD + bim_record_length(record); }
+
+/* Writes the file of a stream.
+ *
+ *     records    the stream
+ *     file       written: room for BIM_SHELF_ROOM(records_bytes) bytes is just enough
+ *     area       written: records, bytes of the stream, bytes of the file
+ *
+ * Refusals come in this order: 24; 33 for the first record whose length is over 8,192, at the block of the length's second byte, or else for a
+ * stream that ends inside a record, at its last block; 21. */
+uint32_t bim_shelf_write(const uint8_t *records, size_t records_bytes,
+                         uint8_t *file, size_t file_bytes,
+                         uint8_t *area, size_t area_bytes);
+
+/* Reads the stream of a file: every file that is accepted is the one that bim_shelf_write makes of its stream. No bytes are no records.
+ *
+ *     file       any bytes
+ *     records    written: file_bytes are always room enough
+ *     area       written: records, bytes of the stream, bytes of the file
+ *
+ * Refusals come in this order: 24; block by block 31, 32, 33; 21. A part of a block at the end is 33. */
+uint32_t bim_shelf_read(const uint8_t *file, size_t file_bytes,
+                        uint8_t *records, size_t records_bytes,
+                        uint8_t *area, size_t area_bytes);
 
 /* THE LENT BIT READER, for the host's own small parsers: one code of any bytes, from a place on. A place is a bit, counted from the most
  * significant bit of byte 0. What lies past the bytes' end is never read; nor is bit 2^32 - 1 or any past it, as places stop there.

@@ -44,6 +44,29 @@ static void try_events(void)
     same("bits", bim_event_bits(events, 2), 0xf4f5f6f7);
 }
 
+/* Byte i is i + 120, so that each number of an area and a record differs. */
+static void try_shelf(void)
+{
+    uint8_t bytes[BIM_SHELF_AREA];
+    const size_t whole = BIM_BLOCK_DATA;
+    uint32_t i;
+    for (i = 0; i < sizeof bytes; i++)
+        bytes[i] = (uint8_t)(i + 120);
+    same("shelf's place", bim_shelf_place(bytes), 0x78797a7b);
+    same("records", (long long)bim_shelf_records(bytes), 0x7c7d7e7f80818283);
+    same("bytes of the stream", (long long)(bim_shelf_stream_bytes(bytes) >> 1), 0x8485868788898a8bu >> 1);
+    same("bytes of the file", (long long)(bim_shelf_file_bytes(bytes) >> 1), 0x8c8d8e8f90919293u >> 1);
+    same("record's length", bim_record_length(bytes + 10), 0x8283);
+    same("record's name", bim_record_name(bytes + 10), 0x8485);
+    same("record's type", bim_record_type(bytes + 10), 0x8687);
+    same("record's payload", bim_record_payload(bytes + 10) - bytes, 16);
+    same("record's bytes", bim_record_bytes(bytes + 10), 0x8283 + 6);
+    same("room for nothing", (long long)BIM_SHELF_ROOM(whole - whole), 0);
+    same("room for a byte", (long long)BIM_SHELF_ROOM(whole - 497), 512);
+    same("room for a block", (long long)BIM_SHELF_ROOM(whole), 512);
+    same("room for a byte more", (long long)BIM_SHELF_ROOM(whole + 1), 1024);
+}
+
 static void try_rows(void)
 {
     /* 2 types, 1 attribute row, 2 particle rows; each word after the header is its own index. */
@@ -195,15 +218,19 @@ static void try_walk(void)
 
 static void try_names(void)
 {
-    uint32_t one, other;
-    for (one = 0; one <= BIM_PARTY + 1; one++)
+    const char *const none = bim_refusal_name(0xffffffffu);
+    uint32_t one, other, named = 0;
+    for (one = 0; one <= BIM_BLOCK_LAYOUT + 1; one++) {
+        named += strcmp(bim_refusal_name(one), none) != 0;
         for (other = 0; other < one; other++)
-            if (strcmp(bim_refusal_name(one), bim_refusal_name(other)) == 0)
+            if (strcmp(bim_refusal_name(one), bim_refusal_name(other)) == 0 && strcmp(bim_refusal_name(one), none) != 0)
                 same("numbers of one name", one, other);
-    same("past the numbers", strcmp(bim_refusal_name(BIM_PARTY + 1), bim_refusal_name(0xffffffffu)), 0);
+    }
+    /* 0 to 26, and those of shelves. */
+    same("numbers with a name", named, 27 + 3);
 }
 
-/* The five calls link, and take null pointers with lengths of 0. */
+/* The calls link, and take null pointers with lengths of 0. */
 static void try_calls(void)
 {
     uint8_t area[BIM_AREA];
@@ -212,6 +239,8 @@ static void try_calls(void)
     same("write", bim_write(NULL, 0, 0, 0, 0, 0, NULL, 0, NULL, 0, NULL, 0, area, sizeof area), BIM_TABLE);
     same("write with lengths", bim_write_lengths(NULL, 0, 0, 0, 0, NULL, 0, NULL, 0, NULL, 0, area, sizeof area), BIM_TABLE);
     same("set", bim_set_held(NULL, 0, 0, 0, 0, area, sizeof area), BIM_TABLE);
+    same("shelf written", bim_shelf_write(NULL, 0, NULL, 0, area, BIM_SHELF_AREA), BIM_ACCEPTED);
+    same("shelf read", bim_shelf_read(NULL, 0, NULL, 0, area, BIM_SHELF_AREA), BIM_ACCEPTED);
     same("no area", bim_check_table(NULL, 0, NULL, 0), BIM_AREA_SIZE);
 }
 
@@ -242,6 +271,7 @@ int main(void)
 {
     try_area();
     try_events();
+    try_shelf();
     try_rows();
     try_past_rows();
     try_no_past_rows();

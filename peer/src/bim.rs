@@ -57,6 +57,12 @@ pub const AREA_SIZE: u32 = 24;
 pub const CONTROL: u32 = 25;
 /// The party is over 7.
 pub const PARTY: u32 = 26;
+/// The check of a block of a shelf is wrong.
+pub const BLOCK_CHECK: u32 = 31;
+/// A block's number is out of turn.
+pub const BLOCK_TURN: u32 = 32;
+/// The layout of a shelf is wrong.
+pub const BLOCK_LAYOUT: u32 = 33;
 
 // The kinds of an event, its first word.
 
@@ -140,6 +146,24 @@ pub const MOST_NAMES: usize = 64;
 pub const MOST_WORD: u32 = 4_294_967_295;
 /// How many parties have marks in a table, counted from 0.
 pub const PARTIES: u32 = 8;
+/// The bytes of the area of the calls for shelves.
+pub const SHELF_AREA: usize = 44;
+/// The bytes of a block of a shelf.
+pub const BLOCK_BYTES: usize = 512;
+/// The bytes of a block before its data.
+pub const BLOCK_HEAD: usize = 8;
+/// The bytes of a block that are there for records.
+pub const BLOCK_DATA: usize = 498;
+/// The bytes of a block before its sum.
+pub const BLOCK_BODY: usize = 508;
+/// The words that a sum adds up.
+pub const BLOCK_WORDS: usize = 127;
+/// The most blocks of a shelf: numbers are words.
+pub const MOST_BLOCKS: u64 = 4_294_967_296;
+/// The bytes of a record before its payload.
+pub const RECORD_HEAD: usize = 6;
+/// `first` of a block in which no record begins.
+pub const NO_START: u16 = 65_535;
 
 // What the headers have no name for.
 

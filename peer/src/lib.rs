@@ -26,6 +26,7 @@ pub mod program;
 pub mod reader;
 pub mod rng;
 pub mod rows;
+pub mod shelf;
 pub mod speed;
 pub mod swift;
 pub mod table;

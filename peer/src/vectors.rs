@@ -11,7 +11,7 @@ use crate::call::{Call, Read, Set, Write};
 use crate::cases::Case;
 use crate::model::bytes_of;
 use crate::words::{hex, unhex};
-use crate::{bits, codes, reader, table, utf8, value};
+use crate::{bits, codes, reader, shelf, table, utf8, value};
 
 /// The vectors of a file. Between them lines that begin with `#` are for the eye.
 pub fn vectors_of(file: &str) -> impl Iterator<Item = &str> {
@@ -51,6 +51,9 @@ fn is_vector(piece: &str) -> bool {
 
 /// The vector with the answer that the peer gives now; `None` where it cannot be understood.
 pub fn again(vector: &str) -> Option<String> {
+    if vector.starts_with("case ") && shelf::vectors::is_shelf(vector) {
+        return shelf::vectors::again(vector);
+    }
     if vector.starts_with("case ") {
         let (asked, _) = vector.split_once("\nanswer ")?;
         return Some(format!("{}{}end\n", asked_again(asked)?, answered(&case_of(vector)?.call)));

@@ -25,6 +25,7 @@ ghost use mathlib.Core.Path.{_≡_};
 ghost use mathlib.Core.List.{[], _∷_};
 ghost use lib.ListN.{length};
 ghost use Rattle.numbers.specs.Mode.{always};
+ghost use Rattle.shelf.specs.Calls as shelf;
 ghost use Rattle.value.specs.Simple.{AllBytes};
 ghost use Rattle.bim.specs.Calls.{back, checkTable, readCall, writeCall, setCall};
 ghost use Rattle.bim.specs.Contracts.{WrittenAndTold};
@@ -195,4 +196,24 @@ pub extern "C" fn bim_set_held(
     let s = set_bytes(table, party, ty, mark);
     tell_place(area, s.place);
     s.number
+}
+
+// Writes a stream of records as a shelf file.
+#[no_mangle]
+pub extern "C" fn bim_shelf_write(records: &[u8], file: &mut [u8], area: &mut [u8]) -> u32
+    ensures { λ r. ⌜
+        shelf.back r (now (area .exit)) (now (file .exit) ∷ [])
+        ≡ shelf.writeCall (now (records .entry)) (length (now (file .entry))) (length (now (area .entry))) ⌝ }
+{
+    shelf::calls::call_write(records, file, area)
+}
+
+// Reads a shelf file into the stream of its records.
+#[no_mangle]
+pub extern "C" fn bim_shelf_read(file: &[u8], records: &mut [u8], area: &mut [u8]) -> u32
+    ensures { λ r. ⌜
+        shelf.back r (now (area .exit)) (now (records .exit) ∷ [])
+        ≡ shelf.readCall (now (file .entry)) (length (now (records .entry))) (length (now (area .entry))) ⌝ }
+{
+    shelf::calls::call_read(file, records, area)
 }

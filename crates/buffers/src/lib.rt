@@ -48,7 +48,7 @@ pub fn load(s: &[u8], words: &mut [u32], n: usize)
 }
 
 // A word as four bytes from a place on.
-fn put_word(s: &mut [u8], at: usize, w: u32)
+pub fn put_word(s: &mut [u8], at: usize, w: u32)
     requires { ⌜ at + 3 < length (now s) ⌝ }
     ensures { λ _. ⌜ now (s .exit) ≡ sets (now (s .entry)) at (four w) ⌝ }
 {

@@ -78,3 +78,30 @@ mostHeld = 255
 
 abbrev pub dayMilliseconds : ℕ
 dayMilliseconds = 86400000
+
+abbrev pub shelfArea : ℕ
+shelfArea = 44
+
+abbrev pub recordHead : ℕ
+recordHead = 6
+
+abbrev pub blockBytes : ℕ
+blockBytes = 512
+
+abbrev pub blockHead : ℕ
+blockHead = 8
+
+abbrev pub blockBody : ℕ
+blockBody = 508
+
+abbrev pub blockData : ℕ
+blockData = 498
+
+abbrev pub blockWords : ℕ
+blockWords = 127
+
+abbrev pub noStart : ℕ
+noStart = 65535
+
+abbrev pub mostBlocks : ℕ
+mostBlocks = 4294967296

@@ -81,3 +81,12 @@ control = 25
 
 abbrev pub party : ℕ
 party = 26
+
+abbrev pub blockCheck : ℕ
+blockCheck = 31
+
+abbrev pub blockTurn : ℕ
+blockTurn = 32
+
+abbrev pub blockLayout : ℕ
+blockLayout = 33

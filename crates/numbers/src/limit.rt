@@ -52,3 +52,21 @@ pub const MOST_TEXT: u32 = 4095;
 pub const MOST_WORD: u32 = 4294967295;
 // The milliseconds of a day.
 pub const DAY_MILLISECONDS: u32 = 24 * 60 * 60 * 1000;
+// The bytes of a shelf call's area: the place, then five numbers of 8 bytes.
+pub const SHELF_AREA: usize = 44;
+// The bytes of a record's head: length, root name, root type.
+pub const RECORD_HEAD: usize = 6;
+// The bytes of a block of a shelf file; of its head; of what its sum is over; and the most that it has of the stream.
+pub const BLOCK_BYTES: usize = 512;
+
+pub const BLOCK_HEAD: usize = 8;
+
+pub const BLOCK_BODY: usize = 508;
+
+pub const BLOCK_DATA: usize = 498;
+// The words that a block's sum is over.
+pub const BLOCK_WORDS: usize = BLOCK_BODY / 4;
+// What stands for the first record of a block in which none begins.
+pub const NO_START: u32 = 65535;
+// The most blocks of a file: a block's number is a word.
+pub const MOST_BLOCKS: usize = 4294967296;

@@ -54,3 +54,9 @@ pub const AREA_SIZE: u32 = 24;
 pub const CONTROL: u32 = 25;
 // The party is none of PARTIES.
 pub const PARTY: u32 = 26;
+// The check of a block of a shelf file is wrong.
+pub const BLOCK_CHECK: u32 = 31;
+// A block's number is out of turn.
+pub const BLOCK_TURN: u32 = 32;
+// A shelf file or a stream of records is not laid out as it must be.
+pub const BLOCK_LAYOUT: u32 = 33;

@@ -1,6 +1,7 @@
-//! Tries the three demands: `properties [count] [seed]`. Exit status 1 on a violation, or where some number or some
+//! Tries the three demands, and the theorems of shelves: `properties [count] [seed]`. Exit status 1 on a violation, or where some number or some
 //! side of a limit was not met.
 
+use peer::calls::shelves::ShelfJudge;
 use peer::demands::{named, Tally};
 use peer::program::{count_and_seed, status, usage};
 use peer::trials::{trial, KINDS};
@@ -27,7 +28,9 @@ fn main() -> ExitCode {
     }
     let sides: Vec<_> = LIMITS.lines().filter(|line| !line.starts_with('#')).collect();
     for side in &sides {
-        if !cases.iter().any(|case| case.name.starts_with(*side)) {
+        let mut names =
+            cases.iter().map(|case| &case.name).chain(peer::shelf::vectors::all().iter().map(|(name, _)| name));
+        if !names.any(|name| name.starts_with(*side)) {
             faults.push(format!("no named case stands at \"{side}\""));
         }
     }
@@ -52,6 +55,10 @@ fn main() -> ExitCode {
                 break;
             }
         }
+    }
+    let shelves = peer::calls::run_shelves(&ShelfJudge, count / 4, seed).report(count < 40_000);
+    if !shelves {
+        faults.push("a theorem of shelves does not hold, or not all of it was met".to_string());
     }
     println!("named cases {}, sides of limits {}", cases.len(), sides.len());
     report(&tally, &kinds);

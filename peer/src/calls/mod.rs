@@ -9,6 +9,7 @@ mod coded;
 mod pairs;
 mod reading;
 mod setting;
+pub mod shelves;
 mod tally;
 mod writing;
 
@@ -17,6 +18,7 @@ pub use bits::{run as run_bits, BitBench, BitCalls};
 pub use case::{Call, Case};
 pub use change::change;
 pub use coded::{code, decode, seeds};
+pub use shelves::{damage as damage_shelves, run as run_shelves, ShelfBench, ShelfCalls, ShelfCase};
 
 use crate::cases;
 use crate::host;

@@ -1,6 +1,6 @@
-//! The proved library's C calls against the peer: `calls [--sample] [cases] [seed]`. Exit status 1 on a difference, or where
+//! The proved library's C calls against the peer: `calls [--sample | --shelves] [cases] [seed]`. Exit status 1 on a difference, or where
 //! a number that a call can answer was never met, or a refusal of substitution, casting and dates among the seeded cases. A sample has no
-//! named cases, and may miss numbers.
+//! named cases, and may miss numbers. With `--shelves` the calls for shelves alone are asked, until so many files were damaged.
 
 mod proved;
 
@@ -11,17 +11,25 @@ use std::time::Instant;
 fn main() -> ExitCode {
     let mut words = std::env::args().skip(1).peekable();
     let sample = words.next_if(|word| word == "--sample").is_some();
+    let shelves = words.next_if(|word| word == "--shelves").is_some();
     let Some((cases, seed)) = count_and_seed(words, 300_000) else {
-        return usage("calls [--sample] [cases] [seed]");
+        return usage("calls [--sample | --shelves] [cases] [seed]");
     };
     let begun = Instant::now();
     let library = proved::Library::default();
+    if shelves {
+        let good = peer::calls::damage_shelves(&library, cases, seed).report(false);
+        println!("time {:.1} s", begun.elapsed().as_secs_f64());
+        return status(good);
+    }
     let run = if sample { peer::calls::sample } else { peer::calls::run };
     let mut bench = run(&library, cases, seed);
     let good = bench.report() && (sample || bench.items_are_whole());
     // Codes are small: a sample takes more of them, so that every number is met.
     let codes = if sample { 20 * cases } else { cases };
     let good = peer::calls::run_bits(&library, codes, seed).report() && good;
+    // A round is some calls, each on several blocks.
+    let good = peer::calls::run_shelves(&library, cases / 4, seed).report(sample) && good;
     println!("time {:.1} s", begun.elapsed().as_secs_f64());
     status(good)
 }

@@ -3,7 +3,7 @@
 //! SAFETY, of every call below: the archive's functions are proved safe for all arguments of their types, with no
 //! `requires`; a slice passes as its pointer and its length, and no two of them overlap.
 
-use peer::calls::{BitCalls, Calls, Reading, Setting, Writing};
+use peer::calls::{BitCalls, Calls, Reading, Setting, ShelfCalls, Writing};
 use peer::lent::Coding;
 use std::cell::Cell;
 
@@ -72,6 +72,22 @@ extern "C" {
         party: u32,
         of_type: u32,
         mark: u32,
+        area: *mut u8,
+        area_len: usize,
+    ) -> u32;
+    fn bim_shelf_write(
+        records: *const u8,
+        records_len: usize,
+        file: *mut u8,
+        file_len: usize,
+        area: *mut u8,
+        area_len: usize,
+    ) -> u32;
+    fn bim_shelf_read(
+        file: *const u8,
+        file_len: usize,
+        records: *mut u8,
+        records_len: usize,
         area: *mut u8,
         area_len: usize,
     ) -> u32;
@@ -189,5 +205,17 @@ impl BitCalls for Library {
 
     fn left(&self, bytes: &[u8], place: u32) -> u32 {
         unsafe { bim_bits_left(self.given(bytes), bytes.len(), place) }
+    }
+}
+
+impl ShelfCalls for Library {
+    fn shelf_write(&self, records: &[u8], file: &mut [u8], area: &mut [u8]) -> u32 {
+        let (given, made, lent) = (self.given(records), self.lent(file), self.lent(area));
+        unsafe { bim_shelf_write(given, records.len(), made, file.len(), lent, area.len()) }
+    }
+
+    fn shelf_read(&self, file: &[u8], records: &mut [u8], area: &mut [u8]) -> u32 {
+        let (given, made, lent) = (self.given(file), self.lent(records), self.lent(area));
+        unsafe { bim_shelf_read(given, file.len(), made, records.len(), lent, area.len()) }
     }
 }

@@ -1,12 +1,12 @@
-//! The proved C calls under libFuzzer, with the peer as the judge: each input is a case (`calls::decode`), asked of both and compared
-//! as `calls` compares them. A difference is made small, shown, and ends the run; so does a panic. libFuzzer brings `main`.
+//! The proved C calls under libFuzzer, with the peer as the judge: each input is a case (`calls::decode`, or `shelves::decode`), asked of both
+//! and compared as `calls` compares them. A difference is made small, shown, and ends the run; so does a panic. libFuzzer brings `main`.
 
 #![no_main]
 
 #[path = "../calls/proved.rs"]
 mod proved;
 
-use peer::calls::{ask, change, code, decode, Bench};
+use peer::calls::{ask, change, code, decode, shelves, Bench, ShelfBench};
 use peer::rng::Rng;
 use std::cell::RefCell;
 use std::time::Instant;
@@ -20,6 +20,7 @@ extern "C" {
 /// The bench, and how many cases it had since when.
 struct Run {
     bench: Bench<'static>,
+    shelves: ShelfBench<'static>,
     cases: u64,
     begun: Instant,
 }
@@ -32,9 +33,10 @@ thread_local! {
 fn begin() -> Run {
     // SAFETY: `end` is a function for the whole run, and what it looks at is never freed.
     unsafe { atexit(end) };
-    let mut bench = Bench::new(Box::leak(Box::new(proved::Library::default())), 1);
+    let library: &'static proved::Library = Box::leak(Box::new(proved::Library::default()));
+    let mut bench = Bench::new(library, 1);
     bench.begin_part("fuzz");
-    Run { bench, cases: 0, begun: Instant::now() }
+    Run { bench, shelves: ShelfBench::new(library, 1), cases: 0, begun: Instant::now() }
 }
 
 extern "C" fn end() {
@@ -47,13 +49,14 @@ fn tell(run: &Run) {
     // SAFETY: blocks.c writes both counts and keeps neither.
     unsafe { blocks_told(&mut all, &mut reached) };
     run.bench.report_answers();
+    run.shelves.report_answers();
     println!("fuzz: {reached} of {all} blocks of the proved code reached");
     println!(
         "fuzz: {} cases, {} proved calls, {seconds:.0} s, {:.0} cases per second, {} differences",
         run.cases,
-        run.bench.calls(),
+        run.bench.calls() + run.shelves.calls(),
         run.cases as f64 / seconds,
-        run.bench.differing()
+        run.bench.differing() + run.shelves.differing()
     );
 }
 
@@ -65,9 +68,13 @@ pub extern "C" fn LLVMFuzzerTestOneInput(bytes: *const u8, length: usize) -> i32
     RUN.with(|run| {
         let mut run = run.borrow_mut();
         run.cases += 1;
-        ask(&mut run.bench, &decode(input));
-        if run.bench.differing() > 0 {
+        match shelves::decode(input) {
+            Some(case) => drop(run.shelves.ask("fuzz", &case)),
+            None => ask(&mut run.bench, &decode(input)),
+        }
+        if run.bench.differing() + run.shelves.differing() > 0 {
             run.bench.report();
+            run.shelves.report(true);
             tell(&run);
             std::process::abort();
         }
@@ -85,9 +92,18 @@ pub unsafe extern "C" fn LLVMFuzzerCustomMutator(bytes: *mut u8, length: usize, 
     let mut rng = Rng::new(u64::from(seed));
     let mut coded = vec![];
     if !rng.one_in(3) {
-        let mut case = decode(std::slice::from_raw_parts(bytes, length));
-        change(&mut rng, &mut case);
-        coded = code(&case);
+        let input = std::slice::from_raw_parts(bytes, length);
+        coded = match shelves::decode(input) {
+            Some(mut case) => {
+                shelves::change(&mut rng, &mut case);
+                shelves::code(&case).unwrap_or_default()
+            }
+            None => {
+                let mut case = decode(input);
+                change(&mut rng, &mut case);
+                code(&case)
+            }
+        };
     }
     if coded.is_empty() || coded.len() > room {
         return LLVMFuzzerMutate(bytes, length, room);

@@ -1,5 +1,6 @@
 //! Instructions of each call, by valgrind's callgrind: they repeat.
 
+use crate::shelves;
 use crate::sides::{Buffers, FUNCTIONS, SIDES};
 use crate::Item;
 use std::fs;
@@ -23,12 +24,12 @@ pub fn make_calls(items: &[Item]) {
 /// Callgrind writes out its counts, and begins anew, when this is called.
 #[no_mangle]
 #[inline(never)]
-extern "C" fn speed_mark() {
+pub extern "C" fn speed_mark() {
     black_box(());
 }
 
-/// The instructions of each item on each side.
-pub fn under_callgrind(items: usize) -> Vec<[u64; SIDES.len()]> {
+/// The instructions between the marks, of which there are so many.
+pub fn under_callgrind(marks: usize) -> Vec<u64> {
     let folder = std::env::temp_dir().join(format!("speed-{}", std::process::id()));
     fs::create_dir_all(&folder).expect("a temporary folder");
     let out = folder.join("out");
@@ -36,7 +37,7 @@ pub fn under_callgrind(items: usize) -> Vec<[u64; SIDES.len()]> {
         .arg("--tool=callgrind")
         .arg(format!("--callgrind-out-file={}", out.display()))
         .arg("--dump-before=speed_mark")
-        .args(FUNCTIONS.map(|name| format!("--toggle-collect={name}")))
+        .args(FUNCTIONS.iter().chain(&shelves::FUNCTIONS).map(|name| format!("--toggle-collect={name}")))
         .arg(std::env::current_exe().expect("this program's path"))
         .arg("counts")
         .env("GLIBC_TUNABLES", BY_VECTORS)
@@ -46,8 +47,7 @@ pub fn under_callgrind(items: usize) -> Vec<[u64; SIDES.len()]> {
     assert!(ran.is_ok_and(|status| status.success()), "valgrind does not run");
     let dump =
         |number: usize| fs::read_to_string(out.with_extension(number.to_string())).expect("a dump for each call");
-    let sides = |item: usize| std::array::from_fn(|side| instructions(&dump(SIDES.len() * item + side + 1)));
-    let counts = (0..items).map(sides).collect();
+    let counts = (1..=marks).map(|mark| instructions(&dump(mark))).collect();
     fs::remove_dir_all(&folder).expect("the temporary folder goes");
     counts
 }

@@ -5,6 +5,7 @@ mod counts;
 mod page;
 #[path = "../calls/proved.rs"]
 mod proved;
+mod shelves;
 mod sides;
 mod times;
 
@@ -78,13 +79,18 @@ fn items() -> Vec<Item> {
 }
 
 fn main() {
-    let items = items();
+    let (items, shelves) = (items(), shelves::items());
     if std::env::args().nth(1).as_deref() == Some("counts") {
         counts::make_calls(&items);
+        shelves::make_calls(&shelves);
         return;
     }
     items.iter().for_each(|item| sides::check(&item.case));
-    let counts = counts::under_callgrind(items.len());
+    shelves.iter().for_each(shelves::Shelf::check);
+    let counts = counts::under_callgrind(sides::SIDES.len() * items.len() + shelves::SIDES * shelves.len());
+    let (of_items, of_shelves) = counts.split_at(sides::SIDES.len() * items.len());
     let times: Vec<_> = items.iter().map(|item| times::medians(&item.case)).collect();
-    page::print(&items, &times, &counts);
+    page::print(&items, &times, of_items.as_chunks().0);
+    let times: Vec<_> = shelves.iter().map(shelves::Shelf::medians).collect();
+    shelves::print(&shelves, &times, of_shelves.as_chunks().0);
 }

@@ -12,20 +12,27 @@ const NANOSECONDS: f64 = 40_000.0;
 /// Nanoseconds of a call, for each side: the median over the rounds.
 pub fn medians(case: &Case) -> [f64; SIDES.len()] {
     let mut buffers = Buffers::of(case);
+    in_turn(|side| buffers.ask(case, SIDES[side]))
+}
+
+/// The same of any sides, by their index.
+#[inline(always)]
+pub fn in_turn<const N: usize>(mut ask: impl FnMut(usize) -> u32) -> [f64; N] {
     let mut time = |side, calls: usize| {
         let begun = Instant::now();
         for _ in 0..calls {
-            black_box(buffers.ask(case, side));
+            black_box(ask(side));
         }
         begun.elapsed().as_nanos() as f64 / calls as f64
     };
-    let calls = SIDES.map(|side| {
+    let sides: [usize; N] = std::array::from_fn(|side| side);
+    let calls = sides.map(|side| {
         let shortest = (0..20).map(|_| time(side, 1)).fold(f64::MAX, f64::min);
         ((NANOSECONDS / shortest) as usize).clamp(1, 1000)
     });
-    let mut times = SIDES.map(|_| Vec::with_capacity(ROUNDS));
+    let mut times = sides.map(|_| Vec::with_capacity(ROUNDS));
     for _ in 0..ROUNDS {
-        for ((side, &calls), times) in SIDES.iter().zip(&calls).zip(&mut times) {
+        for ((side, &calls), times) in sides.iter().zip(&calls).zip(&mut times) {
             times.push(time(*side, calls));
         }
     }

@@ -1,0 +1,16 @@
+pub mod Sides
+pub mod Walks
+pub mod Bytes
+pub mod Loops
+pub mod Sealing
+pub mod Ways
+pub mod Cutting
+pub mod Scanning
+pub mod Scans
+pub mod Parts
+pub mod Entries
+pub mod Forth
+pub mod Back
+pub mod Theorems
+pub mod Example
+pub mod Calling
