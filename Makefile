@@ -6,7 +6,7 @@ CFLAGS = -O2
 # What every C file here is compiled with, besides.
 STRICT = -std=c99 -pedantic -Wall -Wextra -Wconversion -Wsign-conversion -Werror -Iinclude -Itools
 ARCHIVE = target/staticlib/libbim.a
-PROGRAMS = host lengths write explain holds mark pack shelf
+PROGRAMS = host lengths write explain holds mark pack shelf apart
 TRIALS = refusals faults bits exact walk threads stack shelves cuts
 # The programs whose C code runs under the sanitizers. Not stack: it brings a stack of its own, of which they know nothing.
 SANITIZED = $(PROGRAMS) refusals faults bits exact walk threads header shelves cuts
