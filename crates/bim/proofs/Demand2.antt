@@ -218,7 +218,7 @@ no-blank (a ∷ L) z h = (λ k. h 0 (omega arith) (omega (arith, k)), no-blank L
         ap (λ (y : ℕ). wordFrom (bytesOf (eventWords (a ∷ L)) ++ z) y) j
         ∙ word-past first (bytesOf (eventWords L) ++ z) (limit.event * i)
 
-two-buffers : {a b c d : List ℕ} → _≡_ {A = List (List ℕ)} (a ∷ b ∷ []) (c ∷ d ∷ []) → (a ≡ c) × (b ≡ d)
+pub two-buffers : {a b c d : List ℕ} → _≡_ {A = List (List ℕ)} (a ∷ b ∷ []) (c ∷ d ∷ []) → (a ≡ c) × (b ≡ d)
 two-buffers e = (cc, cc)
 
 -- the events that stand in bytes: past the first event, and those of a list that was stored there
@@ -259,7 +259,7 @@ unfolding filled
 stored-back e L = events-back L _
 
 -- the flag's bits by the mode's number
-flag-bit : (mode : Mode) → flagBit (modeNumber mode) ≡ flagBits (mode .lengths)
+pub flag-bit : (mode : Mode) → flagBit (modeNumber mode) ≡ flagBits (mode .lengths)
 unfolding flagBit modeNumber lengthsNumber
 flag-bit mode = go (mode .lengths) (mode .casting)
   where
@@ -273,19 +273,19 @@ flag-bit mode = go (mode .lengths) (mode .casting)
 
 module _ (t : List ℕ) (party name type : ℕ) (s A E T : List ℕ) (e x : ℕ) where
   -- what a host has in hand that has read s: mode, events and texts of the reading, as the area counts them
-  record Handed : Type 0 where
-    reads : Reads t party name type s e x
-    mode-is : wordFrom A modeAt ≡ modeNumber (reads .mode)
-    count : wordFrom A eventsAt ≡ length (events (reads .tree))
-    octets : wordFrom A textAt ≡ length (texts (reads .tree))
-    used : wordFrom A bitsAt ≡ reads .used
-    list : take (limit.event * wordFrom A eventsAt) E ≡ bytesOf (eventWords (events (reads .tree)))
-    text : take (wordFrom A textAt) T ≡ texts (reads .tree)
-    whole : T ≡ filled x (texts (reads .tree))
-    in-list : eventsIn E 0 (wordFrom A eventsAt) ≡ events (reads .tree)
-    plain : NoBlankIn E (wordFrom A eventsAt) → NoBlank (events (reads .tree))
+  pub record Handed : Type 0 where
+    pub reads : Reads t party name type s e x
+    pub mode-is : wordFrom A modeAt ≡ modeNumber (reads .mode)
+    pub count : wordFrom A eventsAt ≡ length (events (reads .tree))
+    pub octets : wordFrom A textAt ≡ length (texts (reads .tree))
+    pub used : wordFrom A bitsAt ≡ reads .used
+    pub list : take (limit.event * wordFrom A eventsAt) E ≡ bytesOf (eventWords (events (reads .tree)))
+    pub text : take (wordFrom A textAt) T ≡ texts (reads .tree)
+    pub whole : T ≡ filled x (texts (reads .tree))
+    pub in-list : eventsIn E 0 (wordFrom A eventsAt) ≡ events (reads .tree)
+    pub plain : NoBlankIn E (wordFrom A eventsAt) → NoBlank (events (reads .tree))
 
-  handed : back 0 A (E ∷ T ∷ []) ≡ readCall t party name type s e x areaBytes → Handed
+  pub handed : back 0 A (E ∷ T ∷ []) ≡ readCall t party name type s e x areaBytes → Handed
   unfolding filled
   handed c =
       let r = accepts-only t party name type s e x (sym (ap (λ (b : Back). b .number) c)) in

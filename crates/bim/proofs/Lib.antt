@@ -15,6 +15,7 @@ mod CallLaws
 mod Determined
 mod Parties
 mod Paths
+mod Prefix
 mod ReadLaws
 mod RoomLaws
 mod SettingLaws

@@ -3,6 +3,7 @@ pub mod Calls
 pub mod Bits
 pub mod Determined
 pub mod Parties
+pub mod Prefix
 pub mod Demands
 pub mod EventRoom
 pub mod TableRoom
