@@ -6,10 +6,10 @@ CFLAGS = -O2
 # What every C file here is compiled with, besides.
 STRICT = -std=c99 -pedantic -Wall -Wextra -Wconversion -Wsign-conversion -Werror -Iinclude -Itools
 ARCHIVE = target/staticlib/libbim.a
-PROGRAMS = host lengths write explain holds mark pack shelf apart
-TRIALS = refusals faults bits exact walk threads stack shelves cuts
+PROGRAMS = host lengths write explain holds mark pack shelf report apart
+TRIALS = refusals faults bits exact walk reports threads stack shelves cuts
 # The programs whose C code runs under the sanitizers. Not stack: it brings a stack of its own, of which they know nothing.
-SANITIZED = $(PROGRAMS) refusals faults bits exact walk threads header shelves cuts
+SANITIZED = $(PROGRAMS) refusals faults bits exact walk reports threads header shelves cuts
 SANITIZERS = -O1 -g -fsanitize=$(SANITIZE) -fno-sanitize-recover=all
 export SANITIZE = address,undefined
 # The header says which.
@@ -35,7 +35,7 @@ run:
 	@rt check list >target/run.log 2>&1 || { cat target/run.log; exit 1; }
 	@$(EMULATOR) target/bin/list <crates/list/stdin
 
-# The small receiver, what gives a payload its lengths, and the table curator's programs, in target/c.
+# The small receiver, what gives a payload its lengths, the table curator's programs, where the bits go, and butted payloads apart, in target/c.
 host: $(PROGRAMS:%=target/c/%)
 
 vpath %.c examples tools tests
@@ -77,7 +77,7 @@ quotes: host $(TRIALS:%=target/c/%)
 	bash tests/quotes --write
 
 # The C side under AddressSanitizer and UndefinedBehaviorSanitizer, the C calls and a sample of the comparison under valgrind: a part of the gate.
-sanitized: peer/target/release/calls $(SANITIZED:%=target/sanitized/%) target/c/exact target/c/threads target/c/host target/c/write target/c/shelf target/c/shelves
+sanitized: peer/target/release/calls $(SANITIZED:%=target/sanitized/%) target/c/exact target/c/reports target/c/threads target/c/host target/c/write target/c/shelf target/c/shelves
 	bash tests/sanitized
 
 # The stack that each call needs, held to BIM_STACK.

@@ -28,7 +28,7 @@
  *
  * On acceptance number, place and names are 0. On a refusal mode, events, text and bits are 0, and every output buffer is 0 throughout:
  * nothing of a refused fragment is left to be taken for a reading. (The table that bim_set_held changes is no output buffer: refused, it is
- * as it was.) An area of another size is refused BIM_AREA_SIZE before anything
+ * as it was; nor is the report that bim_report_add counts into.) An area of another size is refused BIM_AREA_SIZE before anything
  * else is looked at: the area, whatever its size, and every output buffer are then 0 throughout. Under every other number the area is
  * filled. It is part of the answer and no output buffer.
  *
@@ -123,7 +123,7 @@ enum {
     BIM_PAYLOAD_ROOM = 21,  /* payload over 8,192 bytes or the lent room: 0 */
     BIM_WRITE_MODE = 22,    /* write mode other than 0, 1, 2 and, with derivations in the table, 4, 5, 6: 0 */
     BIM_TEXT_BYTES = 23,    /* text bytes short, or left over: event, or the event count */
-    BIM_AREA_SIZE = 24,     /* the area has not BIM_AREA bytes: 0 */
+    BIM_AREA_SIZE = 24,     /* the area has not BIM_AREA bytes, or a report not BIM_REPORT: 0 */
     BIM_CONTROL = 25,       /* text with a control character, a byte below 32 other than 9, 10, 13: item */
     BIM_PARTY = 26,         /* party over 7: 0 */
     BIM_BLOCK_CHECK = 31,   /* check of a block of a shelf wrong: block */
@@ -374,6 +374,64 @@ uint32_t bim_shelf_write(const uint8_t *records, size_t records_bytes,
 uint32_t bim_shelf_read(const uint8_t *file, size_t file_bytes,
                         uint8_t *records, size_t records_bytes,
                         uint8_t *area, size_t area_bytes);
+
+/* WHERE THE BITS GO: a report of what payloads spend their bits on, by element. It is BIM_REPORT bytes that the caller keeps from one payload to
+ * the next, 4,168 numbers of 8 bytes, the most significant first. A fresh report is all zeros; there is no call to open or close one.
+ *
+ *     number     0                 stopped: 0, or else no later call changes the report
+ *                1, 2, 3           8 times the bytes of accepted payloads; the bits of their mode bytes; of their padding
+ *                4 + k             payloads answered k, k from 0 to 63: 4 those accepted, the others those refused
+ *                68 to 71          the line *other*, of all names that found no line: a number that is left as it is, seen, own, blanked
+ *                72 + 4r .. 75 + 4r    line r, r below BIM_REPORT_LINES: name, seen, own, blanked; in order of first sight. Seen is 0: it is free
+ *
+ * An event's bits are own bits of the innermost element open there, which for a Start and the Cast behind it is its own element; a Blank's are
+ * blanked bits of its name, and nobody's own. Seen are the Starts and Blanks of a name; the root counts under root_name, a substituted element
+ * under its row's name. So own and blanked bits of all lines, mode bytes and padding are the total, exactly. */
+#define BIM_REPORT 33344
+#define BIM_REPORT_LINES 1024
+
+/* Counts a payload into a report.
+ *
+ *     table, party, root_name, root_type, payload    as for bim_read
+ *     report     changed: it is the caller's state and no answer, so that a refused payload is counted in it, too. Any bytes are a report
+ *
+ * The answer is BIM_AREA_SIZE where the report has not BIM_REPORT bytes: it is then 0 throughout. Else it is what bim_read answers with room
+ * for BIM_MOST_EVENTS events and BIM_MOST_PAYLOAD bytes of text. Where one of the numbers would come to 2^64 or more, number 0 becomes 1 and
+ * nothing else changes: the report has stopped at the payload before, and stays so. */
+uint32_t bim_report_add(const uint8_t *table, size_t table_bytes,
+                        uint32_t party,
+                        uint32_t root_name, uint32_t root_type,
+                        const uint8_t *payload, size_t payload_bytes,
+                        uint8_t *report, size_t report_bytes);
+
+/* THE REPORT, number by number; it has BIM_REPORT bytes. */
+static inline uint64_t bim_report_number(const uint8_t *report, size_t i)
+{
+    const uint64_t high = bim_word(report + 8 * i), low = bim_word(report + 8 * i + 4);
+    return high << 32 | low;
+}
+static inline int bim_report_stopped(const uint8_t *report) { return bim_report_number(report, 0) != 0; }
+static inline uint64_t bim_report_total(const uint8_t *report) { return bim_report_number(report, 1); }
+static inline uint64_t bim_report_mode(const uint8_t *report) { return bim_report_number(report, 2); }
+static inline uint64_t bim_report_padding(const uint8_t *report) { return bim_report_number(report, 3); }
+/* The payloads answered with a number, 0 to 63. */
+static inline uint64_t bim_report_answered(const uint8_t *report, uint32_t number) { return bim_report_number(report, 4 + number); }
+
+struct bim_report_line {
+    uint64_t name, seen, own, blanked;
+};
+static inline struct bim_report_line bim_report_line_at(const uint8_t *report, size_t i)
+{
+    struct bim_report_line line;
+    line.name = bim_report_number(report, i);
+    line.seen = bim_report_number(report, i + 1);
+    line.own = bim_report_number(report, i + 2);
+    line.blanked = bim_report_number(report, i + 3);
+    return line;
+}
+/* Line r, r below BIM_REPORT_LINES; and the line of all other names, whose own name says nothing. */
+static inline struct bim_report_line bim_report_row(const uint8_t *report, size_t r) { return bim_report_line_at(report, 72 + 4 * r); }
+static inline struct bim_report_line bim_report_other(const uint8_t *report) { return bim_report_line_at(report, 68); }
 
 /* THE LENT BIT READER, for the host's own small parsers: one code of any bytes, from a place on. A place is a bit, counted from the most
  * significant bit of byte 0. What lies past the bytes' end is never read; nor is bit 2^32 - 1 or any past it, as places stop there.

@@ -5,20 +5,12 @@
 #include "vector.h"
 
 static unsigned long calls, failed;
-static int places = PLACES;
 static const char *asking;
 
 static void wrong(const char *why)
 {
     if (failed++ < 20)
         printf("%s: %s\n", asking, why);
-}
-
-/* Whether the buffer is these bytes, and 0 behind them. */
-static int is(const uint8_t *bytes, size_t length, const struct bytes *expected)
-{
-    return expected->length <= length && (expected->length == 0 || memcmp(bytes, expected->at, expected->length) == 0) &&
-           all_zero(bytes + expected->length, length - expected->length);
 }
 
 /* What is asked of a vector: its own rooms or others, and what the answer has to be. */

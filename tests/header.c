@@ -230,6 +230,45 @@ static void try_names(void)
     same("numbers with a name", named, 27 + 3);
 }
 
+/* Numbers and lines of a report; 2^64 - 1 is none too large. */
+static void try_report(void)
+{
+    static uint8_t report[BIM_REPORT];
+    struct bim_report_line line;
+    size_t i;
+    for (i = 0; i < BIM_REPORT / 8; i++) {
+        report[8 * i + 3] = 1;
+        report[8 * i + 6] = (uint8_t)(i >> 8);
+        report[8 * i + 7] = (uint8_t)i;
+    }
+    same("number 4167, high", (uint32_t)(bim_report_number(report, 4167) >> 32), 1);
+    same("number 4167, low", (uint32_t)bim_report_number(report, 4167), 4167);
+    same("stopped", (uint32_t)bim_report_stopped(report), 1);
+    same("total", (uint32_t)bim_report_total(report), 1);
+    same("mode bytes", (uint32_t)bim_report_mode(report), 2);
+    same("padding", (uint32_t)bim_report_padding(report), 3);
+    same("accepted", (uint32_t)bim_report_answered(report, BIM_ACCEPTED), 4);
+    same("answered 63", (uint32_t)bim_report_answered(report, 63), 67);
+    line = bim_report_other(report);
+    same("other, seen", (uint32_t)line.seen, 69);
+    same("other, own", (uint32_t)line.own, 70);
+    same("other, blanked", (uint32_t)line.blanked, 71);
+    line = bim_report_row(report, BIM_REPORT_LINES - 1);
+    same("last line, name", (uint32_t)line.name, 4164);
+    same("last line, seen", (uint32_t)line.seen, 4165);
+    same("last line, own", (uint32_t)line.own, 4166);
+    same("last line, blanked", (uint32_t)line.blanked, 4167);
+    for (i = 0; i < 8; i++)
+        report[i] = 0xff;
+    same("the greatest number", bim_report_number(report, 0) == UINT64_MAX, 1);
+    for (i = 0; i < 8; i++)
+        report[i] = 0;
+    same("not stopped", (uint32_t)bim_report_stopped(report), 0);
+    same("add", bim_report_add(NULL, 0, 0, 0, 0, NULL, 0, report, sizeof report), BIM_TABLE);
+    same("counted", (uint32_t)bim_report_answered(report, BIM_TABLE), 6);
+    same("no report", bim_report_add(NULL, 0, 0, 0, 0, NULL, 0, NULL, 0), BIM_AREA_SIZE);
+}
+
 /* The calls link, and take null pointers with lengths of 0. */
 static void try_calls(void)
 {
@@ -280,5 +319,6 @@ int main(void)
     try_names();
     try_calls();
     try_bits();
+    try_report();
     return failed;
 }

@@ -20,6 +20,7 @@
 enum place { HEAP, TO_THE_END, FROM_THE_BEGIN, PLACES };
 enum { MOST_LENT = 5, ARENA = 1 << 17 };
 
+static int places = PLACES;
 static uint8_t *arenas[MOST_LENT]; /* each between two pages that cannot be touched */
 
 static inline void make_arenas(void)

@@ -26,7 +26,6 @@ struct vector {
 };
 
 static unsigned long vectors, calls, failed;
-static int places = PLACES;
 static struct vector vector;
 
 static void wrong(const char *why)

@@ -22,10 +22,17 @@ static uint32_t number;
 static size_t most[CALLS];
 static char most_in[CALLS][sizeof asked.name];
 static unsigned long calls;
+static int counting; /* the reading at hand is counted into a report */
+static uint8_t report[BIM_REPORT];
+static size_t most_counting;
+static char most_counting_in[sizeof asked.name];
 
 static void call(void)
 {
-    if (asked.asked == CHECK)
+    if (counting)
+        number = bim_report_add(asked.table.at, asked.table.length, asked.party, asked.root_name, asked.root_type, asked.payload.at,
+                                asked.payload.length, report, sizeof report);
+    else if (asked.asked == CHECK)
         number = bim_check_table(asked.table.at, asked.table.length, area, sizeof area);
     else if (asked.asked == READ)
         number = bim_read(asked.table.at, asked.table.length, asked.party, asked.root_name, asked.root_type, asked.payload.at, asked.payload.length,
@@ -66,10 +73,22 @@ static void measure(void)
         low++;
     used = STACK - low;
     calls++;
-    if (used > most[asked.asked]) {
+    if (counting && used > most_counting) {
+        most_counting = used;
+        memcpy(most_counting_in, asked.name, sizeof asked.name);
+    } else if (!counting && used > most[asked.asked]) {
         most[asked.asked] = used;
         memcpy(most_in[asked.asked], asked.name, sizeof asked.name);
     }
+}
+
+/* A reading, and the same counted into a report. */
+static void measure_reading(void)
+{
+    measure();
+    counting = 1;
+    measure();
+    counting = 0;
 }
 
 static void add_row(struct bytes *bytes, const uint32_t *row, size_t words)
@@ -215,7 +234,7 @@ static int measure_chain(uint32_t pattern, uint32_t length, uint32_t rows, uint3
         /* Too deep a list has no payload: the one before, of a row less, leads the reader as deep as it gets. */
         asked.asked = READ;
         accepted &= number == BIM_ACCEPTED;
-        measure();
+        measure_reading();
     }
     return accepted;
 }
@@ -251,13 +270,18 @@ int main(int argc, char **argv)
             return 2;
         }
         while (next_vector(file, &asked))
-            measure();
+            if (asked.asked == READ)
+                measure_reading();
+            else
+                measure();
         fclose(file);
     }
     for (i = 0; i < CALLS; i++) {
         printf("%-17s %6lu bytes of stack (%s)\n", call_names[i], (unsigned long)most[i], most_in[i]);
         over |= most[i] > BIM_STACK;
     }
+    printf("%-17s %6lu bytes of stack (%s)\n", "bim_report_add", (unsigned long)most_counting, most_counting_in);
+    over |= most_counting > BIM_STACK;
     printf("%lu calls measured; BIM_STACK is %lu%s\n", calls, (unsigned long)BIM_STACK, over ? ": TOO LITTLE" : "");
     return over;
 }

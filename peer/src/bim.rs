@@ -132,6 +132,10 @@ pub const UNBOUNDED: u32 = 65_536;
 pub const AREA: usize = 152;
 /// The bytes of the bit reader's area.
 pub const BITS_AREA: usize = 12;
+/// The bytes of a report.
+pub const REPORT: usize = 33_344;
+/// The lines of a report, besides *other*.
+pub const REPORT_LINES: usize = 1024;
 /// The bytes of an event.
 pub const EVENT: usize = 16;
 /// The most events of a list, and so the most that any lent room counts for.
@@ -192,6 +196,8 @@ pub const MODES: [(u32, u8); 6] = [
     (CASTING + MODE_OPTIONAL, CASTING_BYTE | MODE_OPTIONAL_BYTE),
     (CASTING + MODE_ALWAYS, CASTING_BYTE | MODE_ALWAYS_BYTE),
 ];
+/// The numbers of a report, of 8 bytes each.
+pub const REPORT_NUMBERS: usize = REPORT / 8;
 /// The words of an event.
 pub const EVENT_WORDS: usize = EVENT / 4;
 /// The first word of a table without derived types and substitutes.

@@ -24,6 +24,8 @@ pub mod model;
 pub mod padding;
 pub mod program;
 pub mod reader;
+pub mod report;
+pub mod report_cases;
 pub mod rng;
 pub mod rows;
 pub mod shelf;

@@ -32,9 +32,9 @@ fn the_headers_names_are_the_peers() {
         theirs.extend(named(Box::leak(lines.into_boxed_str()), "BIM_", " = "));
     }
     assert!(theirs.remove("STACK").is_some() && theirs.remove("VERSION").is_some());
-    // Refusals and 0, event kinds, modes and their bytes, contents, simple kinds, particles and the unbounded most; sizes and limits; of shelves
-    // refusals and sizes.
-    assert_eq!(theirs.len(), 27 + 8 + 8 + 3 + 9 + 5 + 21 + 3 + 8, "{theirs:?}");
+    // Refusals and 0, event kinds, modes and their bytes, contents, simple kinds, particles and the unbounded most; sizes and limits, those of a
+    // report among them; of shelves refusals and sizes.
+    assert_eq!(theirs.len(), 27 + 8 + 8 + 3 + 9 + 5 + 23 + 3 + 8, "{theirs:?}");
     for (name, value) in theirs {
         assert_eq!(ours.get(name), Some(&value), "BIM_{name}");
     }

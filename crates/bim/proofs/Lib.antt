@@ -21,3 +21,4 @@ mod RoomLaws
 mod SettingLaws
 mod TableLaws
 mod WriteLaws
+mod ReportLaws

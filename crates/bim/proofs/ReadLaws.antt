@@ -72,6 +72,17 @@ read-lent t party name type s e x k (whole v f g) =
 read-lent t party name type s e x k (part i v f) =
     both-declined _ _ k (length t / 4) e x i (ap (λ (u : Verdict). afterVerdict u (reading (wordsOf t) party name type s (e / 4) x)) f) (rw v)
 
+-- the same of whatever a reading comes to that does not go by a fault's place in the table
+pub lent-same : {A : Type 0} (t : List ℕ) (party name type : ℕ) (s : List ℕ) (e x k : ℕ) (f : Reply → A) → ((i j : ℕ) → f (declined refusal.table i []) ≡ f (declined refusal.table j []))
+    → Told t k → f (readBytes t party name type s e x) ≡ f (reading (take k (wordsOf t)) party name type s (slotWords e) x)
+unfolding readBytes reading afterVerdict
+lent-same t party name type s e x k f h (whole v g _) =
+    let one : readBytes t party name type s e x ≡ reading (wordsOf t) party name type s (e / 4) x =
+    ap (λ (u : Verdict). afterVerdict u (reading (wordsOf t) party name type s (e / 4) x)) v ∙ once (verdict (wordsOf t)) _ in
+    ap f (one ∙ same-room (wordsOf t) party name type s e x ∙ ap (λ (l : List ℕ). reading l party name type s (slotWords e) x) (sym g))
+lent-same t party name type s e x k f h (part i v g) =
+    ap f (ap (λ (u : Verdict). afterVerdict u (reading (wordsOf t) party name type s (e / 4) x)) g) ∙ h _ i ∙ sym (ap f (rw v))
+
 -- the words of the events as bytes at the front of a buffer that was cleared
 as-many : (a b : ℕ) → a ≡ b → zeros a ≡ zeros b
 as-many a b e = ap zeros e

@@ -149,10 +149,12 @@ pub record Seen (t words : List ℕ) (k : ℕ) : Type 0 where
   pub front : take k words ≡ take k (wordsOf t)
   pub tells : Told t k
 
+pub lent-tell : (t : List ℕ) (k room : ℕ) → Lends k (length t) room → Told t k
+lent-tell t k room h = subst (Told t) (sym (h .words)) (told t)
+
 pub seen : (t room words : List ℕ) (k : ℕ) → Lends k (length t) (length room)
     → words ≡ take k (wordsOf t) ++ drop k room → Seen t words k
-seen t room words k h l =
-    record { front = loaded-front t room words k l (h .given); tells = subst (Told t) (sym (h .words)) (told t) }
+seen t room words k h l = record { front = loaded-front t room words k l (h .given); tells = lent-tell t k (length room) h }
 
 -- the verdict over the words lent, its place moved
 abbrev pub moved : (seen given : ℕ) → Verdict → Verdict

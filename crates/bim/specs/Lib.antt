@@ -8,3 +8,4 @@ pub mod Demands
 pub mod EventRoom
 pub mod TableRoom
 pub mod Contracts
+pub mod Reports

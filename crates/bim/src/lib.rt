@@ -4,6 +4,7 @@ mod answers;
 mod area;
 mod bits;
 mod reads;
+mod reports;
 mod rooms;
 mod sets;
 mod tables;
@@ -17,6 +18,7 @@ use numbers::limit;
 use numbers::mode;
 use numbers::refusal;
 use reads::read_bytes;
+use reports::add_bytes;
 use sets::set_bytes;
 use table::Verdict;
 use tables::check_bytes;
@@ -29,6 +31,7 @@ ghost use Rattle.shelf.specs.Calls as shelf;
 ghost use Rattle.value.specs.Simple.{AllBytes};
 ghost use Rattle.bim.specs.Calls.{back, checkTable, readCall, writeCall, setCall};
 ghost use Rattle.bim.specs.Contracts.{WrittenAndTold};
+ghost use Rattle.bim.specs.Reports.{reported, reportCall};
 
 // Judges a table.
 #[no_mangle]
@@ -216,4 +219,25 @@ pub extern "C" fn bim_shelf_read(file: &[u8], records: &mut [u8], area: &mut [u8
         ≡ shelf.readCall (now (file .entry)) (length (now (records .entry))) (length (now (area .entry))) ⌝ }
 {
     shelf::calls::call_read(file, records, area)
+}
+
+// Reads a payload and adds what its bits went to to a report, which the caller keeps. A payload that is refused is counted, and is no error of the report.
+#[no_mangle]
+pub extern "C" fn bim_report_add(
+    table: &[u8],
+    party: u32,
+    root_name: u32,
+    root_type: u32,
+    payload: &[u8],
+    report: &mut [u8],
+) -> u32
+    ensures { λ r. ⌜
+        reported r (now (report .exit))
+        ≡ reportCall (now (table .entry)) party «root_name» «root_type» (now (payload .entry)) (now (report .entry)) ⌝ }
+{
+    if report.len() != limit::REPORT {
+        clear(report);
+        return refusal::AREA_SIZE;
+    }
+    add_bytes(table, party, root_name, root_type, payload, report)
 }

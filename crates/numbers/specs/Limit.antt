@@ -105,3 +105,9 @@ noStart = 65535
 
 abbrev pub mostBlocks : ℕ
 mostBlocks = 4294967296
+
+abbrev pub report : ℕ
+report = 33344
+
+abbrev pub reportLines : ℕ
+reportLines = 1024

@@ -2,6 +2,7 @@
 //! side of a limit was not met.
 
 use peer::calls::shelves::ShelfJudge;
+use peer::calls::{run_reports, ReportJudge};
 use peer::demands::{named, Tally};
 use peer::program::{count_and_seed, status, usage};
 use peer::trials::{trial, KINDS};
@@ -64,6 +65,10 @@ fn main() -> ExitCode {
     report(&tally, &kinds);
     if !tally.is_whole() || !tally.items_are_whole() || !tally.pairs.are_whole() || !tally.parties_are_whole() {
         faults.push("not all was met".to_string());
+    }
+    // The peer's own reports, by what the request promises of them.
+    if !run_reports(&ReportJudge, count / 20, seed, false).report() {
+        faults.push("reports".to_string());
     }
     println!("time {:.1} s", begun.elapsed().as_secs_f64());
     faults.iter().for_each(|fault| println!("FAILED: {fault}"));

@@ -8,6 +8,7 @@ mod change;
 mod coded;
 mod pairs;
 mod reading;
+mod reports;
 mod setting;
 pub mod shelves;
 mod tally;
@@ -18,6 +19,7 @@ pub use bits::{run as run_bits, BitBench, BitCalls};
 pub use case::{Call, Case};
 pub use change::change;
 pub use coded::{code, decode, seeds};
+pub use reports::{run as run_reports, ReportBench, ReportCalls, ReportJudge};
 pub use shelves::{damage as damage_shelves, run as run_shelves, ShelfBench, ShelfCalls, ShelfCase};
 
 use crate::cases;

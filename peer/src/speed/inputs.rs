@@ -235,6 +235,11 @@ pub fn of_dates() -> [Input; 4] {
     ]
 }
 
+/// A day of guides, of 1 to 50 programmes: what counting into a report is timed on.
+pub fn fifty_guides() -> Vec<Input> {
+    (1..=50).map(guide).collect()
+}
+
 /// What the short call is timed on: a list that has every length.
 pub fn with_lengths() -> Input {
     guide_with_lengths(50)

@@ -30,6 +30,9 @@ fn main() -> ExitCode {
     let good = peer::calls::run_bits(&library, codes, seed).report() && good;
     // A round is some calls, each on several blocks.
     let good = peer::calls::run_shelves(&library, cases / 4, seed).report(sample) && good;
+    // A report is 33 KB, compared whole at each call: a tenth as many.
+    let reports = peer::calls::run_reports(&library, cases / 10, seed, sample);
+    let good = reports.report() && good;
     println!("time {:.1} s", begun.elapsed().as_secs_f64());
     status(good)
 }

@@ -3,7 +3,7 @@
 //! SAFETY, of every call below: the archive's functions are proved safe for all arguments of their types, with no
 //! `requires`; a slice passes as its pointer and its length, and no two of them overlap.
 
-use peer::calls::{BitCalls, Calls, Reading, Setting, ShelfCalls, Writing};
+use peer::calls::{BitCalls, Calls, Reading, ReportCalls, Setting, ShelfCalls, Writing};
 use peer::lent::Coding;
 use std::cell::Cell;
 
@@ -90,6 +90,17 @@ extern "C" {
         records_len: usize,
         area: *mut u8,
         area_len: usize,
+    ) -> u32;
+    fn bim_report_add(
+        table: *const u8,
+        table_len: usize,
+        party: u32,
+        root_name: u32,
+        root_type: u32,
+        payload: *const u8,
+        payload_len: usize,
+        report: *mut u8,
+        report_len: usize,
     ) -> u32;
 }
 
@@ -217,5 +228,15 @@ impl ShelfCalls for Library {
     fn shelf_read(&self, file: &[u8], records: &mut [u8], area: &mut [u8]) -> u32 {
         let (given, made, lent) = (self.given(file), self.lent(records), self.lent(area));
         unsafe { bim_shelf_read(given, file.len(), made, records.len(), lent, area.len()) }
+    }
+}
+
+impl ReportCalls for Library {
+    fn report_add(&self, table: &[u8], party: u32, root: (u32, u32), payload: &[u8], report: &mut [u8]) -> u32 {
+        let (tables, payloads, lent) = (self.given(table), self.given(payload), self.lent(report));
+        let (name, of_type) = root;
+        unsafe {
+            bim_report_add(tables, table.len(), party, name, of_type, payloads, payload.len(), lent, report.len())
+        }
     }
 }

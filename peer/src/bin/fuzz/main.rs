@@ -6,7 +6,9 @@
 #[path = "../calls/proved.rs"]
 mod proved;
 
-use peer::calls::{ask, change, code, decode, shelves, Bench, ShelfBench};
+use peer::bim;
+use peer::calls::{ask, change, code, decode, shelves, Bench, Call, ReportBench, ShelfBench};
+use peer::report_cases::Add;
 use peer::rng::Rng;
 use std::cell::RefCell;
 use std::time::Instant;
@@ -21,6 +23,9 @@ extern "C" {
 struct Run {
     bench: Bench<'static>,
     shelves: ShelfBench<'static>,
+    /// Every reading is counted into the report that the one before it left, too.
+    reports: ReportBench<'static>,
+    report: Vec<u8>,
     cases: u64,
     begun: Instant,
 }
@@ -33,10 +38,17 @@ thread_local! {
 fn begin() -> Run {
     // SAFETY: `end` is a function for the whole run, and what it looks at is never freed.
     unsafe { atexit(end) };
-    let library: &'static proved::Library = Box::leak(Box::new(proved::Library::default()));
+    let library: &'static proved::Library = Box::leak(Box::default());
     let mut bench = Bench::new(library, 1);
     bench.begin_part("fuzz");
-    Run { bench, shelves: ShelfBench::new(library, 1), cases: 0, begun: Instant::now() }
+    Run {
+        bench,
+        shelves: ShelfBench::new(library, 1),
+        reports: ReportBench::new(library, 1),
+        report: vec![0; bim::REPORT],
+        cases: 0,
+        begun: Instant::now(),
+    }
 }
 
 extern "C" fn end() {
@@ -70,11 +82,26 @@ pub extern "C" fn LLVMFuzzerTestOneInput(bytes: *const u8, length: usize) -> i32
         run.cases += 1;
         match shelves::decode(input) {
             Some(case) => drop(run.shelves.ask("fuzz", &case)),
-            None => ask(&mut run.bench, &decode(input)),
+            None => {
+                let case = decode(input);
+                ask(&mut run.bench, &case);
+                if let (Call::Read, [table, payload]) = (case.call, &case.inputs[..]) {
+                    let report = std::mem::take(&mut run.report);
+                    let add = Add {
+                        table: table.clone(),
+                        party: case.party,
+                        root: case.root,
+                        payload: payload.clone(),
+                        report,
+                    };
+                    run.report = run.reports.ask(&add).1;
+                }
+            }
         }
-        if run.bench.differing() + run.shelves.differing() > 0 {
+        if run.bench.differing() + run.shelves.differing() + run.reports.differing() > 0 {
             run.bench.report();
             run.shelves.report(true);
+            run.reports.report();
             tell(&run);
             std::process::abort();
         }

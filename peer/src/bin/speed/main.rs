@@ -1,10 +1,12 @@
 //! `speed`: the proved C calls against the peer's fast ones, timed in turn and counted by callgrind, as a page of Markdown.
-//! `speed counts` makes each call once; `speed` runs that under valgrind.
+//! `speed counts` makes each call once; `speed` runs that under valgrind. `speed reports` has the last table alone, and exit status 1 where
+//! counting takes longer than it may.
 
 mod counts;
 mod page;
 #[path = "../calls/proved.rs"]
 mod proved;
+mod reports;
 mod shelves;
 mod sides;
 mod times;
@@ -85,6 +87,9 @@ fn main() {
         shelves::make_calls(&shelves);
         return;
     }
+    if std::env::args().nth(1).as_deref() == Some("reports") {
+        std::process::exit(i32::from(!reports::print()));
+    }
     items.iter().for_each(|item| sides::check(&item.case));
     shelves.iter().for_each(shelves::Shelf::check);
     let counts = counts::under_callgrind(sides::SIDES.len() * items.len() + shelves::SIDES * shelves.len());
@@ -93,4 +98,5 @@ fn main() {
     page::print(&items, &times, of_items.as_chunks().0);
     let times: Vec<_> = shelves.iter().map(shelves::Shelf::medians).collect();
     shelves::print(&shelves, &times, of_shelves.as_chunks().0);
+    reports::print();
 }

@@ -1,0 +1,9 @@
+mod Cases
+mod EightLaws
+mod Ways
+mod Passing
+mod Adding
+mod Columns
+mod Owners
+mod NameLines
+mod Holding
