@@ -300,7 +300,7 @@ uint32_t bim_set_held(uint8_t *table, size_t table_bytes,
                       uint32_t party, uint32_t type, uint32_t mark,
                       uint8_t *area, size_t area_bytes);
 
-/* SHELVES: payloads kept in a file.
+/* SHELVES: payloads kept in a file, and what a damaged file still holds.
  *
  * A STREAM is records one after another: BIM_RECORD_HEAD bytes, three numbers of 2 (length, root name, root type), then length bytes, at most
  * BIM_MOST_PAYLOAD, none too. Names, types and payloads are not judged: a shelf keeps what it is given.
@@ -314,10 +314,9 @@ uint32_t bim_set_held(uint8_t *table, size_t table_bytes,
  *            506..507    0
  *            508..511    the sum of the 127 words before it, modulo 2^32
  *
- * A stream has one file and a file one stream. THE AREA has exactly BIM_SHELF_AREA bytes: the place, 4 bytes, then five numbers of 8 bytes,
- * the last two 0 in these two calls. On a refusal all five are 0, and every output buffer is 0 throughout; an area of another size is
- * BIM_AREA_SIZE as above. BIM_PAYLOAD_ROOM is an output buffer too small, at 0: what was lent is 0 then too. On acceptance what an output buffer
- * has past its content is 0. */
+ * A stream has one file and a file one stream. THE AREA has exactly BIM_SHELF_AREA bytes: the place, 4 bytes, then five numbers of 8 bytes.
+ * On a refusal these are 0, and every output buffer is 0 throughout; an area of another size is BIM_AREA_SIZE as above. BIM_PAYLOAD_ROOM is
+ * an output buffer too small, at 0: what was lent is 0 then too. On acceptance what an output buffer has past its content is 0. */
 #define BIM_BLOCK_BYTES 512
 #define BIM_BLOCK_HEAD 8    /* before the data */
 #define BIM_BLOCK_DATA 498
@@ -326,8 +325,12 @@ uint32_t bim_set_held(uint8_t *table, size_t table_bytes,
 #define BIM_NO_START 65535
 #define BIM_RECORD_HEAD 6
 #define BIM_SHELF_AREA 44
+/* Of a salvage's list, the bytes of an entry. */
+#define BIM_DROPPED 12
 /* The bytes of the file of a stream of n bytes. */
 #define BIM_SHELF_ROOM(n) (((n) / BIM_BLOCK_DATA + ((n) % BIM_BLOCK_DATA != 0)) * BIM_BLOCK_BYTES)
+/* What stands over every list of what was dropped: no sum sees all damage. */
+#define BIM_SALVAGE_HEADING "a block whose damage happens to leave its sum right counts as good"
 
 /* The area, number by number. */
 static inline uint64_t bim_long(const uint8_t *bytes)
@@ -339,6 +342,8 @@ static inline uint32_t bim_shelf_place(const uint8_t *area) { return bim_word(ar
 static inline uint64_t bim_shelf_records(const uint8_t *area) { return bim_long(area + 4); }       /* how many */
 static inline uint64_t bim_shelf_stream_bytes(const uint8_t *area) { return bim_long(area + 12); }  /* of the stream */
 static inline uint64_t bim_shelf_file_bytes(const uint8_t *area) { return bim_long(area + 20); }    /* of the file read, or written */
+static inline uint64_t bim_shelf_entries(const uint8_t *area) { return bim_long(area + 28); }       /* of a salvage's list, else 0 */
+static inline uint64_t bim_shelf_dropped(const uint8_t *area) { return bim_long(area + 36); }       /* the sum of its bytes, else 0 */
 
 /* A record of a stream; the next one begins bim_record_bytes further on. */
 static inline uint32_t bim_half(const uint8_t *bytes)
@@ -351,6 +356,11 @@ static inline uint32_t bim_record_name(const uint8_t *record) { return bim_half(
 static inline uint32_t bim_record_type(const uint8_t *record) { return bim_half(record + 4); }
 static inline const uint8_t *bim_record_payload(const uint8_t *record) { return record + BIM_RECORD_HEAD; }
 static inline uint32_t bim_record_bytes(const uint8_t *record) { return BIM_RECORD_HEAD + bim_record_length(record); }
+
+/* Entry i of a salvage's list, i below bim_shelf_entries. */
+static inline uint32_t bim_dropped_block(const uint8_t *dropped, size_t i) { return bim_word(dropped + BIM_DROPPED * i); }
+static inline uint32_t bim_dropped_reason(const uint8_t *dropped, size_t i) { return bim_word(dropped + BIM_DROPPED * i + 4); }
+static inline uint32_t bim_dropped_bytes(const uint8_t *dropped, size_t i) { return bim_word(dropped + BIM_DROPPED * i + 8); }
 
 /* Writes the file of a stream.
  *
@@ -374,6 +384,23 @@ uint32_t bim_shelf_write(const uint8_t *records, size_t records_bytes,
 uint32_t bim_shelf_read(const uint8_t *file, size_t file_bytes,
                         uint8_t *records, size_t records_bytes,
                         uint8_t *area, size_t area_bytes);
+
+/* Makes a new file of the records that a damaged one still holds whole, and tells of every block what was dropped.
+ *
+ *     file       any bytes. A block is bad by its sum (31), by a number that does not follow that of a good block right before it (32), or by its
+ *                layout (33); nothing of a bad block is used, and nothing is joined over one. Reading takes up where a good block
+ *                says that a record begins
+ *     fresh      written: the file of the records kept, in order; file_bytes are always room enough
+ *     dropped    written: in the file's order an entry for every bad block, and for every good one with used bytes in no kept record: the
+ *                block's index, the reason (31, 32, 33, or 0 for a good block), and how many these bytes are (0 for a bad block). 12 bytes for
+ *                every begun block are always room enough
+ *     area       written: records kept, their bytes, bytes of the new file, entries, and the sum of the bytes that they tell
+ *
+ * Refused are 24, and 21 for want of room for fresh or dropped. Print BIM_SALVAGE_HEADING over the list. */
+uint32_t bim_shelf_salvage(const uint8_t *file, size_t file_bytes,
+                           uint8_t *fresh, size_t fresh_bytes,
+                           uint8_t *dropped, size_t dropped_bytes,
+                           uint8_t *area, size_t area_bytes);
 
 /* WHERE THE BITS GO: a report of what payloads spend their bits on, by element. It is BIM_REPORT bytes that the caller keeps from one payload to
  * the next, 4,168 numbers of 8 bytes, the most significant first. A fresh report is all zeros; there is no call to open or close one.

@@ -1,4 +1,4 @@
-/* A shelf is never lost and never half written: `shelf add` is run with every one of its calls of the system failing in turn
+/* A shelf is never lost and never half written: `shelf add` and `shelf salvage` are run with every one of their calls of the system failing in turn
  * (no space, an error of the disc), doing half of what it should, or being the last thing that happens (a kill). After each the shelf is the
  * old one or the new one, whole; after a failure nothing stands beside it, and the exit status is 2. What the program does in which order is
  * watched besides, for a power cut: no name is given to bytes that are not on the disc, and it does not end well before the name is.
@@ -232,7 +232,7 @@ static void hold(int good, const char *what)
 }
 
 /* Every fate at every call of a program that makes `new` of `old` at path; other files stand in the folder. */
-static void cut_everywhere(const char *folder, const char *path, int argc, const char **words)
+static void cut_everywhere(const char *folder, const char *path, int argc, const char **words, int well)
 {
     static struct content old, new, now;
     static const int errors[] = {ENOSPC, EIO};
@@ -243,7 +243,7 @@ static void cut_everywhere(const char *folder, const char *path, int argc, const
     fate = NOTHING;
     status = run(argc, words, &calls);
     new = content_of(path);
-    hold(status == 0 && calls > 5 && !is_content(&old, &new), "does not do its work");
+    hold(status == well && calls > 5 && !is_content(&old, &new), "does not do its work");
     for (which = 0; which < 4; which++)
         for (at = 0; at < calls; at++) {
             fate = which < 2 ? FAILS : which == 2 ? HALF : DIES;
@@ -253,12 +253,12 @@ static void cut_everywhere(const char *folder, const char *path, int argc, const
             now = content_of(path);
             trials++;
             hold(is_content(&now, &old) || is_content(&now, &new), "neither the old shelf nor the new one");
-            hold(status == 0 || status == (fate == DIES ? 77 : 2), "another exit status");
-            hold(status != 0 || is_content(&now, &new), "ended well without its work");
+            hold(status == well || status == (fate == DIES ? 77 : 2), "another exit status");
+            hold(status != well || is_content(&now, &new), "ended well without its work");
             if (fate == FAILS || fate == HALF)
                 hold(files_in(folder) == others + (now.count >= 0), "something stands beside");
             if (fate == HALF)
-                hold(status == 0, "half a read or write is not gone on with");
+                hold(status == well, "half a read or write is not gone on with");
             /* A kill may leave a file of that name beside, and nothing else. */
             if (fate == DIES) {
                 char beside[4096];
@@ -273,9 +273,10 @@ static void cut_everywhere(const char *folder, const char *path, int argc, const
 
 int main(int argc, char **argv)
 {
-    static struct content payload;
-    char shelf[2048], one[2048], other[2048];
+    static struct content payload, damaged;
+    char shelf[2048], one[2048], other[2048], fresh[2048];
     const char *add[] = {"shelf", "add", shelf, "10", "0", one, other};
+    const char *salvage[] = {"shelf", "salvage", shelf, fresh};
     long calls;
     if (argc != 2 || files_in(argv[1]) != 0) {
         fprintf(stderr, "cuts FOLDER, an empty one\n");
@@ -284,6 +285,7 @@ int main(int argc, char **argv)
     snprintf(shelf, sizeof shelf, "%s/shelf", argv[1]);
     snprintf(one, sizeof one, "%s/one", argv[1]);
     snprintf(other, sizeof other, "%s/other", argv[1]);
+    snprintf(fresh, sizeof fresh, "%s/fresh", argv[1]);
     payload.count = 700;
     memset(payload.bytes, 7, sizeof payload.bytes);
     put(one, &payload);
@@ -292,10 +294,15 @@ int main(int argc, char **argv)
     for (no_unnamed = 0; no_unnamed < 2; no_unnamed++) {
         /* The first records of a shelf that is not there, and more of them. */
         unlink(shelf);
-        cut_everywhere(argv[1], shelf, 7, add);
+        cut_everywhere(argv[1], shelf, 7, add, 0);
         fate = NOTHING;
         hold(run(7, add, &calls) == 0, "does not add");
-        cut_everywhere(argv[1], shelf, 7, add);
+        cut_everywhere(argv[1], shelf, 7, add, 0);
+        /* A damaged shelf, and a new one of what it holds. */
+        damaged = content_of(shelf);
+        damaged.bytes[100] ^= 1;
+        put(shelf, &damaged);
+        cut_everywhere(argv[1], fresh, 4, salvage, 1);
     }
     printf("cuts: %lu runs cut at every call of the system, %lu of them kills, %lu of which left a file beside; %lu otherwise than expected\n",
            trials, kills, litter, wrong);

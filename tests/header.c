@@ -44,10 +44,10 @@ static void try_events(void)
     same("bits", bim_event_bits(events, 2), 0xf4f5f6f7);
 }
 
-/* Byte i is i + 120, so that each number of an area and a record differs. */
+/* Byte i is i + 120, so that each number of an area, a record and an entry differs. */
 static void try_shelf(void)
 {
-    uint8_t bytes[BIM_SHELF_AREA];
+    uint8_t bytes[3 * BIM_DROPPED + BIM_SHELF_AREA];
     const size_t whole = BIM_BLOCK_DATA;
     uint32_t i;
     for (i = 0; i < sizeof bytes; i++)
@@ -56,15 +56,21 @@ static void try_shelf(void)
     same("records", (long long)bim_shelf_records(bytes), 0x7c7d7e7f80818283);
     same("bytes of the stream", (long long)(bim_shelf_stream_bytes(bytes) >> 1), 0x8485868788898a8bu >> 1);
     same("bytes of the file", (long long)(bim_shelf_file_bytes(bytes) >> 1), 0x8c8d8e8f90919293u >> 1);
+    same("entries", (long long)(bim_shelf_entries(bytes) >> 1), 0x9495969798999a9bu >> 1);
+    same("bytes dropped", (long long)(bim_shelf_dropped(bytes) >> 1), 0x9c9d9e9fa0a1a2a3u >> 1);
     same("record's length", bim_record_length(bytes + 10), 0x8283);
     same("record's name", bim_record_name(bytes + 10), 0x8485);
     same("record's type", bim_record_type(bytes + 10), 0x8687);
     same("record's payload", bim_record_payload(bytes + 10) - bytes, 16);
     same("record's bytes", bim_record_bytes(bytes + 10), 0x8283 + 6);
+    same("entry's block", bim_dropped_block(bytes, 1), 0x84858687);
+    same("entry's reason", bim_dropped_reason(bytes, 2), 0x94959697);
+    same("entry's bytes", bim_dropped_bytes(bytes, 2), 0x98999a9b);
     same("room for nothing", (long long)BIM_SHELF_ROOM(whole - whole), 0);
     same("room for a byte", (long long)BIM_SHELF_ROOM(whole - 497), 512);
     same("room for a block", (long long)BIM_SHELF_ROOM(whole), 512);
     same("room for a byte more", (long long)BIM_SHELF_ROOM(whole + 1), 1024);
+    same("heading", strncmp(BIM_SALVAGE_HEADING, "a block whose damage", 20), 0);
 }
 
 static void try_rows(void)
@@ -280,6 +286,7 @@ static void try_calls(void)
     same("set", bim_set_held(NULL, 0, 0, 0, 0, area, sizeof area), BIM_TABLE);
     same("shelf written", bim_shelf_write(NULL, 0, NULL, 0, area, BIM_SHELF_AREA), BIM_ACCEPTED);
     same("shelf read", bim_shelf_read(NULL, 0, NULL, 0, area, BIM_SHELF_AREA), BIM_ACCEPTED);
+    same("shelf salvaged", bim_shelf_salvage(NULL, 0, NULL, 0, NULL, 0, area, BIM_SHELF_AREA), BIM_ACCEPTED);
     same("no area", bim_check_table(NULL, 0, NULL, 0), BIM_AREA_SIZE);
 }
 

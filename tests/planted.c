@@ -1,5 +1,5 @@
-/* A bim_read and a bim_shelf_read with a fault of this number, around the right ones (tests/planted renames those to right_read and
- * right_shelf_read): what the trials have to find. */
+/* A bim_read and a bim_shelf_salvage with a fault of this number, around the right ones (tests/planted renames those to right_read and
+ * right_salvage): what the trials have to find. */
 #include <stdlib.h>
 #include "bim.h"
 
@@ -33,18 +33,20 @@ uint32_t bim_read(const uint8_t *table, size_t table_bytes, uint32_t party, uint
     return number;
 }
 
-uint32_t right_shelf_read(const uint8_t *file, size_t file_bytes, uint8_t *records, size_t records_bytes, uint8_t *area, size_t area_bytes);
+uint32_t right_salvage(const uint8_t *file, size_t file_bytes, uint8_t *fresh, size_t fresh_bytes, uint8_t *dropped, size_t dropped_bytes,
+                       uint8_t *area, size_t area_bytes);
 
-uint32_t bim_shelf_read(const uint8_t *file, size_t file_bytes, uint8_t *records, size_t records_bytes, uint8_t *area, size_t area_bytes)
+uint32_t bim_shelf_salvage(const uint8_t *file, size_t file_bytes, uint8_t *fresh, size_t fresh_bytes, uint8_t *dropped, size_t dropped_bytes,
+                           uint8_t *area, size_t area_bytes)
 {
-    const uint32_t number = right_shelf_read(file, file_bytes, records, records_bytes, area, area_bytes);
-    if (FAULT == 8) /* writes past the records */
-        *(volatile uint8_t *)(records + records_bytes) = 0xdd;
+    const uint32_t number = right_salvage(file, file_bytes, fresh, fresh_bytes, dropped, dropped_bytes, area, area_bytes);
+    if (FAULT == 8) /* writes past the list */
+        *(volatile uint8_t *)(dropped + dropped_bytes) = 0xdd;
     if (FAULT == 9) /* reads past the file */
         (void)*(const volatile uint8_t *)(file + file_bytes);
     if (FAULT == 10 && file_bytes > 0) /* writes to the file, though the same byte */
         *(volatile uint8_t *)(uintptr_t)file = file[0];
-    if (FAULT == 11 && number == BIM_ACCEPTED && bim_shelf_records(area) > 0) /* a wrong root */
-        records[3] ^= 1;
+    if (FAULT == 11 && number == BIM_ACCEPTED && bim_shelf_entries(area) > 0) /* a wrong count in the list */
+        dropped[11] ^= 1;
     return number;
 }

@@ -7,20 +7,20 @@
 #include <inttypes.h>
 #include "bim.h"
 
-enum asked { WRITE, READ };
-static const char *const call_names[] = {"bim_shelf_write", "bim_shelf_read"};
+enum asked { WRITE, READ, SALVAGE };
+static const char *const call_names[] = {"bim_shelf_write", "bim_shelf_read", "bim_shelf_salvage"};
 
 struct bytes {
     uint8_t at[16384];
     size_t length;
 };
 
-/* What is given, the room, and what is expected. */
+/* What is given, the rooms, and what is expected. */
 struct vector {
     char name[256];
     enum asked asked;
-    struct bytes given, made;
-    size_t room;
+    struct bytes given, made, dropped;
+    size_t rooms[2];
     uint32_t number;
     uint8_t area[BIM_SHELF_AREA];
 };
@@ -70,6 +70,16 @@ static void set_answer(char *text)
         put_number(vector.area + 4 + 8 * i, 8, strtoull(text, &text, 10));
 }
 
+static void add_dropped(char *text)
+{
+    int i;
+    if (vector.dropped.length + BIM_DROPPED > sizeof vector.dropped.at)
+        no_vector("too many entries");
+    for (i = 0; i < 3; i++)
+        put_number(vector.dropped.at + vector.dropped.length + 4 * i, 4, strtoull(text, &text, 10));
+    vector.dropped.length += BIM_DROPPED;
+}
+
 /* The next vector of the file; 0 where there is none. What makes the bytes given is done by then: they stand in it. */
 static int next_vector(FILE *file)
 {
@@ -81,24 +91,27 @@ static int next_vector(FILE *file)
         rest = rest == NULL ? line + strlen(line) : rest + 1;
         if (strncmp(line, "case ", 5) == 0)
             snprintf(vector.name, sizeof vector.name, "%s", rest);
-        else if (strncmp(line, "write ", 6) == 0 || strncmp(line, "read ", 5) == 0) {
-            vector.asked = line[0] == 'w' ? WRITE : READ;
-            vector.room = strtoul(rest, NULL, 10);
+        else if (strncmp(line, "write ", 6) == 0 || strncmp(line, "read ", 5) == 0 || strncmp(line, "salvage ", 8) == 0) {
+            vector.asked = line[0] == 'w' ? WRITE : line[0] == 'r' ? READ : SALVAGE;
+            vector.rooms[0] = strtoul(rest, &rest, 10);
+            vector.rooms[1] = strtoul(rest, NULL, 10);
         } else if (strncmp(line, "given ", 6) == 0)
             set_hex(&vector.given, rest);
         else if (strncmp(line, "answer ", 7) == 0)
             set_answer(rest);
         else if (strncmp(line, "made ", 5) == 0)
             set_hex(&vector.made, rest);
+        else if (strncmp(line, "dropped ", 8) == 0)
+            add_dropped(rest);
         else if (strcmp(line, "end") == 0)
             return 1;
     }
     return 0;
 }
 
-/* What is asked of the vector: its own bytes and room or others; what the answer has to be, or -1 where any will do. */
+/* What is asked of the vector: its own bytes and rooms or others; what the answer has to be, or -1 where any will do. */
 struct trial {
-    size_t given, room, area;
+    size_t given, rooms[2], area;
     int number;
 };
 
@@ -106,16 +119,19 @@ static struct trial as_it_is(void)
 {
     struct trial it;
     it.given = vector.given.length;
-    it.room = vector.room;
+    memcpy(it.rooms, vector.rooms, sizeof it.rooms);
     it.area = BIM_SHELF_AREA;
     it.number = (int)vector.number;
     return it;
 }
 
-static uint32_t call(const struct trial *it, const uint8_t *given, uint8_t *made, uint8_t *area)
+static uint32_t call(const struct trial *it, const uint8_t *given, uint8_t *made, uint8_t *dropped, uint8_t *area)
 {
-    return vector.asked == WRITE ? bim_shelf_write(given, it->given, made, it->room, area, it->area)
-                                 : bim_shelf_read(given, it->given, made, it->room, area, it->area);
+    switch (vector.asked) {
+    case WRITE: return bim_shelf_write(given, it->given, made, it->rooms[0], area, it->area);
+    case READ: return bim_shelf_read(given, it->given, made, it->rooms[0], area, it->area);
+    default: return bim_shelf_salvage(given, it->given, made, it->rooms[0], dropped, it->rooms[1], area, it->area);
+    }
 }
 
 /* Whether the buffer is these bytes, and 0 behind them. */
@@ -130,38 +146,45 @@ static void ask(const struct trial *it)
     int i;
     for (i = 0; i < places; i++) {
         const enum place place = (enum place)i;
-        uint8_t *given = lend(place, 0, it->given, vector.given.at), *made = lend(place, 1, it->room, NULL), *area = lend(place, 2, it->area, NULL);
-        const uint32_t number = call(it, given, made, area);
+        uint8_t *given = lend(place, 0, it->given, vector.given.at), *made = lend(place, 1, it->rooms[0], NULL);
+        uint8_t *dropped = lend(place, 2, it->rooms[1], NULL), *area = lend(place, 3, it->area, NULL);
+        const uint32_t number = call(it, given, made, dropped, area);
         calls++;
         if (it->number >= 0 && number != (uint32_t)it->number)
             wrong("another number");
-        if (number != BIM_ACCEPTED && !all_zero(made, it->room))
+        if (number != BIM_ACCEPTED && !(all_zero(made, it->rooms[0]) && (vector.asked != SALVAGE || all_zero(dropped, it->rooms[1]))))
             wrong("a refusal left bytes");
         if (number == BIM_AREA_SIZE ? !all_zero(area, it->area) : number != BIM_ACCEPTED && !all_zero(area + 4, it->area - 4))
             wrong("a refusal left bytes in the area");
         if (number == vector.number && it->number == (int)number && number != BIM_AREA_SIZE && memcmp(area, vector.area, sizeof vector.area) != 0)
             wrong("another area");
-        if (number == BIM_ACCEPTED && it->number == BIM_ACCEPTED && !is(made, it->room, &vector.made))
+        if (number == BIM_ACCEPTED && it->number == BIM_ACCEPTED &&
+            !(is(made, it->rooms[0], &vector.made) && (vector.asked != SALVAGE || is(dropped, it->rooms[1], &vector.dropped))))
             wrong("other bytes");
         give_back(place, 0, given);
         give_back(place, 1, made);
-        give_back(place, 2, area);
+        give_back(place, 2, dropped);
+        give_back(place, 3, area);
     }
 }
 
-/* Just enough room, a byte more, and a byte less. */
+/* Just enough room, a byte more, and a byte less of each. */
 static void ask_rooms(void)
 {
     struct trial it = as_it_is();
-    it.room = vector.made.length;
-    ask(&it);
-    it.room++;
-    ask(&it);
-    if (vector.made.length == 0)
-        return;
-    it.room = vector.made.length - 1;
-    it.number = BIM_PAYLOAD_ROOM;
-    ask(&it);
+    size_t i;
+    for (i = 0; i < 2; i++) {
+        it.rooms[0] = vector.made.length + i;
+        it.rooms[1] = vector.dropped.length + i;
+        ask(&it);
+    }
+    for (i = 0; i < 2; i++) {
+        it.rooms[0] = vector.made.length;
+        it.rooms[1] = vector.dropped.length;
+        it.number = BIM_PAYLOAD_ROOM;
+        if (it.rooms[i]-- > 0)
+            ask(&it);
+    }
 }
 
 /* Areas of another size; what is given cut short. */
@@ -187,11 +210,13 @@ static void ask_others(void)
 /* The row of a refusal. */
 static void print_row(void)
 {
-    static uint8_t area[BIM_SHELF_AREA], made[1 << 16];
+    static uint8_t area[BIM_SHELF_AREA], made[1 << 16], dropped[1 << 16];
     const struct trial it = as_it_is();
-    const uint32_t number = call(&it, vector.given.at, made, area);
+    const uint32_t number = call(&it, vector.given.at, made, dropped, area);
     printf("| %" PRIu32 " | %s | %s | `%s`, %zu bytes into %zu", number, bim_refusal_name(number), strchr(vector.name, ' ') + 1, call_names[vector.asked],
-           vector.given.length, vector.room);
+           vector.given.length, vector.rooms[0]);
+    if (vector.asked == SALVAGE)
+        printf(" and %zu", vector.rooms[1]);
     printf(" | %" PRIu32 " at %s%" PRIu32 " |\n", number, number == BIM_PAYLOAD_ROOM ? "" : "block ", bim_shelf_place(area));
 }
 

@@ -3,22 +3,25 @@
  *     shelf add SHELF NAME TYPE PAYLOAD...   puts payload files of that root on the shelf, all or none; a shelf that is not there begins empty
  *     shelf list SHELF                       a line for each record
  *     shelf get SHELF RECORD                 the payload of a record, counted from 0, to standard output
+ *     shelf salvage OLD NEW                  writes what a damaged shelf still holds whole to a new one, and lists what it drops
  *
  * A shelf is never half written: the new file is written beside, and takes the name when all of it is on the disc. It has to fit in memory, as a
- * file and as its records. Exit status: 0 done, 1 refused, or no such record, 2 a file is no good, or cannot be read or written. */
+ * file and as its records. Exit status: 0 done (of salvage: nothing was dropped), 1 refused, or no such record, or something was dropped, 2 a
+ * file is no good, or cannot be read or written. */
 #include "disc.h"
 #include "bim.h"
 #include "io.h"
 
 static uint8_t area[BIM_SHELF_AREA];
 
-static const char usage[] = "add SHELF NAME TYPE PAYLOAD.. | list SHELF | get SHELF RECORD";
+static const char usage[] = "add SHELF NAME TYPE PAYLOAD.. | list SHELF | get SHELF RECORD | salvage OLD NEW";
 static const char help[] =
     "Keeps payloads on a shelf, a file of blocks (docs/SHELF.md): adds payload files of a root, all or none;\n"
-    "lists the records; writes the payload of a record, counted from 0, to standard output.\n"
+    "lists the records; writes the payload of a record, counted from 0, to standard output;\n"
+    "makes a new shelf of the records that a damaged one still holds whole, and tells what was dropped.\n"
     "Exit status:\n"
-    "  0  done\n"
-    "  1  refused, or no such record\n"
+    "  0  done; of salvage: nothing was dropped\n"
+    "  1  refused, or no such record, or something was dropped\n"
     "  2  a wrong call, or a file could not be read or written\n";
 enum { DONE = STATUS_DONE, REFUSED = STATUS_REFUSED, NO_GOOD = STATUS_NO_GOOD };
 
@@ -151,6 +154,51 @@ static int get(struct shelf_file *shelf, const char *path, uint32_t wanted)
     return status;
 }
 
+static void print_dropped(const char *path, const uint8_t *dropped)
+{
+    const uint64_t entries = bim_shelf_entries(area);
+    size_t i;
+    printf("dropped from %s; %s\n%10s %10s %10s\n", path, BIM_SALVAGE_HEADING, "block", "reason", "bytes");
+    for (i = 0; i < entries; i++)
+        printf("%10" PRIu32 " %10" PRIu32 " %10" PRIu32 "\n", bim_dropped_block(dropped, i), bim_dropped_reason(dropped, i),
+               bim_dropped_bytes(dropped, i));
+    printf("kept %" PRIu64 " records, %" PRIu64 " bytes in %" PRIu64 " blocks; %" PRIu64 " used bytes of good blocks in no kept record\n",
+           bim_shelf_records(area), bim_shelf_stream_bytes(area), bim_shelf_file_bytes(area) / BIM_BLOCK_BYTES, bim_shelf_dropped(area));
+}
+
+/* The new shelf must not be there yet: what it held would be lost. */
+static int salvage(struct shelf_file *old, const char *path, const char *fresh_path)
+{
+    struct shelf_file fresh;
+    struct stat now;
+    uint8_t *dropped = NULL;
+    size_t room;
+    int status = NO_GOOD;
+    memset(&fresh, 0, sizeof fresh);
+    if (lstat(fresh_path, &now) == 0) {
+        no_good(fresh_path, "is there already, and would be lost");
+        return NO_GOOD;
+    }
+    if (!read_whole(old, path, 1, 0) || !lock_folder(&fresh, fresh_path))
+        return NO_GOOD;
+    room = (old->count / BIM_BLOCK_BYTES + 1) * BIM_DROPPED;
+    fresh.bytes = room_for(path, old->count);
+    dropped = room_for(path, room);
+    if (fresh.bytes != NULL && dropped != NULL) {
+        const uint32_t number = bim_shelf_salvage(old->bytes, old->count, fresh.bytes, old->count, dropped, room, area, sizeof area);
+        tell(path, "judged", old->count, old->count);
+        if (!accepted(path, number))
+            status = REFUSED;
+        else if (replace_file(&fresh, fresh.bytes, (size_t)bim_shelf_file_bytes(area))) {
+            print_dropped(path, dropped);
+            status = said(bim_shelf_entries(area) == 0 ? DONE : REFUSED);
+        }
+    }
+    free(dropped);
+    let_file_go(&fresh);
+    return status;
+}
+
 int main(int argc, char **argv)
 {
     struct call call = begin_call("shelf", usage, help, argc, argv);
@@ -171,6 +219,8 @@ int main(int argc, char **argv)
         status = list(&shelf, next[1]);
     else if (strcmp(command, "get") == 0 && call.left == 3 && number_of(next[2], &wanted))
         status = get(&shelf, next[1], wanted);
+    else if (strcmp(command, "salvage") == 0 && call.left == 3)
+        status = salvage(&shelf, next[1], next[2]);
     else
         return wrong_call(&call);
     let_file_go(&shelf);

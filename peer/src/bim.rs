@@ -152,6 +152,8 @@ pub const MOST_WORD: u32 = 4_294_967_295;
 pub const PARTIES: u32 = 8;
 /// The bytes of the area of the calls for shelves.
 pub const SHELF_AREA: usize = 44;
+/// The bytes of an entry in the list of what a salvage dropped.
+pub const DROPPED: usize = 12;
 /// The bytes of a block of a shelf.
 pub const BLOCK_BYTES: usize = 512;
 /// The bytes of a block before its data.

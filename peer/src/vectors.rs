@@ -22,7 +22,8 @@ pub fn vectors_of(file: &str) -> impl Iterator<Item = &str> {
 pub fn renewed(file: &str) -> Result<String, String> {
     // What stands in a vector by hand: the answer of a block, and of a code nothing.
     let by_hand = |vector: &str| -> Vec<String> {
-        let answers = vector.lines().filter(|line| line.starts_with("answer ") || line.starts_with("path "));
+        let answers =
+            vector.lines().filter(|line| ["answer ", "path ", "dropped "].iter().any(|key| line.starts_with(key)));
         answers.map(str::to_string).collect()
     };
     let renew = |piece: &str| match again(piece) {

@@ -1,4 +1,4 @@
-//! The examples of request 12 as they stand on the page, and the theorems on seeded files.
+//! The examples of requests 12 and 13 as they stand on the pages, and the theorems on seeded files.
 
 use peer::bim;
 use peer::rng::Rng;
@@ -45,6 +45,11 @@ fn changed(mut file: Vec<u8>, block: usize, at: usize, bytes: &[u8]) -> Vec<u8> 
 fn mended(file: Vec<u8>, block: usize, at: usize, bytes: &[u8]) -> Vec<u8> {
     let mut file = changed(file, block, at, bytes);
     mend(&mut file[512 * block..512 * block + 512]);
+    file
+}
+
+fn without(mut file: Vec<u8>, block: usize) -> Vec<u8> {
+    file.drain(512 * block..512 * block + 512);
     file
 }
 
@@ -126,6 +131,64 @@ fn refused_as_the_page_has_it() {
 }
 
 #[test]
+fn salvaged_as_the_page_has_it() {
+    let file = five();
+    let cut = |bytes: usize| file[..bytes].to_vec();
+    let one = file_of(&unhex("0002000100000f80").unwrap_or_default());
+    let a = changed(five(), 1, 200, &[0xff]);
+    let rows: [(&str, Vec<u8>, &[usize], &[[u32; 3]]); 14] = [
+        ("a", a.clone(), &[3, 4], &[[0, 0, 498], [1, 31, 0], [2, 0, 498], [3, 0, 124]]),
+        ("b", changed(five(), 2, 200, &[0xff]), &[0, 1, 3, 4], &[[1, 0, 284], [2, 31, 0], [3, 0, 124]]),
+        ("c", without(five(), 2), &[0, 1], &[[1, 0, 284], [2, 32, 0]]),
+        ("d", without(five(), 0), &[1, 2, 3, 4], &[[0, 0, 108]]),
+        ("e", cut(1536), &[0, 1], &[[1, 0, 284], [2, 33, 0]]),
+        ("f", cut(1636), &[0, 1], &[[1, 0, 284], [2, 0, 498], [3, 33, 0]]),
+        ("g", without(a.clone(), 2), &[3, 4], &[[0, 0, 498], [1, 31, 0], [2, 0, 124]]),
+        ("h", mended(five(), 3, 6, &[0, 125]), &[0, 1], &[[1, 0, 284], [2, 0, 498], [3, 33, 0]]),
+        (
+            "j",
+            mended(five(), 1, 8 + 108, &8193_u16.to_be_bytes()),
+            &[3, 4],
+            &[[0, 0, 498], [1, 33, 0], [2, 0, 498], [3, 0, 124]],
+        ),
+        ("l", [five(), vec![7]].concat(), &[0, 1, 2, 3, 4], &[[4, 33, 0]]),
+        ("k", [one, five()].concat(), &[0, 1, 2, 3, 4], &[[0, 33, 0]]),
+        ("nothing", vec![], &[], &[]),
+        ("itself", five(), &[0, 1, 2, 3, 4], &[]),
+        // Two stretches around a bad block, though the numbers around it follow.
+        (
+            "two stretches",
+            [cut(1024), vec![9; 512], file[1024..].to_vec()].concat(),
+            &[0, 1, 3, 4],
+            &[[1, 0, 284], [2, 31, 0], [3, 0, 498], [4, 0, 124]],
+        ),
+    ];
+    for (name, damaged, kept, list) in rows {
+        let said = ask(Call::Salvage, &damaged);
+        assert_eq!((said.number, said.place), (0, 0), "{name}");
+        let records: Vec<u8> = kept.iter().flat_map(|&k| five_records()[k].clone()).collect();
+        let fresh = file_of(&records);
+        assert_eq!(said.outputs[0][..fresh.len()], fresh, "{name}");
+        let words: Vec<u8> = list.concat().iter().flat_map(|word| word.to_be_bytes()).collect();
+        assert_eq!(said.outputs[1][..words.len()], words, "{name}");
+        assert!(said.outputs[0][fresh.len()..].iter().chain(&said.outputs[1][words.len()..]).all(|&byte| byte == 0));
+        let dropped: u64 = list.iter().map(|entry| u64::from(entry[2])).sum();
+        let counts = [kept.len() as u64, records.len() as u64, fresh.len() as u64, list.len() as u64, dropped];
+        let said = said.counts;
+        assert_eq!([said.records, said.stream, said.file, said.entries, said.dropped], counts, "{name}");
+    }
+    // i: the changed byte comes with its record.
+    let said = ask(Call::Salvage, &mended(five(), 3, 8 + 300, &[0x77]));
+    assert_eq!((said.counts.records, said.counts.entries, said.outputs[0][1536 + 308]), (5, 0, 0x77));
+    for rooms in [[511, 48], [2048, 47]] {
+        let said = judge(Call::Salvage, &a, &rooms);
+        assert_eq!((said.number, said.place), (21, 0));
+        assert!(said.outputs.concat().iter().all(|&byte| byte == 0));
+    }
+    assert_eq!(judge(Call::Salvage, &a, &[512, 48]).number, 0);
+}
+
+#[test]
 fn sums_wrap() {
     let block = [[0xff; 508].to_vec(), vec![0; 4]].concat();
     // 127 times -1.
@@ -156,7 +219,8 @@ fn the_laws_hold_of_the_judge() {
     for (kind, count) in Damage::ALL.iter().zip(met.damaged) {
         assert!(count > 100, "{kind:?}: {count}");
     }
-    assert!(met.sound > 100 && met.refused.iter().all(|&count| count > 1000), "{met:?}");
+    assert!(met.sound > 100 && met.parted > 1000 && met.without_start > 100, "{met:?}");
+    assert!(met.reasons.iter().all(|&count| count > 1000), "{met:?}");
 }
 
 #[test]

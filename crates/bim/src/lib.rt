@@ -221,6 +221,21 @@ pub extern "C" fn bim_shelf_read(file: &[u8], records: &mut [u8], area: &mut [u8
     shelf::calls::call_read(file, records, area)
 }
 
+// Salvages a damaged shelf file: what is whole of it as a new file, and the list of what is dropped.
+#[no_mangle]
+pub extern "C" fn bim_shelf_salvage(
+    file: &[u8],
+    fresh: &mut [u8],
+    dropped: &mut [u8],
+    area: &mut [u8],
+) -> u32
+    ensures { λ r. ⌜
+        shelf.back r (now (area .exit)) (now (fresh .exit) ∷ now (dropped .exit) ∷ [])
+        ≡ shelf.salvageCall (now (file .entry)) (length (now (fresh .entry))) (length (now (dropped .entry))) (length (now (area .entry))) ⌝ }
+{
+    shelf::calls::call_salvage(file, fresh, dropped, area)
+}
+
 // Reads a payload and adds what its bits went to to a report, which the caller keeps. A payload that is refused is counted, and is no error of the report.
 #[no_mangle]
 pub extern "C" fn bim_report_add(

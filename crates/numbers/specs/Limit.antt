@@ -106,6 +106,9 @@ noStart = 65535
 abbrev pub mostBlocks : ℕ
 mostBlocks = 4294967296
 
+abbrev pub dropped : ℕ
+dropped = 12
+
 abbrev pub report : ℕ
 report = 33344
 

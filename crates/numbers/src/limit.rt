@@ -70,6 +70,8 @@ pub const BLOCK_WORDS: usize = BLOCK_BODY / 4;
 pub const NO_START: u32 = 65535;
 // The most blocks of a file: a block's number is a word.
 pub const MOST_BLOCKS: usize = 4294967296;
+// The bytes of an entry of the list of what a salvage dropped: block, reason, bytes.
+pub const DROPPED: usize = 12;
 // The bytes of a report, numbers of 8 bytes; and its lines, of four of them each.
 pub const REPORT: usize = 33344;
 

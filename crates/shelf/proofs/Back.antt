@@ -181,6 +181,7 @@ module _ (f : List ℕ) (o : Octets f) (n d : ℕ) where
 
   -- the stream's end, its blocks, and the file
   pub record Whole-file : Type 0 where
+    pub used : (j : ℕ) → j < blocks f → usedIn n j ≡ usedAt f j
     pub blocks : blocksFor n ≡ blocks f
     pub walked : walk b n 0 0 ≡ To n d
     pub file : f ≡ cut b n (blocksFor n)
@@ -212,6 +213,7 @@ module _ (f : List ℕ) (o : Octets f) (n d : ℕ) where
       let x = none-left f n d 0 0 0 r in
       let z : blocksFor n ≡ 0 = omega (arith, x .0) in
       record {
+        used = λ j h. absurd (omega arith);
         blocks = omega arith;
         walked = walk-stop b n 0 0 (omega (arith, x .0)) ∙ ap (λ (y : ℕ). To y 0) (x .0) ∙ ap (To n) (x .1);
         file = rw z (nothing f (omega (arith, x .2)));
@@ -230,6 +232,7 @@ module _ (f : List ℕ) (o : Octets f) (n d : ℕ) where
       let long : length f ≤ 512 * (0 + suc k) = omega arith in
       let z : 0 + suc k ≡ blocksFor n = omega arith in
       record {
+        used = λ j h. used-so-far (suc k) 0 0 0 r (omega arith) t u j (omega arith) h;
         blocks = m;
         walked = walked-all (suc k) 0 0 0 r (omega arith) w (omega arith) (λ a. t) (λ a. absurd (omega arith));
         file = sym (take-all (512 * (0 + suc k)) f long) ∙ cut-back (suc k) 0 0 0 r (omega arith) w (λ j h. used-so-far (suc k) 0 0 0 r (omega arith) t u j (omega arith) h) refl ∙ ap (cut b n) z;

@@ -34,7 +34,7 @@ tail-cleared l l₀ b b′ z k n h e g q =
     ∙ ap (λ (x : List ℕ). x ++ replicate (length l₀ - length l) 0) (take-at l (drop k l₀) k n)
 
 -- refused
-zero-filled : (room : ℕ) → replicate room 0 ≡ filled room []
+pub zero-filled : (room : ℕ) → replicate room 0 ≡ filled room []
 zero-filled room = let e : room - 0 ≡ room = omega arith in rw e
 
 all-zero : (o : Outcome) (room number place : ℕ) (r : Answer) (b : List ℕ) → refuses number place ≡ o → r ≡ refuses number place .answer → b ≡ replicate room 0 → Done o room r b

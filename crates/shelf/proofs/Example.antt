@@ -9,10 +9,10 @@ use Rattle.shelf.specs.Block.{bytesFrom, sumTo, bodyOf, block, nameAfter
 use Rattle.shelf.specs.Judge.{zerosFrom, someUsed, restZero, firstInside, zeroFirst, alone, reason, closes, walked, inStep}
 use Rattle.shelf.specs.Shelf.{refuses, gives, onward, writeSound, shelfWrite, scanBy, scan, readScanned, shelfRead}
 
-one : List ℕ
+unfoldable pub one : List ℕ
 one = 0 ∷ 2 ∷ 0 ∷ 1 ∷ 0 ∷ 0 ∷ 15 ∷ 128 ∷ []
 
-file : List ℕ
+unfoldable pub file : List ℕ
 file = (0 ∷ 0 ∷ 0 ∷ 0 ∷ 0 ∷ 8 ∷ 0 ∷ 0 ∷ []) ++ one ++ replicate 492 0 ++ (0 ∷ 10 ∷ 15 ∷ 129 ∷ [])
 
 -- write 0002 0001 0000 0F80: one block, its sum 000A0F81; 1 record, 8 bytes, 512

@@ -52,7 +52,7 @@ module _ (b : ℕ → ℕ) (n : ℕ) where
   unfolding blockIn held
   part i h = cut-part b n m i h
 
-  used-at : (i : ℕ) → i < m → usedAt F i ≡ usedIn n i
+  pub used-at : (i : ℕ) → i < m → usedAt F i ≡ usedIn n i
   used-at i h = used-is F i i (firstIn b n i) (held i) (few i) (part i h) ∙ used-held i
 
   -- how many bytes a block has
@@ -62,10 +62,10 @@ module _ (b : ℕ → ℕ) (n : ℕ) where
   used-left : (i : ℕ) → 498 * i ≤ n → n < 498 * i + 498 → usedIn n i ≡ n - 498 * i
   used-left i h l = simp (lt-ltb (n - 498 * i) 498 (omega arith))
 
-  before-last : (i : ℕ) → i + 1 < m → usedIn n i ≡ 498
+  pub before-last : (i : ℕ) → i + 1 < m → usedIn n i ≡ 498
   before-last i h = used-full i (omega arith)
 
-  at-last : (i : ℕ) → i + 1 ≡ m → 498 * i + usedIn n i ≡ n
+  pub at-last : (i : ℕ) → i + 1 ≡ m → 498 * i + usedIn n i ≡ n
   at-last i h = ⊎-elim (λ (l : n < 498 * i + 498). omega (arith, used-left i (omega arith) l)) (λ (l : 498 * i + 498 ≤ n). omega (arith, used-full i l)) (less n (498 * i + 498))
 
   pub within : (i : ℕ) → i < m → 498 * i + usedIn n i ≤ n
@@ -99,7 +99,7 @@ module _ (b : ℕ → ℕ) (n : ℕ) where
     end-is : endAt F i ≡ hi
     end-is = ap (λ (x : ℕ). 498 * i + x) (used-at i h)
 
-    first-at : firstAt F i ≡ firstFrom b lo hi p
+    pub first-at : firstAt F i ≡ firstFrom b lo hi p
     unfolding firstIn nameAfter
     first-at = first-is F i i (firstIn b n i) (held i) (few i) (part i h) ∙ ap (nameAfter b lo hi) w
 
@@ -145,7 +145,7 @@ module _ (b : ℕ → ℕ) (n : ℕ) where
         (λ (z : i ≡ 0 → ⊥). simp (number-is F i i (firstIn b n i) (held i) (few i) (part i h), ne-eqb i 0 z))
         (same i 0)
 
-    no-reason : reason F i i ≡ 0
+    pub no-reason : reason F i i ≡ 0
     unfolding reason alone
     no-reason =
         simp (
@@ -177,13 +177,13 @@ module _ (b : ℕ → ℕ) (n : ℕ) where
         (ap (λ (x : ℕ). walked F i (walk (byteOf F) x p c)) end-is ∙ ap (walked F i) (walk-alike b (byteOf F) hi p c (λ k l. sym (stream-is k (omega arith)))))
 
   -- a block that is not the last, and the last
-  open-before : (i : ℕ) → i + 1 < m → closes F i ≡ false
+  pub open-before : (i : ℕ) → i + 1 < m → closes F i ≡ false
   unfolding closes
   open-before i h =
       rw (used-at i (omega arith), before-last i h)
       (simp (lt-leb (length F) (512 * (i + 1)) (omega (arith, cut-long b n m))))
 
-  closed-last : (i : ℕ) → i + 1 ≡ m → closes F i ≡ true
+  pub closed-last : (i : ℕ) → i + 1 ≡ m → closes F i ≡ true
   closed-last i h = closes-last F i (omega (arith, cut-long b n m))
 
   onto : (k i p c : ℕ) → i < m → walk b (498 * i) 0 0 ≡ To p c → scanBy (suc k) F i p c ≡ onward i (walked F i (walk b (498 * i + usedIn n i) p c)) (scanBy k F (i + 1))

@@ -30,7 +30,7 @@ use Rattle.shelf.proofs.Forth.{scan-cut, stream-is, within}
 use Rattle.shelf.proofs.Back.{Whole-file, whole-file}
 
 -- the records of a list, followed to their end
-followed : (s before : List ℕ) (rs : List Entry) (c : ℕ) → AllRight rs → s ≡ before ++ streamOf rs → walk (byteAt s) (length s) (length before) c ≡ To (length s) (c + length rs)
+pub followed : (s before : List ℕ) (rs : List Entry) (c : ℕ) → AllRight rs → s ≡ before ++ streamOf rs → walk (byteAt s) (length s) (length before) c ≡ To (length s) (c + length rs)
 unfolding streamOf
 followed s before [] c AllRight.none e =
     let l : length s ≡ length before = ap length e ∙ length-append before [] ∙ omega arith in
@@ -67,7 +67,7 @@ sound-written : (s : List ℕ) (room c : ℕ) → fault (byteAt s) (length s) �
 unfolding shelfWrite writeSound
 sound-written s room c e h g = ap (writeSound s room) e ∙ simp (le-ltb (room / 512) (blocksFor (length s)) h, le-ltb 4294967296 (blocksFor (length s)) g)
 
-sound-read : (s : List ℕ) (back c : ℕ) → fault (byteAt s) (length s) ≡ Sound c → length s ≤ back
+pub sound-read : (s : List ℕ) (back c : ℕ) → fault (byteAt s) (length s) ≡ Sound c → length s ≤ back
     → shelfRead (fileOf (byteAt s) (length s)) back ≡ gives c (length s) (length (fileOf (byteAt s) (length s))) s
 unfolding shelfRead readScanned verdict
 sound-read s back c e h =
@@ -98,7 +98,7 @@ module _ (b b′ : ℕ → ℕ) (n : ℕ) (same : (k : ℕ) → k < n → b k �
       ⊎-elim (λ (l : p < lo). rw (lt-ltb p lo l) (ap (λ (x : ℕ). named lo hi (p + 6 + x)) (rw (same p (omega arith), same (p + 1) (omega arith)))))
       (λ (l : lo ≤ p). rw (le-ltb p lo l)) (less p lo)
 
-  after-alike : (lo hi : ℕ) (w : Walk) → lo < n → nameAfter b lo hi w ≡ nameAfter b′ lo hi w
+  pub after-alike : (lo hi : ℕ) (w : Walk) → lo < n → nameAfter b lo hi w ≡ nameAfter b′ lo hi w
   unfolding nameAfter
   after-alike lo hi (Over p) h = refl
   after-alike lo hi (To p c) h = name-alike lo hi p h
@@ -113,15 +113,24 @@ module _ (b b′ : ℕ → ℕ) (n : ℕ) (same : (k : ℕ) → k < n → b k �
       ap (λ (x : ℕ). block i x (bytesFrom b lo (usedIn n i))) f
       ∙ ap (block i (nameAfter b′ lo hi (walk b′ lo 0 0))) (bytes-alike b b′ lo lo (usedIn n i) (λ j l. same (lo + j) (omega (arith, within b n i h))))
 
-  cut-alike : (k : ℕ) → k ≤ blocksFor n → cut b n k ≡ cut b′ n k
+  pub cut-alike : (k : ℕ) → k ≤ blocksFor n → cut b n k ≡ cut b′ n k
   unfolding cut
   cut-alike zero h = refl
   cut-alike (suc k) h = rw (cut-alike k (omega arith), block-alike k (omega arith))
 
 -- (b)
-accepted-written : (f : List ℕ) (n c : ℕ) → Octets f → scan f ≡ Whole n c → shelfWrite (bytesFrom (byteOf f) 0 n) (length f) ≡ gives c n (length f) f
+-- what an accepted file's stream is
+pub record Accepted (f : List ℕ) (n c : ℕ) (S : List ℕ) : Type 0 where
+  pub long : length S ≡ n
+  pub sound : fault (byteAt S) (length S) ≡ Sound c
+  pub file : fileOf (byteAt S) (length S) ≡ f
+  pub size : 512 * blocksFor (length S) ≡ length f
+  pub fits : blocksFor (length S) ≤ length f / 512
+  pub numbered : blocksFor (length S) ≤ 4294967296
+
+pub accepted : (f : List ℕ) (n c : ℕ) → Octets f → scan f ≡ Whole n c → Accepted f n c (bytesFrom (byteOf f) 0 n)
 unfolding scan fault judged
-accepted-written f n c o e =
+accepted f n c o e =
     let S = bytesFrom (byteOf f) 0 n in
     let l : length S ≡ n = bytes-long (byteOf f) 0 n in
     let r = scanned f n c (blocks f) 0 0 0 e in
@@ -133,32 +142,42 @@ accepted-written f n c o e =
     let m : blocksFor (length S) ≡ blocksFor n = ap blocksFor l in
     let F : fileOf (byteAt S) (length S) ≡ f = ap (fileOf (byteAt S)) l ∙ sym (cut-alike (byteOf f) (byteAt S) n same (blocksFor n) (omega arith)) ∙ sym (w .file) in
     let z : 512 * blocksFor (length S) ≡ length f = omega (arith, ap length (w .file), cut-long (byteOf f) n (blocksFor n)) in
-    sound-written S (length f) c s (omega (arith, w .blocks)) (omega (arith, w .numbered))
-    ∙ ap (λ (x : List ℕ). gives c (length S) (512 * blocksFor (length S)) x) F
-    ∙ ap (λ (x : ℕ). gives c x (512 * blocksFor (length S)) f) l ∙ ap (λ (x : ℕ). gives c n x f) z
+    record { long = l; sound = s; file = F; size = z; fits = omega (arith, w .blocks); numbered = omega (arith, w .numbered) }
+
+accepted-written : (f : List ℕ) (n c : ℕ) → Octets f → scan f ≡ Whole n c → shelfWrite (bytesFrom (byteOf f) 0 n) (length f) ≡ gives c n (length f) f
+accepted-written f n c o e =
+    let S = bytesFrom (byteOf f) 0 n in
+    let a = accepted f n c o e in
+    sound-written S (length f) c (a .sound) (a .fits) (a .numbered)
+    ∙ ap (λ (x : List ℕ). gives c (length S) (512 * blocksFor (length S)) x) (a .file)
+    ∙ ap (λ (x : ℕ). gives c x (512 * blocksFor (length S)) f) (a .long) ∙ ap (λ (x : ℕ). gives c n x f) (a .size)
 
 empty-whole : (f : List ℕ) → length f ≡ 0 → scan f ≡ Whole 0 0
 unfolding scan scanBy
 empty-whole f e = let z : blocks f ≡ 0 = omega arith in rw z (simp (eq-eqb (length f % 512) 0 (omega arith)))
 
-pub read-write : ReadWrite
+pub read-scan : (f s : List ℕ) (room c n : ℕ) → shelfRead f room ≡ gives c n (length f) s → (scan f ≡ Whole n c) × (bytesFrom (byteOf f) 0 n ≡ s)
 unfolding shelfRead readScanned
-read-write f s room c n o e = by (scan f) refl e
+read-scan f s room c n e = by (scan f) refl e
   where
-    by : (w : Scan) → scan f ≡ w → readScanned f room w ≡ gives c n (length f) s → shelfWrite s (length f) ≡ gives c n (length f) f
+    fits : (t d : ℕ) (b : Bool) → scan f ≡ Whole t d → cond b (refuses 21 0) (gives d t (length f) (bytesFrom (byteOf f) 0 t)) ≡ gives c n (length f) s
+        → (scan f ≡ Whole n c) × (bytesFrom (byteOf f) 0 n ≡ s)
+    fits t d true g h = let z : _≡_ {A = ℕ} 21 0 = ap (λ (x : Outcome). x .answer .number) h in absurd (omega arith)
+    fits t d false g h =
+        let a : d ≡ c = ap (λ (x : Outcome). x .answer .records) h in
+        let b : t ≡ n = ap (λ (x : Outcome). x .answer .stream) h in
+        (g ∙ ap (λ (x : ℕ). Whole x d) b ∙ ap (Whole n) a, ap (bytesFrom (byteOf f) 0) (sym b) ∙ ap (λ (x : Outcome). x .content) h)
+
+    by : (w : Scan) → scan f ≡ w → readScanned f room w ≡ gives c n (length f) s → (scan f ≡ Whole n c) × (bytesFrom (byteOf f) 0 n ≡ s)
     by (Refused k i) g h =
         let z : 0 ≡ length f = ap (λ (x : Outcome). x .answer .file) h in
         let q : Refused k i ≡ Whole 0 0 = sym g ∙ empty-whole f (sym z) in
         let x : _≡_ {A = ℕ} 0 1 = cc in absurd (omega arith)
-    by (Whole t d) g h = fits (ltb room t) refl h
-      where
-        fits : (b : Bool) → ltb room t ≡ b → cond b (refuses 21 0) (gives d t (length f) (bytesFrom (byteOf f) 0 t)) ≡ gives c n (length f) s → shelfWrite s (length f) ≡ gives c n (length f) f
-        fits true q h = let z : _≡_ {A = ℕ} 21 0 = ap (λ (x : Outcome). x .answer .number) h in absurd (omega arith)
-        fits false q h =
-            let a : d ≡ c = ap (λ (x : Outcome). x .answer .records) h in
-            let b : t ≡ n = ap (λ (x : Outcome). x .answer .stream) h in
-            let y : bytesFrom (byteOf f) 0 t ≡ s = ap (λ (x : Outcome). x .content) h in
-            ap (λ (x : List ℕ). shelfWrite x (length f)) (sym y) ∙ accepted-written f t d o g ∙ ap (λ (x : ℕ). gives x t (length f) f) a ∙ ap (λ (x : ℕ). gives c x (length f) f) b
+    by (Whole t d) g h = fits t d (ltb room t) g h
+
+pub read-write : ReadWrite
+read-write f s room c n o e =
+    let r = read-scan f s room c n e in ap (λ (x : List ℕ). shelfWrite x (length f)) (sym (r .1)) ∙ accepted-written f n c o (r .0)
 
 -- records that are written alike are the same
 entry : (name type : ℕ) (payload : List ℕ) → Entry

@@ -104,18 +104,21 @@ pub longer-over : (b : ℕ → ℕ) (end far p c q : ℕ) → end ≤ far → wa
 unfolding andThen
 longer-over b end far p c q i e = sym (rw e at (walk-longer b end far p c i))
 
--- bytes that agree below the end are walked alike
-agrees : {b : ℕ → ℕ} (b′ : ℕ → ℕ) {end p c : ℕ} {w : Walk} → ((k : ℕ) → k < end → b k ≡ b′ k) → Walks b end p c w → Walks b′ end p c w
-agrees b′ same (Walks.stops h) = Walks.stops h
-agrees {b} b′ {end} {p} same (Walks.passes h l) =
-    let e : lengthAt b p ≡ lengthAt b′ p = rw (same p (omega arith), same (p + 1) h) in Walks.passes h (rw e at l)
-agrees {b} b′ {end} {p} {c} {w} same (Walks.goes h l r) =
-    let e : lengthAt b p ≡ lengthAt b′ p = rw (same p (omega arith), same (p + 1) h) in
+-- bytes that agree from a place at or before the beginning up to the end are walked alike
+agrees : {b : ℕ → ℕ} (b′ : ℕ → ℕ) {end p c : ℕ} {w : Walk} (lo : ℕ) → lo ≤ p → ((k : ℕ) → lo ≤ k → k < end → b k ≡ b′ k) → Walks b end p c w → Walks b′ end p c w
+agrees b′ lo o same (Walks.stops h) = Walks.stops h
+agrees {b} b′ {end} {p} lo o same (Walks.passes h l) =
+    let e : lengthAt b p ≡ lengthAt b′ p = rw (same p o (omega arith), same (p + 1) (omega arith) h) in Walks.passes h (rw e at l)
+agrees {b} b′ {end} {p} {c} {w} lo o same (Walks.goes h l r) =
+    let e : lengthAt b p ≡ lengthAt b′ p = rw (same p o (omega arith), same (p + 1) (omega arith) h) in
     let f : next b p ≡ next b′ p = omega arith in
-    Walks.goes h (rw e at l) (rw f at (agrees b′ same r))
+    Walks.goes h (rw e at l) (rw f at (agrees b′ lo (omega arith) same r))
+
+pub walk-alike-from : (b b′ : ℕ → ℕ) (end p c lo : ℕ) → lo ≤ p → ((k : ℕ) → lo ≤ k → k < end → b k ≡ b′ k) → walk b′ end p c ≡ walk b end p c
+walk-alike-from b b′ end p c lo o same = is-walk (agrees b′ lo o same (walks b end p c))
 
 pub walk-alike : (b b′ : ℕ → ℕ) (end p c : ℕ) → ((k : ℕ) → k < end → b k ≡ b′ k) → walk b′ end p c ≡ walk b end p c
-walk-alike b b′ end p c same = is-walk (agrees b′ same (walks b end p c))
+walk-alike b b′ end p c same = walk-alike-from b b′ end p c 0 (omega arith) (λ k l h. same k h)
 
 -- how many there were before does not change where it comes to
 place-from : {b : ℕ → ℕ} {end p c : ℕ} {w : Walk} (d : ℕ) → Walks b end p c w → placeIn w ≡ placeIn (walk b end p d)

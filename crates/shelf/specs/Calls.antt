@@ -9,6 +9,7 @@ use Rattle.numbers.specs.Limit.{mostWord, shelfArea}
 use Rattle.buffers.specs.Bytes.{bytesOf}
 use Rattle.shelf.specs.declared.answers.Answer.{Answer}
 use Rattle.shelf.specs.Shelf.{Outcome, filled, shelfWrite, shelfRead}
+use Rattle.shelf.specs.Salvage.{salvage}
 
 pub record Back : Type 0 where
   pub number : ℕ
@@ -49,3 +50,10 @@ writeCall s room area = called area room (shelfWrite s room)
 
 unfoldable pub readCall : List ℕ → (room area : ℕ) → Back
 readCall f room area = called area room (shelfRead f room)
+
+-- bim_shelf_salvage: the file; bytes of the new file's room, of the list's and of the area. Two output buffers, zero throughout on any refusal
+unfoldable pub salvageCall : List ℕ → (room list area : ℕ) → Back
+salvageCall f room list area =
+    let o = salvage f room list in
+    cond (eqb area shelfArea) (back (o .answer .number) (areaOf (o .answer) (o .entries) (o .lost)) (filled room (o .file) ∷ filled list (o .list) ∷ []))
+    (back areaSize (zeros area) (zeros room ∷ zeros list ∷ []))

@@ -4,4 +4,8 @@ pub mod Judge
 pub mod Shelf
 pub mod Contracts
 pub mod Theorems
+pub mod Salvage
+pub mod Rescue
 pub mod Calls
+pub mod Stays
+pub mod Saved

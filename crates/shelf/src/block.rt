@@ -74,7 +74,7 @@ fn fill(b: &mut [u8], s: &[u8], from: usize, used: usize, number: u32, first: u3
 }
 
 // The bytes of a stream of n that block i has.
-fn used_in(n: usize, i: usize) -> usize
+pub fn used_in(n: usize, i: usize) -> usize
     requires { ⌜ blockData * i < n ⌝ }
     ensures { λ r. ⌜ (r ≡ usedIn n i) × (0 < r) × (r ≤ blockData) × (blockData * i + r ≤ n) ⌝ }
 {

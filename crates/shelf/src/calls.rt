@@ -1,6 +1,8 @@
 // The calls for a C host: the area's size first, then the answer told in it. Crate bim exports them.
 use crate::answers::Answer;
 use crate::read;
+use crate::rescue::place_word;
+use crate::salvage;
 use crate::write;
 use buffers::clear;
 use buffers::store;
@@ -8,23 +10,10 @@ use numbers::limit;
 use numbers::refusal;
 ghost use mathlib.Core.Path.{_≡_};
 ghost use mathlib.Core.List.{[], _∷_};
-ghost use Prim.Native.Nat.{_/_, _%_, min};
+ghost use Prim.Native.Nat.{_/_, _%_};
 ghost use lib.ListN.{length};
-ghost use Rattle.numbers.specs.Limit.{mostWord, shelfArea};
-ghost use Rattle.shelf.specs.Calls.{back, areaOf, writeCall, readCall};
-
-const MOST_PLACE: usize = limit::MOST_WORD as usize;
-
-// A place as a word: one past MOST_WORD is told as MOST_WORD.
-fn place_word(place: usize) -> u32
-    ensures { λ r. ⌜ r ≡ min place mostWord ⌝ }
-{
-    if place < MOST_PLACE {
-        place as u32
-    } else {
-        limit::MOST_WORD
-    }
-}
+ghost use Rattle.numbers.specs.Limit.{shelfArea};
+ghost use Rattle.shelf.specs.Calls.{back, areaOf, writeCall, readCall, salvageCall};
 
 // The two words of a number of 8 bytes.
 fn high(x: usize) -> u32
@@ -89,4 +78,21 @@ pub fn call_read(file: &[u8], records: &mut [u8], area: &mut [u8]) -> u32
     }
     let a = read(file, records);
     tell(area, a, 0, 0)
+}
+
+// Salvages a damaged shelf file: what is whole of it as a new file, and the list of what is dropped.
+pub fn call_salvage(file: &[u8], fresh: &mut [u8], dropped: &mut [u8], area: &mut [u8]) -> u32
+    ensures { λ r. ⌜
+        back r (now (area .exit)) (now (fresh .exit) ∷ now (dropped .exit) ∷ [])
+        ≡ salvageCall (now (file .entry)) (length (now (fresh .entry))) (length (now (dropped .entry))) (length (now (area .entry))) ⌝ }
+{
+    if area.len() != limit::SHELF_AREA {
+        clear(fresh);
+        clear(dropped);
+        clear(area);
+        return refusal::AREA_SIZE;
+    }
+    let r = salvage(file, fresh, dropped);
+    let a = r.answer;
+    tell(area, a, r.entries, r.dropped)
 }

@@ -36,7 +36,7 @@ fn stream_byte(f: &[u8], k: usize) -> usize
 }
 
 // The length of the record that begins at p.
-fn length_at(f: &[u8], p: usize) -> usize
+pub fn length_at(f: &[u8], p: usize) -> usize
     requires { ⌜ p + 1 < blockData * blocks (now f) ⌝ }
     ensures { λ r. ⌜ (r ≡ meaning.lengthAt (byteOf (now (f .entry))) p) × (r < 65536) ⌝ }
 {
@@ -65,7 +65,7 @@ pub fn walk_file(f: &[u8], end: usize, p: usize, c: usize) -> Walk
 }
 
 // The first record that the block with the bytes from lo up to hi names; p as in the definition.
-fn first_in_file(f: &[u8], lo: usize, hi: usize, p: usize) -> u32
+pub fn first_in_file(f: &[u8], lo: usize, hi: usize, p: usize) -> u32
     requires { ⌜ (lo < hi) × (hi ≤ lo + 498) × (hi ≤ blockData * blocks (now f)) × (lo ≤ p + 1) ⌝ }
     ensures { λ r. ⌜ r ≡ meaning.firstFrom (byteOf (now (f .entry))) lo hi p ⌝ }
 {
@@ -92,14 +92,14 @@ fn zeros_from(f: &[u8], from: usize, k: usize) -> bool
     true
 }
 
-fn used_at(f: &[u8], i: usize) -> usize
+pub fn used_at(f: &[u8], i: usize) -> usize
     requires { ⌜ i < blocks (now f) ⌝ }
     ensures { λ r. ⌜ (r ≡ usedAt (now (f .entry)) i) × (r < 65536) ⌝ }
 {
     half(f, limit::BLOCK_BYTES * i + 4) as usize
 }
 
-fn first_at(f: &[u8], i: usize) -> u32
+pub fn first_at(f: &[u8], i: usize) -> u32
     requires { ⌜ i < blocks (now f) ⌝ }
     ensures { λ r. ⌜ r ≡ meanings.firstAt (now (f .entry)) i ⌝ }
 {

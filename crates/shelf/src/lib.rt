@@ -3,9 +3,12 @@ pub mod answers;
 mod block;
 pub mod calls;
 mod judge;
+mod rescue;
+mod reseal;
 mod stream;
 
 use answers::Answer;
+use answers::Rescued;
 use answers::Scan;
 use answers::Soundness;
 use block::copy_bytes;
@@ -14,6 +17,8 @@ use buffers::clear;
 use judge::scan;
 use numbers::limit;
 use numbers::refusal;
+use rescue::collect;
+use reseal::seal_blocks;
 use stream::soundness;
 ghost use mathlib.Core.Path.{_≡_};
 ghost use mathlib.Core.List.{_++_};
@@ -23,6 +28,8 @@ ghost use Rattle.numbers.specs.Limit.{blockData};
 ghost use Rattle.shelf.specs.Block.{bytesFrom, blocksFor};
 ghost use Rattle.shelf.specs.Judge.{byteOf, blocks};
 ghost use Rattle.shelf.specs.Shelf.{Done, refuses, shelfWrite, shelfRead};
+ghost use Rattle.shelf.specs.Salvage as meaning;
+ghost use Rattle.shelf.specs.Rescue.{hasRoom, Saved};
 
 fn refused(number: u32, place: usize) -> Answer
     ensures { λ r. ⌜ r ≡ refuses number place .answer ⌝ }
@@ -133,5 +140,56 @@ pub fn read(file: &[u8], records: &mut [u8]) -> Answer
                 file: file.len(),
             }
         }
+    }
+}
+
+// Whether a new file of m blocks and a list of so many entries find room, and each block a number.
+fn has_room(room: usize, list: usize, m: usize, entries: usize) -> bool
+    ensures { λ r. ⌜ r ≡ hasRoom room list m entries ⌝ }
+{
+    if room / limit::BLOCK_BYTES < m {
+        return false;
+    }
+    if limit::MOST_BLOCKS < m {
+        return false;
+    }
+    entries <= list / limit::DROPPED
+}
+
+// Salvages a damaged file: what is whole of it becomes a new file, what is dropped is listed; the room that they do not take is cleared.
+pub fn salvage(file: &[u8], fresh: &mut [u8], list: &mut [u8]) -> Rescued
+    ensures { λ r. ⌜
+        Saved (meaning.salvage (now (file .entry)) (length (now (fresh .entry))) (length (now (list .entry))))
+        (length (now (fresh .entry))) (length (now (list .entry))) r (now (fresh .exit)) (now (list .exit)) ⌝ }
+{
+    let t = collect(file, fresh, list);
+    let n = t.stream;
+    let m = blocks_for(n);
+    if has_room(fresh.len(), list.len(), m, t.entries) {
+        seal_blocks(fresh, n, m);
+        let bytes = limit::BLOCK_BYTES * m;
+        clear(&mut fresh[bytes..]);
+        let end = limit::DROPPED * t.entries;
+        clear(&mut list[end..]);
+        let answer = Answer {
+            number: refusal::ACCEPTED,
+            place: 0,
+            records: t.records,
+            stream: n,
+            file: bytes,
+        };
+        return Rescued {
+            answer,
+            entries: t.entries,
+            dropped: t.dropped,
+        };
+    }
+    clear(fresh);
+    clear(list);
+    let answer = refused(refusal::PAYLOAD_ROOM, 0);
+    Rescued {
+        answer,
+        entries: 0,
+        dropped: 0,
     }
 }

@@ -1,5 +1,5 @@
 //! The C calls for shelves against the judge in `shelf`, byte for byte: the named cases, then seeded streams and damaged files, in buffers of junk
-//! between guards, in rooms around what is needed; and the theorems of request 12 of what they answer.
+//! between guards, in rooms around what is needed; and the theorems of requests 12 and 13 of what they answer.
 
 use super::bench::Lent;
 use super::case::Left;
@@ -19,6 +19,8 @@ pub trait ShelfCalls {
     fn shelf_write(&self, records: &[u8], file: &mut [u8], area: &mut [u8]) -> u32;
     /// `bim_shelf_read`.
     fn shelf_read(&self, file: &[u8], records: &mut [u8], area: &mut [u8]) -> u32;
+    /// `bim_shelf_salvage`.
+    fn shelf_salvage(&self, file: &[u8], fresh: &mut [u8], dropped: &mut [u8], area: &mut [u8]) -> u32;
 }
 
 /// The judge's own calls.
@@ -32,18 +34,25 @@ impl ShelfCalls for ShelfJudge {
     fn shelf_read(&self, file: &[u8], records: &mut [u8], area: &mut [u8]) -> u32 {
         shelf::read(file, records, area)
     }
+
+    fn shelf_salvage(&self, file: &[u8], fresh: &mut [u8], dropped: &mut [u8], area: &mut [u8]) -> u32 {
+        shelf::salvage(file, fresh, dropped, area)
+    }
 }
 
 /// What each call can answer.
-const NUMBERS: [Numbers; 2] = [
+const NUMBERS: [Numbers; 3] = [
     ("bim_shelf_write", &[bim::ACCEPTED, bim::PAYLOAD_ROOM, bim::AREA_SIZE, bim::BLOCK_LAYOUT]),
     (
         "bim_shelf_read",
         &[bim::ACCEPTED, bim::PAYLOAD_ROOM, bim::AREA_SIZE, bim::BLOCK_CHECK, bim::BLOCK_TURN, bim::BLOCK_LAYOUT],
     ),
+    ("bim_shelf_salvage", &[bim::ACCEPTED, bim::PAYLOAD_ROOM, bim::AREA_SIZE]),
 ];
+/// What a salvage's list tells, by reason.
+const REASONS: [&str; 4] = ["good with bytes dropped", "31", "32", "33"];
 
-/// One call in bytes: what it is given, and the rooms of its output buffer and its area.
+/// One call in bytes: what it is given, and the rooms of its output buffers, the area's last.
 #[derive(Clone, Debug, PartialEq, Eq)]
 pub struct ShelfCase {
     /// Which call.
@@ -66,6 +75,9 @@ impl ShelfCase {
         match (self.call, outputs) {
             (Call::Write, [file, area]) => calls.shelf_write(given, file.as_mut(), area.as_mut()),
             (Call::Read, [records, area]) => calls.shelf_read(given, records.as_mut(), area.as_mut()),
+            (Call::Salvage, [fresh, dropped, area]) => {
+                calls.shelf_salvage(given, fresh.as_mut(), dropped.as_mut(), area.as_mut())
+            }
             _ => panic!("{self:?} has not the buffers of its call"),
         }
     }
@@ -234,12 +246,17 @@ impl<'a> ShelfBench<'a> {
         let kinds: Vec<_> =
             Damage::ALL.iter().zip(self.met.damaged).map(|(kind, count)| format!("{kind:?} {count}")).collect();
         println!("damaged files: {files} (last by {})", kinds.join(", "));
-        let [check, turn, layout] = self.met.refused;
-        println!("sound all the same {}, refused 31 {check}, 32 {turn}, 33 {layout}", self.met.sound);
+        let reasons: Vec<_> =
+            REASONS.iter().zip(self.met.reasons).map(|(name, count)| format!("{name} {count}")).collect();
+        println!("blocks in lists: {}", reasons.join(", "));
+        println!(
+            "sound all the same {}, something kept and something dropped {}, stretches without a start {}",
+            self.met.sound, self.met.parted, self.met.without_start
+        );
         let all_met = sample
             || self.tally.has_met(&NUMBERS)
-                && self.met.sound > 0
-                && self.met.damaged.iter().chain(&self.met.refused).all(|&count| count > 0);
+                && [self.met.sound, self.met.parted, self.met.without_start].iter().all(|&count| count > 0)
+                && self.met.damaged.iter().chain(&self.met.reasons).all(|&count| count > 0);
         println!("shelves: {} rounds, {} calls in all, {} differences", self.rounds, self.made, self.tally.differing());
         if let Some(case) = self.smallest.take() {
             println!("SMALLEST: {}", self.shrink(case).shown());
@@ -280,21 +297,25 @@ fn other_rooms(rng: &mut Rng, case: &mut ShelfCase) {
     let said = ShelfCase::new(case.call, case.given.clone()).judged();
     let counts = Said::of(said.number, said.outputs).counts;
     let needed = match case.call {
-        Call::Write => counts.file,
-        Call::Read => counts.stream,
-    } as usize;
-    let any = rng.below(600);
-    case.rooms[0] = rng.pick(&[needed, needed, needed + 1, needed.saturating_sub(1), needed + any, any, 0]);
+        Call::Write => vec![counts.file],
+        Call::Read => vec![counts.stream],
+        Call::Salvage => vec![counts.file, bim::DROPPED as u64 * counts.entries],
+    };
+    let last = case.rooms.len() - 1;
+    for (room, needed) in case.rooms[..last].iter_mut().zip(needed) {
+        let (needed, any) = (needed as usize, rng.below(600));
+        *room = rng.pick(&[needed, needed, needed + 1, needed.saturating_sub(1), needed + any, any, 0]);
+    }
     if rng.one_in(8) {
         let any = rng.below(160);
-        case.rooms[1] = rng.pick(&[0, 4, bim::SHELF_AREA - 1, bim::SHELF_AREA + 1, bim::AREA, any]);
+        case.rooms[last] = rng.pick(&[0, 4, bim::SHELF_AREA - 1, bim::SHELF_AREA + 1, bim::AREA, any]);
     }
 }
 
 /// The first byte of a fuzzer's input that is a call for shelves.
 const SHELF: u8 = 0xff;
-/// The bytes before what the call is given: mark, call, the room in 2 bytes, the area, which blocks are mended.
-const HEAD: usize = 6;
+/// The bytes before what the call is given: mark, call, two rooms of 2 bytes, the area, which blocks are mended.
+const HEAD: usize = 8;
 
 /// The case that a fuzzer's bytes code, where they are one for shelves. A bit for each of eight blocks, and for those eight further on, says
 /// whether the sum is made right, so that a changed byte does not always end at 31.
@@ -303,34 +324,43 @@ pub fn decode(bytes: &[u8]) -> Option<ShelfCase> {
     if head[0] != SHELF {
         return None;
     }
-    let call = Call::ALL[usize::from(head[1]) % Call::ALL.len()];
+    let call = Call::ALL[usize::from(head[1]) % 3];
     let mut case = ShelfCase::new(call, given.to_vec());
     if call != Call::Write {
         for (index, block) in case.given.chunks_exact_mut(bim::BLOCK_BYTES).enumerate() {
-            if head[5] >> (index % 8) & 1 == 1 {
+            if head[7] >> (index % 8) & 1 == 1 {
                 mend(block);
             }
         }
     }
     // 0 leaves the room that is never too small.
-    match u16::from_be_bytes([head[2], head[3]]) {
-        0 => {}
-        word => case.rooms[0] = usize::from(word) - 1,
+    let last = case.rooms.len() - 1;
+    for (room, word) in case.rooms[..last].iter_mut().zip(head[2..6].chunks_exact(2)) {
+        match u16::from_be_bytes([word[0], word[1]]) {
+            0 => {}
+            word => *room = usize::from(word) - 1,
+        }
     }
-    match head[4] {
+    match head[6] {
         0 => {}
-        byte => case.rooms[1] = usize::from(byte),
+        byte => case.rooms[last] = usize::from(byte),
     }
     Some(case)
 }
 
-/// The bytes that code this case, sums as they are; `None` where its rooms are too large.
+/// The bytes that code this case, sums as they are; `None` where its rooms are too many.
 pub fn code(case: &ShelfCase) -> Option<Vec<u8>> {
     let usual = ShelfCase::new(case.call, case.given.clone()).rooms;
     let mut bytes = vec![SHELF, case.call as u8];
-    let word = if case.rooms[0] == usual[0] { 0 } else { u16::try_from(case.rooms[0] + 1).ok()? };
-    bytes.extend(word.to_be_bytes());
-    bytes.push(if case.rooms[1] == bim::SHELF_AREA { 0 } else { u8::try_from(case.rooms[1]).ok()? });
+    let last = case.rooms.len() - 1;
+    for index in 0..2 {
+        let word = match case.rooms[..last].get(index) {
+            Some(room) if *room != usual[index] => u16::try_from(room + 1).ok()?,
+            _ => 0,
+        };
+        bytes.extend(word.to_be_bytes());
+    }
+    bytes.push(if case.rooms[last] == bim::SHELF_AREA { 0 } else { u8::try_from(case.rooms[last]).ok()? });
     bytes.push(0);
     bytes.extend(&case.given);
     Some(bytes)
@@ -347,7 +377,8 @@ pub fn change(rng: &mut Rng, case: &mut ShelfCase) {
                 *case = ShelfCase::new(Call::Read, left.outputs[0].clone());
             }
         }
-        (2, _) => *case = ShelfCase::new(Call::Read, std::mem::take(&mut case.given)),
+        (2, _) => *case = ShelfCase::new(Call::Salvage, std::mem::take(&mut case.given)),
+        (3, _) => *case = ShelfCase::new(Call::Read, std::mem::take(&mut case.given)),
         (_, Call::Write) => case.given = odd_stream(rng),
         (_, call) => {
             damage_file(rng, &mut case.given);
@@ -371,7 +402,7 @@ mod tests {
         for _ in 0..2000 {
             let mut case = any_case(&mut rng);
             change(&mut rng, &mut case);
-            if case.rooms[1] == 0 {
+            if case.rooms[case.rooms.len() - 1] == 0 {
                 continue;
             }
             let again = code(&case).and_then(|bytes| decode(&bytes));

@@ -68,23 +68,23 @@ pub fn sum(block: &[u8]) -> u32 {
 }
 
 /// Where reading stands in a stream that grows block by block: the first record that is not known to its end.
-struct Walk {
+pub struct Walk {
     /// Where that record begins.
-    next: usize,
+    pub next: usize,
 }
 
 /// What reading on by one block found.
-struct Step {
+pub struct Step {
     /// The first record that begins in the block, counted from the block's data.
-    first: u16,
-    /// How many lengths became known.
-    begun: u64,
+    pub first: u16,
+    /// Where the records begin of which the length became known.
+    pub begun: Vec<usize>,
 }
 
 impl Walk {
     /// Reads on, the stream's bytes from `base` on being a new block's; `Err` where a length becomes known that is over 8,192.
-    fn read_on(&mut self, stream: &[u8], base: usize) -> Result<Step, ()> {
-        let mut step = Step { first: bim::NO_START, begun: 0 };
+    pub fn read_on(&mut self, stream: &[u8], base: usize) -> Result<Step, ()> {
+        let mut step = Step { first: bim::NO_START, begun: vec![] };
         while self.next < stream.len() {
             if self.next >= base && step.first == bim::NO_START {
                 step.first = (self.next - base) as u16;
@@ -96,7 +96,7 @@ impl Walk {
             if length > bim::MOST_PAYLOAD {
                 return Err(());
             }
-            step.begun += 1;
+            step.begun.push(self.next);
             self.next += bim::RECORD_HEAD + length;
         }
         Ok(step)
@@ -131,7 +131,7 @@ pub fn read(file: &[u8]) -> Result<(Vec<u8>, u64), Refusal> {
         if step.first != block.first() || ends && walk.next != stream.len() {
             return wrong(bim::BLOCK_LAYOUT);
         }
-        records += step.begun;
+        records += step.begun.len() as u64;
     }
     Ok((stream, records))
 }

@@ -1,10 +1,11 @@
-//! Shelf files, request 12: the C calls byte for byte. THE JUDGE here is `file`; `definition` has the page's reader once more, over whole
-//! files, and judges it.
+//! Shelf files and their salvage, requests 12 and 13: the C calls byte for byte. THE JUDGE here is `file` and `rescue`; `stretches` has the
+//! pages once more, as a definition over whole files, and judges it.
 
 pub mod damage;
-pub mod definition;
 pub mod file;
 pub mod laws;
+pub mod rescue;
+pub mod stretches;
 pub mod vectors;
 
 use crate::answer::Refusal;
@@ -20,8 +21,10 @@ pub struct Counts {
     pub stream: u64,
     /// Bytes of the file: read, or written.
     pub file: u64,
-    /// The area's last two numbers: 0 in both calls.
-    pub spare: [u64; 2],
+    /// Entries of a salvage's list.
+    pub entries: u64,
+    /// Used bytes of good blocks in no kept record.
+    pub dropped: u64,
 }
 
 /// The record of this root and payload, as it stands in a stream.
@@ -31,21 +34,40 @@ pub fn record(name: u16, of_type: u16, payload: &[u8]) -> Vec<u8> {
 
 /// Writes the file of a stream of records; `file` and `area` are written.
 pub fn write(records: &[u8], file: &mut [u8], area: &mut [u8]) -> u32 {
-    boundary(file, area, |room| {
+    boundary(&mut [file], area, |[room]| {
         let (made, count) = file::write(records)?;
         let counts =
             Counts { records: count, stream: records.len() as u64, file: made.len() as u64, ..Counts::default() };
-        fits(&made, room).map(|()| (made, counts))
+        fits(&made, *room).map(|()| ([made], counts))
     })
 }
 
 /// Reads the stream of records of a file; `records` and `area` are written.
 pub fn read(file: &[u8], records: &mut [u8], area: &mut [u8]) -> u32 {
-    boundary(records, area, |room| {
+    boundary(&mut [records], area, |[room]| {
         let (stream, count) = file::read(file)?;
         let counts =
             Counts { records: count, stream: stream.len() as u64, file: file.len() as u64, ..Counts::default() };
-        fits(&stream, room).map(|()| (stream, counts))
+        fits(&stream, *room).map(|()| ([stream], counts))
+    })
+}
+
+/// Makes a new file of what a damaged one still holds; `fresh`, the list `dropped` and `area` are written.
+pub fn salvage(file: &[u8], fresh: &mut [u8], dropped: &mut [u8], area: &mut [u8]) -> u32 {
+    boundary(&mut [fresh, dropped], area, |[fresh_room, list_room]| {
+        let rescue::Salvage { records, stream, entries } = rescue::salvage(file);
+        let (made, _) = file::write(&stream)?;
+        let list: Vec<u8> = entries.iter().flat_map(|entry| entry.bytes()).collect();
+        let counts = Counts {
+            records,
+            stream: stream.len() as u64,
+            file: made.len() as u64,
+            entries: entries.len() as u64,
+            dropped: entries.iter().map(|entry| u64::from(entry.bytes)).sum(),
+        };
+        fits(&made, *fresh_room)?;
+        fits(&list, *list_room)?;
+        Ok(([made, list], counts))
     })
 }
 
@@ -57,18 +79,25 @@ fn fits(made: &[u8], room: usize) -> Result<(), Refusal> {
     }
 }
 
-/// 24 first; then the answer of `ask`, which is told the room: its output with zeros behind it and its counts, or zeros and a place.
-fn boundary(output: &mut [u8], area: &mut [u8], ask: impl FnOnce(usize) -> Result<(Vec<u8>, Counts), Refusal>) -> u32 {
-    output.fill(0);
+/// 24 first; then the answer of `ask`, which is told the rooms: its outputs with zeros behind them and its counts, or zeros and a place.
+fn boundary<const N: usize>(
+    outputs: &mut [&mut [u8]; N],
+    area: &mut [u8],
+    ask: impl FnOnce(&[usize; N]) -> Result<([Vec<u8>; N], Counts), Refusal>,
+) -> u32 {
+    let rooms = std::array::from_fn(|index| outputs[index].len());
+    outputs.iter_mut().for_each(|output| output.fill(0));
     area.fill(0);
     if area.len() != bim::SHELF_AREA {
         return bim::AREA_SIZE;
     }
-    match ask(output.len()) {
+    match ask(&rooms) {
         Ok((made, counts)) => {
-            output[..made.len()].copy_from_slice(&made);
-            let Counts { records, stream, file, spare } = counts;
-            for (bytes, count) in area[4..].chunks_exact_mut(8).zip([records, stream, file, spare[0], spare[1]]) {
+            for (output, made) in outputs.iter_mut().zip(made) {
+                output[..made.len()].copy_from_slice(&made);
+            }
+            let Counts { records, stream, file, entries, dropped } = counts;
+            for (bytes, count) in area[4..].chunks_exact_mut(8).zip([records, stream, file, entries, dropped]) {
                 bytes.copy_from_slice(&count.to_be_bytes());
             }
             bim::ACCEPTED

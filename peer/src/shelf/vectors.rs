@@ -40,7 +40,7 @@ fn pieces(words: &[&str]) -> Option<Vec<u8>> {
 
 /// Whether a block is one of these vectors.
 pub fn is_shelf(block: &str) -> bool {
-    block.lines().any(|line| ["write ", "read "].iter().any(|call| line.starts_with(call)))
+    block.lines().any(|line| ["write ", "read ", "salvage "].iter().any(|call| line.starts_with(call)))
 }
 
 /// The case of a block: its lines are done one after another, and the call is given what they leave.
@@ -52,7 +52,7 @@ fn case_of(block: &str) -> Option<ShelfCase> {
         let number = |index: usize| words.get(index)?.parse::<usize>().ok();
         let (key, rest) = words.split_first()?;
         // Everything but the stream itself and what asks is done to its file.
-        if !is_file && !matches!(*key, "five" | "record" | "stream" | "write" | "read" | "given") {
+        if !is_file && !matches!(*key, "five" | "record" | "stream" | "write" | "read" | "salvage" | "given") {
             (bytes, is_file) = (cut_anyway(&bytes), true);
         }
         let at = |block: usize| Some(bim::BLOCK_BYTES * block).filter(|at| at + bim::BLOCK_BYTES <= bytes.len());
@@ -73,6 +73,10 @@ fn case_of(block: &str) -> Option<ShelfCase> {
                 let (one, other) = (at(number(1)?)?, at(number(2)?)?);
                 (0..bim::BLOCK_BYTES).for_each(|byte| bytes.swap(one + byte, other + byte));
             }
+            "without" => {
+                let from = at(number(1)?)?;
+                bytes.drain(from..from + bim::BLOCK_BYTES);
+            }
             "between" => {
                 let from = bim::BLOCK_BYTES * number(1)?;
                 bytes.splice(from..from, pieces(&rest[1..])?);
@@ -81,6 +85,7 @@ fn case_of(block: &str) -> Option<ShelfCase> {
             "more" => bytes.extend(pieces(rest)?),
             "write" => called = Some((Call::Write, vec![number(1)?])),
             "read" => called = Some((Call::Read, vec![number(1)?])),
+            "salvage" => called = Some((Call::Salvage, vec![number(1)?, number(2)?])),
             "given" => {}
             _ => return None,
         }
@@ -104,11 +109,17 @@ pub fn again(block: &str) -> Option<String> {
     lines += &format!("given {}\n", hex(&case.given));
     lines += &format!(
         "answer {number} {place} {} {} {} {} {}\n",
-        counts.records, counts.stream, counts.file, counts.spare[0], counts.spare[1]
+        counts.records, counts.stream, counts.file, counts.entries, counts.dropped
     );
     if number == bim::ACCEPTED {
         let made = if case.call == Call::Read { counts.stream } else { counts.file };
         lines += &format!("made {}\n", hex(&outputs[0][..made as usize]));
+        for entry in
+            outputs.get(1).iter().flat_map(|list| list.chunks_exact(bim::DROPPED)).take(counts.entries as usize)
+        {
+            let word = |at: usize| u32::from_be_bytes([entry[at], entry[at + 1], entry[at + 2], entry[at + 3]]);
+            lines += &format!("dropped {} {} {}\n", word(0), word(4), word(8));
+        }
     }
     Some(lines + "end\n")
 }

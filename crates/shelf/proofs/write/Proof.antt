@@ -13,99 +13,99 @@ use Rattle.shelf.proofs.blocks_for.Reads as blocks-for-reads
 use Rattle.shelf.proofs.refused.Reads as refused-reads
 use Rattle.shelf.proofs.stream.soundness.Reads as soundness-reads
 
--- src/lib.rt:52:11
+-- src/lib.rt:59:11
 soundness-requires : tie.Need-soundness-requires
 soundness-requires c κs = search needs
 
--- src/lib.rt:53:27
+-- src/lib.rt:60:27
 enum-known-i : tie.Need-enum-known-i
 enum-known-i c = search needs
 
--- src/lib.rt:54:13
+-- src/lib.rt:61:13
 clear-requires : tie.Need-clear-requires
 clear-requires c κs = search needs
 
--- src/lib.rt:55:13
+-- src/lib.rt:62:13
 refused-requires : tie.Need-refused-requires
 refused-requires c κs = search needs
 
--- src/lib.rt:57:26
+-- src/lib.rt:64:26
 enum-known-count : tie.Need-enum-known-count
 enum-known-count c = search needs
 
--- src/lib.rt:59:17
+-- src/lib.rt:66:17
 blocks-for-requires : tie.Need-blocks-for-requires
 blocks-for-requires c κs = search needs
 
--- src/lib.rt:61:17
+-- src/lib.rt:68:17
 clear-requires-2 : tie.Need-clear-requires-2
 clear-requires-2 c κs = search needs
 
--- src/lib.rt:62:17
+-- src/lib.rt:69:17
 refused-requires-2 : tie.Need-refused-requires-2
 refused-requires-2 c κs = search needs
 
--- src/lib.rt:62:17
+-- src/lib.rt:69:17
 same-length : tie.Need-same-length
 same-length c = search needs
 
--- src/lib.rt:62:17
+-- src/lib.rt:69:17
 returns : tie.Need-returns
 returns c = search (needs, write-small)
 
--- src/lib.rt:65:17
+-- src/lib.rt:72:17
 clear-requires-3 : tie.Need-clear-requires-3
 clear-requires-3 c κs = search needs
 
--- src/lib.rt:66:17
+-- src/lib.rt:73:17
 refused-requires-3 : tie.Need-refused-requires-3
 refused-requires-3 c κs = search needs
 
--- src/lib.rt:66:17
+-- src/lib.rt:73:17
 same-length-2 : tie.Need-same-length-2
 same-length-2 c = search needs
 
--- src/lib.rt:66:17
+-- src/lib.rt:73:17
 returns-2 : tie.Need-returns-2
 returns-2 c = search (needs, write-many)
 
--- src/lib.rt:68:13
+-- src/lib.rt:75:13
 cut-blocks-requires : tie.Need-cut-blocks-requires
 cut-blocks-requires c κs = search (needs, stream-so)
 
--- src/lib.rt:69:25
+-- src/lib.rt:76:25
 mul-bytes : tie.Need-mul-bytes
 mul-bytes c = search needs
 
--- src/lib.rt:70:19
+-- src/lib.rt:77:19
 sub-clear : tie.Need-sub-clear
 sub-clear c = search needs
 
--- src/lib.rt:70:19
+-- src/lib.rt:77:19
 part-clear-start : tie.Need-part-clear-start
 part-clear-start c = search needs
 
--- src/lib.rt:70:19
+-- src/lib.rt:77:19
 part-clear-end : tie.Need-part-clear-end
 part-clear-end c = search needs
 
--- src/lib.rt:70:13
+-- src/lib.rt:77:13
 clear-requires-4 : tie.Need-clear-requires-4
 clear-requires-4 c κs = search needs
 
--- src/lib.rt:49:1
+-- src/lib.rt:56:1
 same-length-3 : tie.Need-same-length-3
 same-length-3 c = search needs
 
--- src/lib.rt:49:1
+-- src/lib.rt:56:1
 returns-3 : tie.Need-returns-3
 returns-3 c = search (needs, write-faulty)
 
--- src/lib.rt:49:1
+-- src/lib.rt:56:1
 same-length-4 : tie.Need-same-length-4
 same-length-4 c = search needs
 
--- src/lib.rt:49:1
+-- src/lib.rt:56:1
 returns-4 : tie.Need-returns-4
 returns-4 c = let a = c .before .before .before .before .before .before .before .before .before .before .before .before .before .before .before .before .before .args in
     write-done (a .records .now) (length (a .file .now)) (c .before .before .before .before .before .before .before .before .before .before .before .before .before .before .soundness .ensures) (c .before .before .before .before .before .before .before .before .before .before .before .before .count .given .1) (c .before .before .before .before .before .before .before .before .before .before .blocks-for .ensures) (a .file .now) _ _ _ refl

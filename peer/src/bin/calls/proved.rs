@@ -102,6 +102,16 @@ extern "C" {
         report: *mut u8,
         report_len: usize,
     ) -> u32;
+    fn bim_shelf_salvage(
+        file: *const u8,
+        file_len: usize,
+        fresh: *mut u8,
+        fresh_len: usize,
+        dropped: *mut u8,
+        dropped_len: usize,
+        area: *mut u8,
+        area_len: usize,
+    ) -> u32;
 }
 
 /// The proved library.
@@ -228,6 +238,11 @@ impl ShelfCalls for Library {
     fn shelf_read(&self, file: &[u8], records: &mut [u8], area: &mut [u8]) -> u32 {
         let (given, made, lent) = (self.given(file), self.lent(records), self.lent(area));
         unsafe { bim_shelf_read(given, file.len(), made, records.len(), lent, area.len()) }
+    }
+
+    fn shelf_salvage(&self, file: &[u8], fresh: &mut [u8], dropped: &mut [u8], area: &mut [u8]) -> u32 {
+        let (given, made, list, lent) = (self.given(file), self.lent(fresh), self.lent(dropped), self.lent(area));
+        unsafe { bim_shelf_salvage(given, file.len(), made, fresh.len(), list, dropped.len(), lent, area.len()) }
     }
 }
 

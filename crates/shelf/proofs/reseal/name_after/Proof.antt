@@ -1,0 +1,30 @@
+use Rattle.shelf.proofs.Resealing.{reseal-ways, followed-past, name-small}
+use borrow.Author.Needs.{needs}
+use Rattle.shelf.proofs.reseal.name_after.Statement.{statement}
+use Rattle.shelf.proofs.reseal.name_after.Tie as tie
+use Rattle.shelf.proofs.reseal.name_after.Reads as reads
+use Rattle.shelf.proofs.reseal.name_after.Lts as lts
+use Rattle.shelf.proofs.judge.first_in_file.Reads as first-in-file-reads
+
+enum-known-w : tie.Need-enum-known-w
+enum-known-w c = search needs
+
+enum-told : tie.Need-enum-told
+enum-told c = search needs
+
+returns : tie.Need-returns
+returns c = search (needs, reseal-ways)
+
+mul-first-in-file : tie.Need-mul-first-in-file
+mul-first-in-file c = search needs
+
+first-in-file-requires : tie.Need-first-in-file-requires
+first-in-file-requires c κs = search (needs, followed-past)
+
+returns-2 : tie.Need-returns-2
+returns-2 c = search (needs, reseal-ways, name-small)
+
+pub name-after-spec : {M : Type 1} → statement M
+name-after-spec =
+    tie.close
+    (tie.spec enum-known-w enum-told returns mul-first-in-file first-in-file-requires returns-2)
