@@ -6,10 +6,10 @@ CFLAGS = -O2
 # What every C file here is compiled with, besides.
 STRICT = -std=c99 -pedantic -Wall -Wextra -Wconversion -Wsign-conversion -Werror -Iinclude -Itools
 ARCHIVE = target/staticlib/libbim.a
-PROGRAMS = host lengths write explain holds mark pack shelf report apart
-TRIALS = refusals faults bits exact walk reports threads stack shelves cuts
+PROGRAMS = host lengths write startup explain holds mark pack init shelf report apart
+TRIALS = refusals faults bits exact messages walk reports threads stack shelves cuts
 # The programs whose C code runs under the sanitizers. Not stack: it brings a stack of its own, of which they know nothing.
-SANITIZED = $(PROGRAMS) refusals faults bits exact walk reports threads header shelves cuts
+SANITIZED = $(PROGRAMS) refusals faults bits exact messages walk reports threads header shelves cuts
 SANITIZERS = -O1 -g -fsanitize=$(SANITIZE) -fno-sanitize-recover=all
 export SANITIZE = address,undefined
 # The header says which.
@@ -77,12 +77,12 @@ quotes: host $(TRIALS:%=target/c/%)
 	bash tests/quotes --write
 
 # The C side under AddressSanitizer and UndefinedBehaviorSanitizer, the C calls and a sample of the comparison under valgrind: a part of the gate.
-sanitized: peer/target/release/calls $(SANITIZED:%=target/sanitized/%) target/c/exact target/c/reports target/c/threads target/c/host target/c/write target/c/shelf target/c/shelves
+sanitized: peer/target/release/calls $(SANITIZED:%=target/sanitized/%) target/c/exact target/c/messages target/c/reports target/c/threads target/c/host target/c/write target/c/shelf target/c/shelves
 	bash tests/sanitized
 
 # The stack that each call needs, held to BIM_STACK.
 stack: target/c/stack
-	target/c/stack examples/tables.txt examples/payloads.txt examples/lists.txt examples/settings.txt
+	target/c/stack examples/tables.txt examples/payloads.txt examples/lists.txt examples/settings.txt --messages examples/messages.txt
 	bash tests/frames $(ARCHIVE)
 
 # The proved C calls under libFuzzer, the peer judging: make fuzz SECONDS=600.

@@ -61,6 +61,15 @@ extern "C" {
 #define BIM_MOST_WORD 4294967295
 /* How many parties there are, numbered from 0. */
 #define BIM_PARTIES 8
+/* Of a start-up message: the bytes of what it says and of its writer's area; its most schemas, the greatest unit size code, the greatest number
+ * and so the most bytes of a text, the most reference formats; the bytes of it that are read, 2^29 - 1, as places stop there. */
+#define BIM_INIT 128
+#define BIM_INIT_AREA 8
+#define BIM_MOST_SCHEMAS 4
+#define BIM_MOST_UNIT 6
+#define BIM_MOST_VLU8 16383
+#define BIM_MOST_FORMATS 255
+#define BIM_MOST_MESSAGE 536870911
 
 /* The stack, in bytes, that a call never needs more than. It has no arrays but of fixed length, and calls itself once for each row open, of
  * which there are at most 64. `make stack` measures it, and bounds it by the frames of the machine code (x86-64). */
@@ -126,9 +135,13 @@ enum {
     BIM_AREA_SIZE = 24,     /* the area has not BIM_AREA bytes, or a report not BIM_REPORT: 0 */
     BIM_CONTROL = 25,       /* text with a control character, a byte below 32 other than 9, 10, 13: item */
     BIM_PARTY = 26,         /* party over 7: 0 */
+    BIM_RESERVED_BITS = 28, /* reserved bits not ones, in a start-up message: item */
+    BIM_NO_SCHEMAS = 29,    /* no schemas in a start-up message: item, or word */
+    BIM_MANY_SCHEMAS = 30,  /* over four schemas in a start-up message: item, or word */
     BIM_BLOCK_CHECK = 31,   /* check of a block of a shelf wrong: block */
     BIM_BLOCK_TURN = 32,    /* number of a block out of turn: block */
-    BIM_BLOCK_LAYOUT = 33   /* layout of a shelf, or of a stream of records: block */
+    BIM_BLOCK_LAYOUT = 33,  /* layout of a shelf, or of a stream of records: block */
+    BIM_ADVANCED_FLAG = 34  /* flag for advanced decoders or additional schemas set, in a start-up message: item, or word */
 };
 
 /* THE AREA, word by word; it has BIM_AREA bytes. */
@@ -188,9 +201,13 @@ static inline const char *bim_refusal_name(uint32_t number)
     case BIM_AREA_SIZE: return "answer area not 152 bytes";
     case BIM_CONTROL: return "control character in a text";
     case BIM_PARTY: return "party over 7";
+    case BIM_RESERVED_BITS: return "reserved bits not ones";
+    case BIM_NO_SCHEMAS: return "no schemas";
+    case BIM_MANY_SCHEMAS: return "over four schemas";
     case BIM_BLOCK_CHECK: return "check of a block wrong";
     case BIM_BLOCK_TURN: return "block number out of turn";
     case BIM_BLOCK_LAYOUT: return "shelf layout";
+    case BIM_ADVANCED_FLAG: return "flag for advanced decoders or additional schemas set";
     default: return "no number of this library";
     }
 }
@@ -299,6 +316,118 @@ uint32_t bim_write_lengths(const uint8_t *table, size_t table_bytes,
 uint32_t bim_set_held(uint8_t *table, size_t table_bytes,
                       uint32_t party, uint32_t type, uint32_t mark,
                       uint8_t *area, size_t area_bytes);
+
+/* THE START-UP MESSAGE, DecoderInit (ISO/IEC 15938-1, 7.2): what a description stream begins with, and says which schemas it is of. One reader
+ * serves the first form and the amended one. What a message says stands in `init`, which has exactly BIM_INIT bytes, 32 words:
+ *
+ *     word  0          place    where the refusal is; 0 on acceptance. The writer does not look at it
+ *           1, 2       profile; unit size code, 0 to 6. Payloads of this library have unit size code 0
+ *           3          stepped  how many bits were stepped over behind the flags: 8 L - 7 for flags of L bytes; 0 where there are no flags
+ *           4          flags    seven, as below
+ *           5          first    the first bit stepped over
+ *           6, 7       schemas, 1 to 4; words used in `codecs`
+ *           8, 9       stretch of the reference formats, a byte each; 0, 0 without BIM_FRAGMENT_REFERENCE_FLAG
+ *          10, 11      stretch of the initial description
+ *          12 + 5 k    of schema k from 0: stretch of its URI, stretch of its location hint, how many codecs; 0 past the last schema
+ *
+ * A STRETCH is two words, a byte place and a count of bytes: in the message that was read, or in the bytes `given` to the writer. So nothing is
+ * copied, and a message read may be what its writer is given. URIs, hints, formats, profile and types are handed back as they are: nothing is
+ * judged of them but that a schema's URI has a byte.
+ *
+ * `codecs` is words too, for each codec, schema by schema: stretch of its URI, how many types, the types. It is lent, and the room is its bytes / 4.
+ *
+ * THE FIRST BIT STEPPED OVER has a meaning by Amendment 2, ContextPathTableFlag: a table would follow the schemas. It is read as reserved all the
+ * same, but where it is 1 what comes behind the schemas, the formats and the description, was not meant as it is read; and it is not written. */
+enum {
+    BIM_INSERT_FLAG = 64,
+    BIM_ADVANCED_DECODERS_FLAG = 32, /* AdvancedOptimisedDecodersFlag: refused, BIM_ADVANCED_FLAG, and so are the next two */
+    BIM_ADDITIONAL_SCHEMA_FLAG = 16,
+    BIM_SCHEMA_UPDATES_FLAG = 8,     /* AdditionalSchemaUpdatesOnlyFlag */
+    BIM_FRAGMENT_REFERENCE_FLAG = 4, /* formats stand before the description */
+    BIM_MPC_ONLY_FLAG = 2,
+    BIM_HIERARCHY_FLAG = 1           /* HierarchyBasedSubstitutionCodingFlag */
+};
+
+/* Reads a start-up message.
+ *
+ *     message    of any length; bytes past BIM_MOST_MESSAGE are not read
+ *     codecs     written: on acceptance its first words are the codecs; what is left is 0
+ *     init       written: it is the answer area of this call
+ *
+ * The place is the first bit of the item at fault, a multiple of 8. An item is a number, or a text with its count, or the flags, or the unit byte.
+ * Refused are, item by item: BIM_PAST_END an item that passes the end; BIM_TOO_LARGE, then BIM_NOT_SHORTEST a number of over two bytes, or of two
+ * where one would do; BIM_RESERVED_BITS; BIM_NO_SUCH_CODE the unit size code 7, flags of no bytes, a schema's URI of none; BIM_ADVANCED_FLAG where
+ * all bytes of the flags are there; BIM_NO_SCHEMAS, BIM_MANY_SCHEMAS; BIM_EVENT_ROOM where `codecs` has no room for the item's words (2 of a URI,
+ * else 1). BIM_LEFT_OVER comes last, at the first byte left. BIM_AREA_SIZE comes first, where `init` has not BIM_INIT bytes. */
+uint32_t bim_init_read(const uint8_t *message, size_t message_bytes,
+                       uint8_t *codecs, size_t codecs_bytes,
+                       uint8_t *init, size_t init_bytes);
+
+/* Writes a start-up message: of the same meaning, and byte for byte the same, as the one that `init` and `codecs` were read from; bits stepped over
+ * are written as zeros.
+ *
+ *     init       the 32 words, of which 0 and those past the last schema are not looked at, nor is 8 without BIM_FRAGMENT_REFERENCE_FLAG
+ *     codecs     the words that init's word 7 counts; any more are not looked at
+ *     given      where the stretches lie; they may overlap
+ *     message    written: on acceptance its first bytes are the message; what is left is 0
+ *     area       written, BIM_INIT_AREA bytes: place, and the bytes of the message
+ *
+ * The place is the index of the word at fault, in init and then, from 32 on, in codecs; of a stretch it is the count's. Refusals come in this order:
+ * BIM_AREA_SIZE; BIM_NO_READING at 0 where init has not BIM_INIT bytes, at 7 where word 7 is over the words lent; then in the message's order
+ * BIM_OUTSIDE_ROW a word that its field does not hold (first at 5 among them, and formats without their flag), BIM_ADVANCED_FLAG at 4, BIM_NO_SCHEMAS
+ * and BIM_MANY_SCHEMAS at 6, BIM_TEXT_BYTES a stretch that passes given, BIM_NO_READING at 32 + word 7 where a codec's words are missing; last
+ * BIM_NO_READING at the first word of codecs left over, and BIM_PAYLOAD_ROOM at 0. */
+uint32_t bim_init_write(const uint8_t *init, size_t init_bytes,
+                        const uint8_t *codecs, size_t codecs_bytes,
+                        const uint8_t *given, size_t given_bytes,
+                        uint8_t *message, size_t message_bytes,
+                        uint8_t *area, size_t area_bytes);
+
+/* Word i of init or codecs, read and set. */
+static inline uint32_t bim_get_word(const uint8_t *words, size_t i) { return bim_word(words + 4 * i); }
+static inline void bim_set_word(uint8_t *words, size_t i, uint32_t word)
+{
+    size_t byte;
+    for (byte = 4 * i + 4; byte > 4 * i; byte--, word >>= 8)
+        words[byte - 1] = word & 0xff;
+}
+
+/* A stretch, which begins at word i. */
+typedef struct bim_stretch {
+    uint32_t place, bytes;
+} bim_stretch;
+static inline bim_stretch bim_stretch_at(const uint8_t *words, size_t i)
+{
+    bim_stretch stretch;
+    stretch.place = bim_get_word(words, i);
+    stretch.bytes = bim_get_word(words, i + 1);
+    return stretch;
+}
+
+/* WHAT A MESSAGE SAYS, word by word; k is a schema, from 0. */
+static inline uint32_t bim_init_place(const uint8_t *init) { return bim_get_word(init, 0); }
+static inline uint32_t bim_init_profile(const uint8_t *init) { return bim_get_word(init, 1); }
+static inline uint32_t bim_init_unit(const uint8_t *init) { return bim_get_word(init, 2); }
+static inline uint32_t bim_init_stepped(const uint8_t *init) { return bim_get_word(init, 3); }
+static inline uint32_t bim_init_flags(const uint8_t *init) { return bim_get_word(init, 4); }
+static inline uint32_t bim_init_first_stepped(const uint8_t *init) { return bim_get_word(init, 5); }
+static inline uint32_t bim_init_schemas(const uint8_t *init) { return bim_get_word(init, 6); }
+static inline uint32_t bim_init_codec_words(const uint8_t *init) { return bim_get_word(init, 7); }
+static inline bim_stretch bim_init_formats(const uint8_t *init) { return bim_stretch_at(init, 8); }
+static inline bim_stretch bim_init_description(const uint8_t *init) { return bim_stretch_at(init, 10); }
+static inline bim_stretch bim_init_uri(const uint8_t *init, uint32_t k) { return bim_stretch_at(init, 12 + 5 * k); }
+static inline bim_stretch bim_init_hint(const uint8_t *init, uint32_t k) { return bim_stretch_at(init, 14 + 5 * k); }
+static inline uint32_t bim_init_codecs(const uint8_t *init, uint32_t k) { return bim_get_word(init, 16 + 5 * k); }
+
+/* A CODEC, whose words begin at word i of codecs; the next one's begin at bim_codec_next. */
+static inline bim_stretch bim_codec_uri(const uint8_t *codecs, size_t i) { return bim_stretch_at(codecs, i); }
+static inline uint32_t bim_codec_types(const uint8_t *codecs, size_t i) { return bim_get_word(codecs, i + 2); }
+static inline uint32_t bim_codec_type(const uint8_t *codecs, size_t i, uint32_t type) { return bim_get_word(codecs, i + 3 + type); }
+static inline size_t bim_codec_next(const uint8_t *codecs, size_t i) { return i + 3 + bim_codec_types(codecs, i); }
+
+/* The writer's area. */
+static inline uint32_t bim_init_area_place(const uint8_t *area) { return bim_word(area); }
+static inline uint32_t bim_init_area_bytes(const uint8_t *area) { return bim_word(area + 4); }
 
 /* SHELVES: payloads kept in a file, and what a damaged file still holds.
  *

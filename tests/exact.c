@@ -39,7 +39,7 @@ static uint32_t read_once(const struct trial *it, enum place place, uint8_t *are
     if (number != BIM_ACCEPTED && !(all_zero(events, it->event_room) && all_zero(texts, it->text_room)))
         wrong("a refusal left bytes");
     if (number == BIM_ACCEPTED && it->number == BIM_ACCEPTED &&
-        !(is(events, it->event_room, &vector->events) && is(texts, it->text_room, &vector->texts)))
+        !(is(events, it->event_room, vector->events.at, vector->events.length) && is(texts, it->text_room, vector->texts.at, vector->texts.length)))
         wrong("other events or texts");
     give_back(place, 0, table);
     give_back(place, 1, payload);
@@ -62,7 +62,7 @@ static uint32_t write_once(const struct trial *it, enum place place, uint8_t *ar
                                 vector->texts.length, payload, it->payload_room, area, it->area_room);
     if (number != BIM_ACCEPTED && !all_zero(payload, it->payload_room))
         wrong("a refusal left bytes");
-    if (number == BIM_ACCEPTED && it->number == BIM_ACCEPTED && !is(payload, it->payload_room, &vector->payload))
+    if (number == BIM_ACCEPTED && it->number == BIM_ACCEPTED && !is(payload, it->payload_room, vector->payload.at, vector->payload.length))
         wrong("another payload");
     give_back(place, 0, table);
     give_back(place, 1, events);
@@ -82,7 +82,7 @@ static uint32_t set_once(const struct trial *it, enum place place, uint8_t *area
     number = bim_set_held(table, it->table_bytes, vector->party, vector->type, vector->mark, area, it->area_room);
     if (number != BIM_ACCEPTED && it->table_bytes > 0 && memcmp(table, vector->table.at, it->table_bytes) != 0)
         wrong("a refusal changed the table");
-    if (number == BIM_ACCEPTED && it->number == BIM_ACCEPTED && !is(table, it->table_bytes, &vector->now))
+    if (number == BIM_ACCEPTED && it->number == BIM_ACCEPTED && !is(table, it->table_bytes, vector->now.at, vector->now.length))
         wrong("another table");
     give_back(place, 0, table);
     return number;

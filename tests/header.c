@@ -222,18 +222,63 @@ static void try_walk(void)
     same("no End", bim_walk_next(&walk, &step), -1);
 }
 
+/* Word i is 2^31 + i, so that each differs and has its top bit set; a codec of three types stands at word 7, one of none behind it. */
+static void try_init(void)
+{
+    const uint32_t top = 0x80000000u;
+    uint8_t init[BIM_INIT], codecs[4 * 16], area[BIM_INIT_AREA] = {0x80, 1, 2, 3, 0x84, 5, 6, 7};
+    uint32_t i;
+    for (i = 0; i < BIM_INIT / 4; i++)
+        bim_set_word(init, i, top + i);
+    for (i = 0; i < 16; i++)
+        bim_set_word(codecs, i, top + i);
+    bim_set_word(codecs, 9, 3);
+    bim_set_word(codecs, 15, 0);
+    same("the most significant byte first", init[0], 0x80);
+    same("the least significant byte last", init[127], 31);
+    same("init's place", bim_init_place(init), top);
+    same("profile", bim_init_profile(init), top + 1);
+    same("unit", bim_init_unit(init), top + 2);
+    same("stepped", bim_init_stepped(init), top + 3);
+    same("flags", bim_init_flags(init), top + 4);
+    same("first stepped", bim_init_first_stepped(init), top + 5);
+    same("schemas", bim_init_schemas(init), top + 6);
+    same("codec words", bim_init_codec_words(init), top + 7);
+    same("formats' place", bim_init_formats(init).place, top + 8);
+    same("formats", bim_init_formats(init).bytes, top + 9);
+    same("description's place", bim_init_description(init).place, top + 10);
+    same("description's bytes", bim_init_description(init).bytes, top + 11);
+    for (i = 0; i < BIM_MOST_SCHEMAS; i++) {
+        same("URI's place", bim_init_uri(init, i).place, top + 12 + 5 * i);
+        same("URI's bytes", bim_init_uri(init, i).bytes, top + 13 + 5 * i);
+        same("hint's place", bim_init_hint(init, i).place, top + 14 + 5 * i);
+        same("hint's bytes", bim_init_hint(init, i).bytes, top + 15 + 5 * i);
+        same("codecs", bim_init_codecs(init, i), top + 16 + 5 * i);
+    }
+    same("codec's URI's place", bim_codec_uri(codecs, 7).place, top + 7);
+    same("codec's URI's bytes", bim_codec_uri(codecs, 7).bytes, top + 8);
+    same("types", bim_codec_types(codecs, 7), 3);
+    same("the last type", bim_codec_type(codecs, 7, 2), top + 12);
+    same("the next codec", (long long)bim_codec_next(codecs, 7), 13);
+    same("past the codecs", (long long)bim_codec_next(codecs, 13), 16);
+    same("the writer's place", bim_init_area_place(area), 0x80010203);
+    same("the writer's bytes", bim_init_area_bytes(area), 0x84050607);
+}
+
 static void try_names(void)
 {
     const char *const none = bim_refusal_name(0xffffffffu);
     uint32_t one, other, named = 0;
-    for (one = 0; one <= BIM_BLOCK_LAYOUT + 1; one++) {
+    for (one = 0; one <= BIM_ADVANCED_FLAG + 1; one++) {
         named += strcmp(bim_refusal_name(one), none) != 0;
         for (other = 0; other < one; other++)
             if (strcmp(bim_refusal_name(one), bim_refusal_name(other)) == 0 && strcmp(bim_refusal_name(one), none) != 0)
                 same("numbers of one name", one, other);
     }
-    /* 0 to 26, and those of shelves. */
-    same("numbers with a name", named, 27 + 3);
+    /* 0 to 26, those of the start-up message, and those of shelves. */
+    same("numbers with a name", named, 27 + 4 + 3);
+    same("between the numbers", strcmp(bim_refusal_name(BIM_PARTY + 1), none), 0);
+    same("past the numbers", strcmp(bim_refusal_name(BIM_ADVANCED_FLAG + 1), none), 0);
 }
 
 /* Numbers and lines of a report; 2^64 - 1 is none too large. */
@@ -278,7 +323,7 @@ static void try_report(void)
 /* The calls link, and take null pointers with lengths of 0. */
 static void try_calls(void)
 {
-    uint8_t area[BIM_AREA];
+    uint8_t area[BIM_AREA], init[BIM_INIT];
     same("check", bim_check_table(NULL, 0, area, sizeof area), BIM_TABLE);
     same("read", bim_read(NULL, 0, 0, 0, 0, NULL, 0, NULL, 0, NULL, 0, area, sizeof area), BIM_TABLE);
     same("write", bim_write(NULL, 0, 0, 0, 0, 0, NULL, 0, NULL, 0, NULL, 0, area, sizeof area), BIM_TABLE);
@@ -288,6 +333,9 @@ static void try_calls(void)
     same("shelf read", bim_shelf_read(NULL, 0, NULL, 0, area, BIM_SHELF_AREA), BIM_ACCEPTED);
     same("shelf salvaged", bim_shelf_salvage(NULL, 0, NULL, 0, NULL, 0, area, BIM_SHELF_AREA), BIM_ACCEPTED);
     same("no area", bim_check_table(NULL, 0, NULL, 0), BIM_AREA_SIZE);
+    same("message", bim_init_read(NULL, 0, NULL, 0, init, sizeof init), BIM_PAST_END);
+    same("words", bim_init_write(NULL, 0, NULL, 0, NULL, 0, NULL, 0, init, BIM_INIT_AREA), BIM_NO_READING);
+    same("no init", bim_init_read(NULL, 0, NULL, 0, NULL, 0), BIM_AREA_SIZE);
 }
 
 /* The bits 100010, 00011, 10000001 00000101 and 10100: a take moves the place past the code, and stays where it is refused. */
@@ -323,6 +371,7 @@ int main(void)
     try_no_past_rows();
     try_walk();
     same("version", BIM_VERSION, 200);
+    try_init();
     try_names();
     try_calls();
     try_bits();

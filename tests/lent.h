@@ -75,4 +75,11 @@ static inline int all_zero(const uint8_t *bytes, size_t length)
     return 1;
 }
 
+/* Whether the buffer is these bytes, and 0 behind them. */
+static inline int is(const uint8_t *bytes, size_t length, const uint8_t *expected, size_t expected_length)
+{
+    return expected_length <= length && (expected_length == 0 || memcmp(bytes, expected, expected_length) == 0) &&
+           all_zero(bytes + expected_length, length - expected_length);
+}
+
 #endif

@@ -1,5 +1,5 @@
-/* A bim_read and a bim_shelf_salvage with a fault of this number, around the right ones (tests/planted renames those to right_read and
- * right_salvage): what the trials have to find. */
+/* A bim_read, a bim_init_read and a bim_shelf_salvage with a fault of this number, around the right ones (tests/planted renames those to right_read,
+ * right_init_read and right_salvage): what the trials have to find. The first five are around bim_init_read as well as bim_read. */
 #include <stdlib.h>
 #include "bim.h"
 
@@ -30,6 +30,27 @@ uint32_t bim_read(const uint8_t *table, size_t table_bytes, uint32_t party, uint
         texts[3] ^= 1;
     free((void *)(uintptr_t)never_written);
     (void)deep[0];
+    return number;
+}
+
+uint32_t right_init_read(const uint8_t *message, size_t message_bytes, uint8_t *codecs, size_t codecs_bytes, uint8_t *init, size_t init_bytes);
+
+uint32_t bim_init_read(const uint8_t *message, size_t message_bytes, uint8_t *codecs, size_t codecs_bytes, uint8_t *init, size_t init_bytes)
+{
+    volatile uint8_t seen = 0, *never_written = (volatile uint8_t *)malloc(1);
+    const uint32_t number = right_init_read(message, message_bytes, codecs, codecs_bytes, init, init_bytes);
+    if (FAULT == 1)
+        *(volatile uint8_t *)(codecs + codecs_bytes) = 0xdd;
+    if (FAULT == 2)
+        seen = *(const volatile uint8_t *)(message + message_bytes);
+    if (FAULT == 3 && message_bytes > 0)
+        *(volatile uint8_t *)(uintptr_t)message = message[0];
+    if (FAULT == 4 && never_written != NULL && *never_written == 7)
+        seen = 2;
+    if (FAULT == 5 && number == BIM_ACCEPTED && bim_init_flags(init) > 0)
+        init[19] ^= 1;
+    free((void *)(uintptr_t)never_written);
+    (void)seen;
     return number;
 }
 

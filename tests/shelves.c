@@ -134,13 +134,6 @@ static uint32_t call(const struct trial *it, const uint8_t *given, uint8_t *made
     }
 }
 
-/* Whether the buffer is these bytes, and 0 behind them. */
-static int is(const uint8_t *bytes, size_t length, const struct bytes *expected)
-{
-    return expected->length <= length && (expected->length == 0 || memcmp(bytes, expected->at, expected->length) == 0) &&
-           all_zero(bytes + expected->length, length - expected->length);
-}
-
 static void ask(const struct trial *it)
 {
     int i;
@@ -159,7 +152,7 @@ static void ask(const struct trial *it)
         if (number == vector.number && it->number == (int)number && number != BIM_AREA_SIZE && memcmp(area, vector.area, sizeof vector.area) != 0)
             wrong("another area");
         if (number == BIM_ACCEPTED && it->number == BIM_ACCEPTED &&
-            !(is(made, it->rooms[0], &vector.made) && (vector.asked != SALVAGE || is(dropped, it->rooms[1], &vector.dropped))))
+            !(is(made, it->rooms[0], vector.made.at, vector.made.length) && (vector.asked != SALVAGE || is(dropped, it->rooms[1], vector.dropped.at, vector.dropped.length))))
             wrong("other bytes");
         give_back(place, 0, given);
         give_back(place, 1, made);

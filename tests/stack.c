@@ -1,4 +1,4 @@
-/* The stack that each call needs: stack VECTORS.. Each call runs on a stack of its own, painted before, between two pages that cannot be
+/* The stack that each call needs: stack VECTORS.. [--messages MESSAGES]. Each call runs on a stack of its own, painted before, between two pages that cannot be
  * touched; the deepest byte that lost its paint tells. Asked are the vectors, and chains of rows as deep as may be opened and deeper: every
  * pattern of up to four kinds of row over and over, with attributes and a text inside the last element, written in every mode, read back. In
  * the modes with type codes every element but the root is substituted, and could be cast.
@@ -9,7 +9,7 @@
 #include <ucontext.h>
 #include <unistd.h>
 #include "bim_table.h"
-#include "vector.h"
+#include "message_vector.h"
 
 /* The root and the last element are open too, so the chain of 62 rows is the longest that may be. */
 enum { STACK = 1 << 20, PAINT = 0xa5, LONGEST = BIM_MOST_NAMES - 2, MOST_PATTERN = 4 };
@@ -19,8 +19,12 @@ static ucontext_t here, there;
 static struct vector asked;
 static uint8_t events[BIM_MOST_EVENTS * BIM_EVENT], texts[BIM_MOST_PAYLOAD], payload[BIM_MOST_PAYLOAD], area[BIM_AREA];
 static uint32_t number;
-static size_t most[CALLS];
-static char most_in[CALLS][sizeof asked.name];
+/* The calls of the start-up message behind the others. */
+enum { INIT_READ = CALLS, INIT_WRITE, ALL_CALLS };
+static struct message_vector message;
+static uint8_t codecs[1 << 16], init[BIM_INIT], written[1 << 16];
+static size_t most[ALL_CALLS];
+static char most_in[ALL_CALLS][sizeof asked.name];
 static unsigned long calls;
 static int counting; /* the reading at hand is counted into a report */
 static uint8_t report[BIM_REPORT];
@@ -47,6 +51,15 @@ static void call(void)
                                    asked.events.length, asked.texts.at, asked.texts.length, payload, sizeof payload, area, sizeof area);
 }
 
+static void call_of_message(void)
+{
+    if (message.writes)
+        number = bim_init_write(message.init.at, message.init.length, message.codecs.at, message.codecs.length, message.given.at,
+                                message.given.length, written, sizeof written, init, BIM_INIT_AREA);
+    else
+        number = bim_init_read(message.message.at, message.message.length, codecs, sizeof codecs, init, sizeof init);
+}
+
 /* Not by memset: its first call, at which the loader looks it up on the caller's stack, is left to the library. */
 static void paint(void)
 {
@@ -57,7 +70,7 @@ static void paint(void)
 }
 
 /* Asks on the painted stack. What is above the call there, this program's own frame, is counted too. */
-static void measure(void)
+static void measure_of(void (*once)(void), size_t which, const char *name)
 {
     size_t low = 0, used;
     paint();
@@ -66,7 +79,7 @@ static void measure(void)
     there.uc_stack.ss_sp = stack;
     there.uc_stack.ss_size = STACK;
     there.uc_link = &here;
-    makecontext(&there, call, 0);
+    makecontext(&there, once, 0);
     if (swapcontext(&here, &there) != 0)
         abort();
     while (low < STACK && stack[low] == PAINT)
@@ -75,11 +88,16 @@ static void measure(void)
     calls++;
     if (counting && used > most_counting) {
         most_counting = used;
-        memcpy(most_counting_in, asked.name, sizeof asked.name);
-    } else if (!counting && used > most[asked.asked]) {
-        most[asked.asked] = used;
-        memcpy(most_in[asked.asked], asked.name, sizeof asked.name);
+        memcpy(most_counting_in, name, sizeof asked.name);
+    } else if (!counting && used > most[which]) {
+        most[which] = used;
+        memcpy(most_in[which], name, sizeof asked.name);
     }
+}
+
+static void measure(void)
+{
+    measure_of(call, asked.asked, asked.name);
 }
 
 /* A reading, and the same counted into a report. */
@@ -264,20 +282,24 @@ int main(int argc, char **argv)
     stack = whole + page;
     measure_chains();
     for (i = 1; i < argc; i++) {
-        FILE *file = fopen(argv[i], "r");
+        const int of_messages = strcmp(argv[i], "--messages") == 0 && i + 1 < argc;
+        FILE *file = fopen(argv[i += of_messages], "r");
         if (file == NULL) {
             perror(argv[i]);
             return 2;
         }
-        while (next_vector(file, &asked))
+        while (of_messages && next_message(file, &message))
+            measure_of(call_of_message, message.writes ? INIT_WRITE : INIT_READ, message.name);
+        while (!of_messages && next_vector(file, &asked))
             if (asked.asked == READ)
                 measure_reading();
             else
                 measure();
         fclose(file);
     }
-    for (i = 0; i < CALLS; i++) {
-        printf("%-17s %6lu bytes of stack (%s)\n", call_names[i], (unsigned long)most[i], most_in[i]);
+    for (i = 0; i < ALL_CALLS; i++) {
+        const char *const name = i == INIT_READ ? "bim_init_read" : i == INIT_WRITE ? "bim_init_write" : call_names[i];
+        printf("%-17s %6lu bytes of stack (%s)\n", name, (unsigned long)most[i], most_in[i]);
         over |= most[i] > BIM_STACK;
     }
     printf("%-17s %6lu bytes of stack (%s)\n", "bim_report_add", (unsigned long)most_counting, most_counting_in);

@@ -144,13 +144,4 @@ static inline int next_vector(FILE *file, struct vector *vector)
     return 0;
 }
 
-#ifdef LENT_H
-/* Whether the buffer is these bytes, and 0 behind them; for those who lend buffers (lent.h, included before). */
-static inline int is(const uint8_t *bytes, size_t length, const struct bytes *expected)
-{
-    return expected->length <= length && (expected->length == 0 || memcmp(bytes, expected->at, expected->length) == 0) &&
-           all_zero(bytes + expected->length, length - expected->length);
-}
-#endif
-
 #endif

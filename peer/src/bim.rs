@@ -57,12 +57,37 @@ pub const AREA_SIZE: u32 = 24;
 pub const CONTROL: u32 = 25;
 /// The party is over 7.
 pub const PARTY: u32 = 26;
+/// Reserved bits of a start-up message are not ones.
+pub const RESERVED_BITS: u32 = 28;
+/// A start-up message has no schemas.
+pub const NO_SCHEMAS: u32 = 29;
+/// A start-up message has over four schemas.
+pub const MANY_SCHEMAS: u32 = 30;
 /// The check of a block of a shelf is wrong.
 pub const BLOCK_CHECK: u32 = 31;
 /// A block's number is out of turn.
 pub const BLOCK_TURN: u32 = 32;
 /// The layout of a shelf is wrong.
 pub const BLOCK_LAYOUT: u32 = 33;
+/// A start-up message has a flag for advanced decoders or additional schemas set.
+pub const ADVANCED_FLAG: u32 = 34;
+
+// The flags of a start-up message, as the number of seven bits that they are.
+
+/// InsertFlag.
+pub const INSERT_FLAG: u32 = 64;
+/// AdvancedOptimisedDecodersFlag: 34.
+pub const ADVANCED_DECODERS_FLAG: u32 = 32;
+/// AdditionalSchemaFlag: 34.
+pub const ADDITIONAL_SCHEMA_FLAG: u32 = 16;
+/// AdditionalSchemaUpdatesOnlyFlag: 34.
+pub const SCHEMA_UPDATES_FLAG: u32 = 8;
+/// FragmentReferenceFlag: formats stand before the description.
+pub const FRAGMENT_REFERENCE_FLAG: u32 = 4;
+/// MPCOnlyFlag.
+pub const MPC_ONLY_FLAG: u32 = 2;
+/// HierarchyBasedSubstitutionCodingFlag.
+pub const HIERARCHY_FLAG: u32 = 1;
 
 // The kinds of an event, its first word.
 
@@ -150,6 +175,20 @@ pub const MOST_NAMES: usize = 64;
 pub const MOST_WORD: u32 = 4_294_967_295;
 /// How many parties have marks in a table, counted from 0.
 pub const PARTIES: u32 = 8;
+/// The bytes of what a start-up message says.
+pub const INIT: usize = 128;
+/// The bytes of its writer's area.
+pub const INIT_AREA: usize = 8;
+/// The bytes of a start-up message that are read: the places of all their bits are below 2^32 - 1.
+pub const MOST_MESSAGE: usize = 536_870_911;
+/// The most schemas of a start-up message.
+pub const MOST_SCHEMAS: u32 = 4;
+/// The greatest unit size code; 7 is reserved.
+pub const MOST_UNIT: u32 = 6;
+/// The greatest number of two bytes of vluimsbf8.
+pub const MOST_VLU8: u32 = 16_383;
+/// The most reference formats: their count has 8 plain bits.
+pub const MOST_FORMATS: u32 = 255;
 /// The bytes of the area of the calls for shelves.
 pub const SHELF_AREA: usize = 44;
 /// The bytes of an entry in the list of what a salvage dropped.

@@ -11,7 +11,7 @@ use crate::call::{Call, Read, Set, Write};
 use crate::cases::Case;
 use crate::model::bytes_of;
 use crate::words::{hex, unhex};
-use crate::{bits, codes, reader, shelf, table, utf8, value};
+use crate::{bits, codes, message_cases, reader, shelf, table, utf8, value};
 
 /// The vectors of a file. Between them lines that begin with `#` are for the eye.
 pub fn vectors_of(file: &str) -> impl Iterator<Item = &str> {
@@ -57,6 +57,9 @@ pub fn again(vector: &str) -> Option<String> {
     }
     if vector.starts_with("case ") {
         let (asked, _) = vector.split_once("\nanswer ")?;
+        if let Some(message) = message_cases::case_of(vector) {
+            return Some(format!("{asked}\n{}end\n", message_cases::answered(&message.call)));
+        }
         return Some(format!("{}{}end\n", asked_again(asked)?, answered(&case_of(vector)?.call)));
     }
     code_line(vector.split_once(" =")?.0)
@@ -78,11 +81,11 @@ fn asked_again(asked: &str) -> Option<String> {
 }
 
 /// The rest of the first line that begins with `key`.
-fn line_of<'a>(lines: &'a str, key: &str) -> Option<&'a str> {
+pub(crate) fn line_of<'a>(lines: &'a str, key: &str) -> Option<&'a str> {
     lines.lines().find_map(|line| line.strip_prefix(key)?.strip_prefix(' '))
 }
 
-fn numbers<T: std::str::FromStr>(text: &str) -> Option<Vec<T>> {
+pub(crate) fn numbers<T: std::str::FromStr>(text: &str) -> Option<Vec<T>> {
     match text {
         "-" => Some(vec![]),
         _ => text.split(' ').map(|word| word.parse().ok()).collect(),
@@ -97,7 +100,7 @@ fn bytes_of_bits(text: &str) -> Option<Vec<u8>> {
 }
 
 /// Words in decimal, `-` for none.
-fn decimal<T: ToString>(words: &[T]) -> String {
+pub(crate) fn decimal<T: ToString>(words: &[T]) -> String {
     if words.is_empty() {
         return "-".to_string();
     }

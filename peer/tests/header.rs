@@ -33,8 +33,8 @@ fn the_headers_names_are_the_peers() {
     }
     assert!(theirs.remove("STACK").is_some() && theirs.remove("VERSION").is_some());
     // Refusals and 0, event kinds, modes and their bytes, contents, simple kinds, particles and the unbounded most; sizes and limits, those of a
-    // report among them; of shelves refusals and sizes.
-    assert_eq!(theirs.len(), 27 + 8 + 8 + 3 + 9 + 5 + 23 + 3 + 9, "{theirs:?}");
+    // report among them; then of the start-up message refusals, flags, sizes and limits; of shelves refusals and sizes.
+    assert_eq!(theirs.len(), 27 + 8 + 8 + 3 + 9 + 5 + 23 + 4 + 7 + 7 + 3 + 9, "{theirs:?}");
     for (name, value) in theirs {
         assert_eq!(ours.get(name), Some(&value), "BIM_{name}");
     }

@@ -27,6 +27,7 @@ ghost use mathlib.Core.Path.{_≡_};
 ghost use mathlib.Core.List.{[], _∷_};
 ghost use lib.ListN.{length};
 ghost use Rattle.numbers.specs.Mode.{always};
+ghost use Rattle.init.specs.Calls as startup;
 ghost use Rattle.shelf.specs.Calls as shelf;
 ghost use Rattle.value.specs.Simple.{AllBytes};
 ghost use Rattle.bim.specs.Calls.{back, checkTable, readCall, writeCall, setCall};
@@ -234,6 +235,33 @@ pub extern "C" fn bim_shelf_salvage(
         ≡ shelf.salvageCall (now (file .entry)) (length (now (fresh .entry))) (length (now (dropped .entry))) (length (now (area .entry))) ⌝ }
 {
     shelf::calls::call_salvage(file, fresh, dropped, area)
+}
+
+// Reads a start-up message into the words of init and of codecs.
+#[no_mangle]
+pub extern "C" fn bim_init_read(message: &[u8], codecs: &mut [u8], init: &mut [u8]) -> u32
+    ensures { λ r. ⌜
+        startup.back r (now (init .exit)) (now (codecs .exit) ∷ [])
+        ≡ startup.readCall (now (message .entry)) (length (now (codecs .entry))) (length (now (init .entry))) ⌝ }
+{
+    init::calls::call_read(message, codecs, init)
+}
+
+// Writes a start-up message from the words of init and of codecs, whose stretches lie in the bytes given.
+#[no_mangle]
+pub extern "C" fn bim_init_write(
+    init: &[u8],
+    codecs: &[u8],
+    given: &[u8],
+    message: &mut [u8],
+    area: &mut [u8],
+) -> u32
+    ensures { λ r. ⌜
+        startup.back r (now (area .exit)) (now (message .exit) ∷ [])
+        ≡ startup.writeCall (now (init .entry)) (now (codecs .entry)) (now (given .entry)) (length (now (message .entry)))
+        (length (now (area .entry))) ⌝ }
+{
+    init::calls::call_write(init, codecs, given, message, area)
 }
 
 // Reads a payload and adds what its bits went to to a report, which the caller keeps. A payload that is refused is counted, and is no error of the report.

@@ -1,4 +1,5 @@
 pub mod Content
+pub mod Flag
 pub mod Kind
 pub mod Limit
 pub mod Mode

@@ -114,3 +114,27 @@ report = 33344
 
 abbrev pub reportLines : ℕ
 reportLines = 1024
+
+abbrev pub init : ℕ
+init = 128
+
+abbrev pub initWords : ℕ
+initWords = 32
+
+abbrev pub initArea : ℕ
+initArea = 8
+
+abbrev pub mostVlu8 : ℕ
+mostVlu8 = 16383
+
+abbrev pub mostFormats : ℕ
+mostFormats = 255
+
+abbrev pub mostSchemas : ℕ
+mostSchemas = 4
+
+abbrev pub mostUnit : ℕ
+mostUnit = 6
+
+abbrev pub mostMessage : ℕ
+mostMessage = 536870911

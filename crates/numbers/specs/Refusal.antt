@@ -82,6 +82,15 @@ control = 25
 abbrev pub party : ℕ
 party = 26
 
+abbrev pub reservedBits : ℕ
+reservedBits = 28
+
+abbrev pub noSchemas : ℕ
+noSchemas = 29
+
+abbrev pub manySchemas : ℕ
+manySchemas = 30
+
 abbrev pub blockCheck : ℕ
 blockCheck = 31
 
@@ -90,3 +99,6 @@ blockTurn = 32
 
 abbrev pub blockLayout : ℕ
 blockLayout = 33
+
+abbrev pub advancedFlag : ℕ
+advancedFlag = 34

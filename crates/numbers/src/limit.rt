@@ -76,3 +76,19 @@ pub const DROPPED: usize = 12;
 pub const REPORT: usize = 33344;
 
 pub const REPORT_LINES: usize = 1024;
+// The bytes of what a start-up message says, and its words.
+pub const INIT: usize = 128;
+
+pub const INIT_WORDS: usize = INIT / 4;
+// The bytes of the area of the call that writes a start-up message: two words.
+pub const INIT_AREA: usize = 8;
+// The greatest number that a vluimsbf8 of two bytes holds.
+pub const MOST_VLU8: u32 = 16383;
+// The most reference formats of a start-up message: their count is a byte.
+pub const MOST_FORMATS: u32 = 255;
+// The most schemas of a start-up message: init has words for so many.
+pub const MOST_SCHEMAS: u32 = 4;
+// The greatest unit size code that is not reserved.
+pub const MOST_UNIT: u32 = 6;
+// The bytes that are read of a start-up message: the places of their bits fit a word.
+pub const MOST_MESSAGE: usize = 536870911;

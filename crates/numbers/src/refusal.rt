@@ -54,9 +54,17 @@ pub const AREA_SIZE: u32 = 24;
 pub const CONTROL: u32 = 25;
 // The party is none of PARTIES.
 pub const PARTY: u32 = 26;
+// Reserved bits of a start-up message are not ones.
+pub const RESERVED_BITS: u32 = 28;
+// A start-up message has no schemas.
+pub const NO_SCHEMAS: u32 = 29;
+// A start-up message has over MOST_SCHEMAS schemas.
+pub const MANY_SCHEMAS: u32 = 30;
 // The check of a block of a shelf file is wrong.
 pub const BLOCK_CHECK: u32 = 31;
 // A block's number is out of turn.
 pub const BLOCK_TURN: u32 = 32;
 // A shelf file or a stream of records is not laid out as it must be.
 pub const BLOCK_LAYOUT: u32 = 33;
+// A start-up message's flag for advanced decoders or additional schemas is set.
+pub const ADVANCED_FLAG: u32 = 34;

@@ -10,5 +10,5 @@ mod Steps
 mod Store
 mod Whole5
 pub mod Width
-mod WindowLaws
+pub mod WindowLaws
 pub mod WriteWays

@@ -1,8 +1,8 @@
-//! Tries the three demands, and the theorems of shelves: `properties [count] [seed]`. Exit status 1 on a violation, or where some number or some
-//! side of a limit was not met.
+//! Tries the three demands, what is promised of the start-up message, and the theorems of shelves: `properties [count] [seed]`. Exit status 1 on a violation,
+//! or where some number or some side of a limit was not met.
 
 use peer::calls::shelves::ShelfJudge;
-use peer::calls::{run_reports, ReportJudge};
+use peer::calls::{run_messages, run_reports, MessageJudge, ReportJudge};
 use peer::demands::{named, Tally};
 use peer::program::{count_and_seed, status, usage};
 use peer::trials::{trial, KINDS};
@@ -29,9 +29,9 @@ fn main() -> ExitCode {
     }
     let sides: Vec<_> = LIMITS.lines().filter(|line| !line.starts_with('#')).collect();
     for side in &sides {
-        let mut names =
-            cases.iter().map(|case| &case.name).chain(peer::shelf::vectors::all().iter().map(|(name, _)| name));
-        if !names.any(|name| name.starts_with(*side)) {
+        let messages = peer::message_cases::all().iter().map(|case| &case.name);
+        let others = messages.chain(peer::shelf::vectors::all().iter().map(|(name, _)| name));
+        if !cases.iter().map(|case| &case.name).chain(others).any(|name| name.starts_with(*side)) {
             faults.push(format!("no named case stands at \"{side}\""));
         }
     }
@@ -69,6 +69,10 @@ fn main() -> ExitCode {
     // The peer's own reports, by what the request promises of them.
     if !run_reports(&ReportJudge, count / 20, seed, false).report() {
         faults.push("reports".to_string());
+    }
+    // Its promises, of the peer's own calls: their answers are held against meanings and how these are spelt.
+    if !run_messages(&MessageJudge, count, seed).report() {
+        faults.push("the start-up message".to_string());
     }
     println!("time {:.1} s", begun.elapsed().as_secs_f64());
     faults.iter().for_each(|fault| println!("FAILED: {fault}"));

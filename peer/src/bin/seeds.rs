@@ -7,7 +7,7 @@ fn main() -> ExitCode {
         eprintln!("seeds FOLDER");
         return ExitCode::FAILURE;
     };
-    let seeds = [peer::calls::seeds(), peer::calls::shelves::seeds()].concat();
+    let seeds = [peer::calls::seeds(), peer::calls::message_seeds(), peer::calls::shelves::seeds()].concat();
     for (index, seed) in seeds.iter().enumerate() {
         if let Err(error) = std::fs::write(format!("{folder}/named-{index:03}"), seed) {
             eprintln!("{folder}: {error}");

@@ -7,13 +7,15 @@ use peer::code_cases::{code_case, payload_case};
 use peer::guide;
 use peer::listing::listing;
 use peer::vectors::{again, renewed, vectors_of};
+use std::collections::BTreeSet;
 use std::path::{Path, PathBuf};
 use std::process::ExitCode;
 use std::{fs, io};
 
-const FILES: [&str; 6] = ["codes.txt", "tables.txt", "payloads.txt", "lists.txt", "settings.txt", "shelves.txt"];
-/// Numbers that no vector shows: 24 is the C boundary's, and the others are no call's.
-const NOT_SHOWN: [usize; 5] = [bim::AREA_SIZE as usize, 27, 28, 29, 30];
+const FILES: [&str; 7] =
+    ["codes.txt", "tables.txt", "payloads.txt", "lists.txt", "settings.txt", "messages.txt", "shelves.txt"];
+/// Numbers that no vector shows: 24 is the C boundary's, and 27 is no call's.
+const NOT_SHOWN: [u32; 2] = [bim::AREA_SIZE, 27];
 
 fn main() -> ExitCode {
     let words: Vec<_> = std::env::args().skip(1).collect();
@@ -52,8 +54,8 @@ fn write_all() -> io::Result<()> {
 
 fn check_all() -> io::Result<Vec<String>> {
     let mut faults = vec![];
-    let mut numbers = [false; bim::BLOCK_LAYOUT as usize + 1];
-    NOT_SHOWN.iter().for_each(|&number| numbers[number] = true);
+    let needed = (0..=bim::ADVANCED_FLAG).filter(|number| !NOT_SHOWN.contains(number));
+    let mut missing: BTreeSet<u32> = needed.collect();
     for file in FILES {
         let text = fs::read_to_string(examples(file))?;
         println!("{file}: {} vectors", vectors_of(&text).count());
@@ -65,13 +67,10 @@ fn check_all() -> io::Result<Vec<String>> {
                 Some(_) => {}
             }
             let number = vector.lines().find_map(|line| line.strip_prefix("answer ")?.split(' ').next()?.parse().ok());
-            if let Some(met) = number.and_then(|number: usize| numbers.get_mut(number)) {
-                *met = true;
-            }
+            number.map(|number| missing.remove(&number));
         }
     }
-    let missing = numbers.iter().enumerate().filter(|(_, met)| !**met);
-    faults.extend(missing.map(|(number, _)| format!("no vector shows {number}")));
+    faults.extend(missing.iter().map(|number| format!("no vector shows {number}")));
     for (path, bytes) in made()? {
         if fs::read(&path)? != bytes {
             faults.push(format!("{}: not what vectors would write", path.display()));

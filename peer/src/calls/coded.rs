@@ -102,10 +102,10 @@ fn within(word: u32) -> usize {
 }
 
 /// The bytes that are left. Past the end all is 0.
-struct Rest<'a>(&'a [u8]);
+pub(super) struct Rest<'a>(pub(super) &'a [u8]);
 
 impl Rest<'_> {
-    fn byte(&mut self) -> u8 {
+    pub(super) fn byte(&mut self) -> u8 {
         let Some((&byte, rest)) = self.0.split_first() else {
             return 0;
         };
@@ -113,7 +113,7 @@ impl Rest<'_> {
         byte
     }
 
-    fn word(&mut self) -> u32 {
+    pub(super) fn word(&mut self) -> u32 {
         let bytes = match self.byte() {
             TWO_BYTES => 2,
             FOUR_BYTES => 4,
@@ -159,7 +159,7 @@ fn named_tables() -> &'static [Vec<u8>] {
     })
 }
 
-fn put_word(bytes: &mut Vec<u8>, word: u32) {
+pub(super) fn put_word(bytes: &mut Vec<u8>, word: u32) {
     if let Some(at) = SPECIALS.iter().position(|&special| special == word) {
         bytes.push(SPECIAL + at as u8);
     } else if word < u32::from(TWO_BYTES) {

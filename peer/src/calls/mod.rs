@@ -6,6 +6,8 @@ mod bits;
 mod case;
 mod change;
 mod coded;
+mod message_coded;
+mod messages;
 mod pairs;
 mod reading;
 mod reports;
@@ -19,6 +21,12 @@ pub use bits::{run as run_bits, BitBench, BitCalls};
 pub use case::{Call, Case};
 pub use change::change;
 pub use coded::{code, decode, seeds};
+pub use message_coded::{
+    change as change_message, code as code_message, decode as decode_message, seeds as message_seeds,
+};
+pub use messages::{
+    on_message_peer, run as run_messages, MessageBench, MessageCalls, MessageCase, MessageJudge, MessageLeft,
+};
 pub use reports::{run as run_reports, ReportBench, ReportCalls, ReportJudge};
 pub use shelves::{damage as damage_shelves, run as run_shelves, ShelfBench, ShelfCalls, ShelfCase};
 

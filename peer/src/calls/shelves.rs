@@ -312,8 +312,8 @@ fn other_rooms(rng: &mut Rng, case: &mut ShelfCase) {
     }
 }
 
-/// The first byte of a fuzzer's input that is a call for shelves.
-const SHELF: u8 = 0xff;
+/// The first byte of a fuzzer's input that is a call for shelves; start-up messages have the two past it.
+const SHELF: u8 = 0xfd;
 /// The bytes before what the call is given: mark, call, two rooms of 2 bytes, the area, which blocks are mended.
 const HEAD: usize = 8;
 

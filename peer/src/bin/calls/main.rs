@@ -28,6 +28,11 @@ fn main() -> ExitCode {
     // Codes are small: a sample takes more of them, so that every number is met.
     let codes = if sample { 20 * cases } else { cases };
     let good = peer::calls::run_bits(&library, codes, seed).report() && good;
+    let mut messages = peer::calls::run_messages(&library, cases, seed);
+    if !sample {
+        messages.long_messages();
+    }
+    let good = messages.report() && good;
     // A round is some calls, each on several blocks.
     let good = peer::calls::run_shelves(&library, cases / 4, seed).report(sample) && good;
     // A report is 33 KB, compared whole at each call: a tenth as many.

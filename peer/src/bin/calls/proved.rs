@@ -3,7 +3,7 @@
 //! SAFETY, of every call below: the archive's functions are proved safe for all arguments of their types, with no
 //! `requires`; a slice passes as its pointer and its length, and no two of them overlap.
 
-use peer::calls::{BitCalls, Calls, Reading, ReportCalls, Setting, ShelfCalls, Writing};
+use peer::calls::{BitCalls, Calls, MessageCalls, Reading, ReportCalls, Setting, ShelfCalls, Writing};
 use peer::lent::Coding;
 use std::cell::Cell;
 
@@ -72,6 +72,26 @@ extern "C" {
         party: u32,
         of_type: u32,
         mark: u32,
+        area: *mut u8,
+        area_len: usize,
+    ) -> u32;
+    fn bim_init_read(
+        message: *const u8,
+        message_len: usize,
+        codecs: *mut u8,
+        codecs_len: usize,
+        init: *mut u8,
+        init_len: usize,
+    ) -> u32;
+    fn bim_init_write(
+        init: *const u8,
+        init_len: usize,
+        codecs: *const u8,
+        codecs_len: usize,
+        given: *const u8,
+        given_len: usize,
+        message: *mut u8,
+        message_len: usize,
         area: *mut u8,
         area_len: usize,
     ) -> u32;
@@ -226,6 +246,38 @@ impl BitCalls for Library {
 
     fn left(&self, bytes: &[u8], place: u32) -> u32 {
         unsafe { bim_bits_left(self.given(bytes), bytes.len(), place) }
+    }
+}
+
+impl MessageCalls for Library {
+    fn init_read(&self, message: &[u8], codecs: &mut [u8], init: &mut [u8]) -> u32 {
+        unsafe {
+            bim_init_read(
+                self.given(message),
+                message.len(),
+                self.lent(codecs),
+                codecs.len(),
+                self.lent(init),
+                init.len(),
+            )
+        }
+    }
+
+    fn init_write(&self, init: &[u8], codecs: &[u8], given: &[u8], message: &mut [u8], area: &mut [u8]) -> u32 {
+        unsafe {
+            bim_init_write(
+                self.given(init),
+                init.len(),
+                self.given(codecs),
+                codecs.len(),
+                self.given(given),
+                given.len(),
+                self.lent(message),
+                message.len(),
+                self.lent(area),
+                area.len(),
+            )
+        }
     }
 }
 

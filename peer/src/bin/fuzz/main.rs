@@ -1,5 +1,5 @@
-//! The proved C calls under libFuzzer, with the peer as the judge: each input is a case (`calls::decode`, or `shelves::decode`), asked of both
-//! and compared as `calls` compares them. A difference is made small, shown, and ends the run; so does a panic. libFuzzer brings `main`.
+//! The proved C calls under libFuzzer, with the peer as the judge: each input is a case (`calls::decode_message`, `shelves::decode`, else `calls::decode`), asked
+//! of both and compared as `calls` compares them. A difference is made small, shown, and ends the run; so does a panic. libFuzzer brings `main`.
 
 #![no_main]
 
@@ -7,7 +7,10 @@
 mod proved;
 
 use peer::bim;
-use peer::calls::{ask, change, code, decode, shelves, Bench, Call, ReportBench, ShelfBench};
+use peer::calls::{
+    ask, change, change_message, code, code_message, decode, decode_message, shelves, Bench, Call, MessageBench,
+    ReportBench, ShelfBench,
+};
 use peer::report_cases::Add;
 use peer::rng::Rng;
 use std::cell::RefCell;
@@ -19,9 +22,10 @@ extern "C" {
     fn blocks_told(all: &mut usize, of_them: &mut usize);
 }
 
-/// The bench, and how many cases it had since when.
+/// The benches, and how many cases they had since when.
 struct Run {
     bench: Bench<'static>,
+    messages: MessageBench<'static>,
     shelves: ShelfBench<'static>,
     /// Every reading is counted into the report that the one before it left, too.
     reports: ReportBench<'static>,
@@ -43,6 +47,7 @@ fn begin() -> Run {
     bench.begin_part("fuzz");
     Run {
         bench,
+        messages: MessageBench::new(library, 1),
         shelves: ShelfBench::new(library, 1),
         reports: ReportBench::new(library, 1),
         report: vec![0; bim::REPORT],
@@ -55,20 +60,25 @@ extern "C" fn end() {
     RUN.with(|run| tell(&run.borrow()));
 }
 
+fn differing(run: &Run) -> u64 {
+    run.bench.differing() + run.messages.differing() + run.shelves.differing() + run.reports.differing()
+}
+
 fn tell(run: &Run) {
     let seconds = run.begun.elapsed().as_secs_f64();
     let (mut all, mut reached) = (0, 0);
     // SAFETY: blocks.c writes both counts and keeps neither.
     unsafe { blocks_told(&mut all, &mut reached) };
     run.bench.report_answers();
+    run.messages.report_answers();
     run.shelves.report_answers();
     println!("fuzz: {reached} of {all} blocks of the proved code reached");
     println!(
         "fuzz: {} cases, {} proved calls, {seconds:.0} s, {:.0} cases per second, {} differences",
         run.cases,
-        run.bench.calls() + run.shelves.calls(),
+        run.bench.calls() + run.messages.calls() + run.shelves.calls(),
         run.cases as f64 / seconds,
-        run.bench.differing() + run.shelves.differing()
+        differing(run)
     );
 }
 
@@ -80,9 +90,10 @@ pub extern "C" fn LLVMFuzzerTestOneInput(bytes: *const u8, length: usize) -> i32
     RUN.with(|run| {
         let mut run = run.borrow_mut();
         run.cases += 1;
-        match shelves::decode(input) {
-            Some(case) => drop(run.shelves.ask("fuzz", &case)),
-            None => {
+        match (decode_message(input), shelves::decode(input)) {
+            (Some(case), _) => drop(run.messages.ask(&case)),
+            (_, Some(case)) => drop(run.shelves.ask("fuzz", &case)),
+            _ => {
                 let case = decode(input);
                 ask(&mut run.bench, &case);
                 if let (Call::Read, [table, payload]) = (case.call, &case.inputs[..]) {
@@ -98,8 +109,9 @@ pub extern "C" fn LLVMFuzzerTestOneInput(bytes: *const u8, length: usize) -> i32
                 }
             }
         }
-        if run.bench.differing() + run.shelves.differing() + run.reports.differing() > 0 {
+        if differing(&run) > 0 {
             run.bench.report();
+            run.messages.report();
             run.shelves.report(true);
             run.reports.report();
             tell(&run);
@@ -120,12 +132,16 @@ pub unsafe extern "C" fn LLVMFuzzerCustomMutator(bytes: *mut u8, length: usize, 
     let mut coded = vec![];
     if !rng.one_in(3) {
         let input = std::slice::from_raw_parts(bytes, length);
-        coded = match shelves::decode(input) {
-            Some(mut case) => {
+        coded = match (decode_message(input), shelves::decode(input)) {
+            (Some(mut case), _) => {
+                change_message(&mut rng, &mut case);
+                code_message(&case)
+            }
+            (_, Some(mut case)) => {
                 shelves::change(&mut rng, &mut case);
                 shelves::code(&case).unwrap_or_default()
             }
-            None => {
+            _ => {
                 let mut case = decode(input);
                 change(&mut rng, &mut case);
                 code(&case)

@@ -1,0 +1,101 @@
+use Rattle.init.proofs.StepWays.{lies-ways}
+use borrow.Author.Needs.{needs}
+use Rattle.init.proofs.writing.lies_in.Statement.{statement}
+use Rattle.init.proofs.writing.lies_in.Tie as tie
+
+enum-told : tie.Need-enum-told
+enum-told c = search needs
+
+enum-told-2 : tie.Need-enum-told-2
+enum-told-2 c = search needs
+
+enum-told-3 : tie.Need-enum-told-3
+enum-told-3 c = search needs
+
+enum-told-4 : tie.Need-enum-told-4
+enum-told-4 c = search needs
+
+enum-told-5 : tie.Need-enum-told-5
+enum-told-5 c = search needs
+
+enum-told-6 : tie.Need-enum-told-6
+enum-told-6 c = search needs
+
+ends-in-requires : tie.Need-ends-in-requires
+ends-in-requires c κs = search (needs, lies-ways)
+
+enum-told-7 : tie.Need-enum-told-7
+enum-told-7 c = search needs
+
+ends-in-requires-2 : tie.Need-ends-in-requires-2
+ends-in-requires-2 c κs = search (needs, lies-ways)
+
+enum-told-8 : tie.Need-enum-told-8
+enum-told-8 c = search needs
+
+ends-in-requires-3 : tie.Need-ends-in-requires-3
+ends-in-requires-3 c κs = search (needs, lies-ways)
+
+enum-told-9 : tie.Need-enum-told-9
+enum-told-9 c = search needs
+
+enum-told-10 : tie.Need-enum-told-10
+enum-told-10 c = search needs
+
+returns : tie.Need-returns
+returns c = search (needs, lies-ways)
+
+returns-2 : tie.Need-returns-2
+returns-2 c = search (needs, lies-ways)
+
+returns-3 : tie.Need-returns-3
+returns-3 c = search (needs, lies-ways)
+
+returns-4 : tie.Need-returns-4
+returns-4 c = search (needs, lies-ways)
+
+returns-5 : tie.Need-returns-5
+returns-5 c = search (needs, lies-ways)
+
+returns-6 : tie.Need-returns-6
+returns-6 c = search (needs, lies-ways)
+
+returns-7 : tie.Need-returns-7
+returns-7 c = search (needs, lies-ways)
+
+returns-8 : tie.Need-returns-8
+returns-8 c = search (needs, lies-ways)
+
+returns-9 : tie.Need-returns-9
+returns-9 c = search (needs, lies-ways)
+
+returns-10 : tie.Need-returns-10
+returns-10 c = search (needs, lies-ways)
+
+pub lies-in-spec : {M : Type 1} → statement M
+lies-in-spec =
+    tie.close
+    (tie.spec
+    enum-told
+    enum-told-2
+    enum-told-3
+    enum-told-4
+    enum-told-5
+    enum-told-6
+    ends-in-requires
+    enum-told-7
+    ends-in-requires-2
+    enum-told-8
+    ends-in-requires-3
+    enum-told-9
+    enum-told-10
+    returns
+    returns-2
+    returns-3
+    returns-4
+    returns-5
+    returns-6
+    returns-7
+    returns-8
+    returns-9
+    returns-10)
