@@ -1,26 +1,28 @@
-# Two commands for everybody (run, test), two for C programmers (host, install), the rest for those who work here.
-.PHONY: test run host install fuzz soak soak-shelves stack sanitized bench figures peer fmt face quotes
+# Two commands for everybody (run, test), three for C programmers (host, install, dist), the rest for those who work here.
+.PHONY: test run host install dist fuzz soak soak-shelves stack sanitized bench figures peer fmt face quotes
 
 PREFIX = /usr/local
 CFLAGS = -O2
 # What every C file here is compiled with, besides.
 STRICT = -std=c99 -pedantic -Wall -Wextra -Wconversion -Wsign-conversion -Werror -Iinclude -Itools
 ARCHIVE = target/staticlib/libbim.a
-PROGRAMS = host lengths write startup explain holds mark pack init shelf report apart
-TRIALS = refusals faults bits exact messages walk reports threads stack shelves cuts
+PROGRAMS = host lengths write startup explain holds lint mark pack table init fleet shelf report apart
+TRIALS = refusals faults bits exact messages walk reports threads stack shelves cuts sources
 # The programs whose C code runs under the sanitizers. Not stack: it brings a stack of its own, of which they know nothing.
-SANITIZED = $(PROGRAMS) refusals faults bits exact messages walk reports threads header shelves cuts
+SANITIZED = $(PROGRAMS) refusals faults bits exact messages walk reports threads header shelves cuts sources
 SANITIZERS = -O1 -g -fsanitize=$(SANITIZE) -fno-sanitize-recover=all
 export SANITIZE = address,undefined
 # The header says which.
 VERSION := $(shell awk '/^.define BIM_VERSION / { printf "%d.%d", $$3 / 100, $$3 % 100 }' include/bim.h)
+
+# What is proved. Any change below crates/ proves it again.
+SOURCES := crates.txt $(shell find crates -path '*/src/*.rt' -o -path '*/specs/*.antt' -o -path '*/proofs/*.antt')
 
 # The archive is for x86-64. On another processor what is linked with it is compiled for that, and run under an emulator, by tests/emulated/bin.
 ifneq ($(shell uname -m),x86_64)
 # What does not touch the archive stays the machine's own; .ci/run sees to the rest itself.
 test peer fmt: export PATH := $(PATH)
 export PATH := $(CURDIR)/tests/emulated/bin:$(PATH)
-EMULATOR = qemu-x86_64
 # Not AddressSanitizer: the emulator would have to keep account of its 16 TB of shadow, and runs out of memory.
 SANITIZE = undefined
 endif
@@ -29,11 +31,9 @@ endif
 test:
 	bash .ci/run
 
-# Builds the proved listing program and lists document 01's worked example (mended, docs/WIRE.md).
-run:
-	@mkdir -p target
-	@rt check list >target/run.log 2>&1 || { cat target/run.log; exit 1; }
-	@$(EMULATOR) target/bin/list <crates/list/stdin
+# Proves the C calls, a line for each crate, and lists one film to three receivers.
+run: target/c/host
+	@bash examples/film
 
 # The small receiver, what gives a payload its lengths, the table curator's programs, where the bits go, and butted payloads apart, in target/c.
 host: $(PROGRAMS:%=target/c/%)
@@ -53,31 +53,48 @@ target/sanitized/%: %.c $(ARCHIVE) $(wildcard include/*.h tools/*.h tests/*.h)
 	@mkdir -p target/sanitized
 	$(CC) $(STRICT) $(SANITIZERS) $< $(ARCHIVE) -o $@
 
-# The C calls, proved and then compiled: some minutes from nothing. Any change below crates/ proves them again.
-$(ARCHIVE): crates.txt $(shell find crates -path '*/src/*.rt' -o -path '*/specs/*.antt' -o -path '*/proofs/*.antt')
-	@mkdir -p target
-	@echo "rt staticlib bim (proves the C calls first)"
-	@rt staticlib bim >target/bim.log 2>&1 || { cat target/bim.log; exit 1; }
+# The C calls, proved and then compiled: some minutes from nothing.
+$(ARCHIVE): $(SOURCES)
+	@bash dev/prove staticlib bim
 	@touch $@
 
-# Library, headers and pkg-config file.
-install: $(ARCHIVE)
-	install -d $(DESTDIR)$(PREFIX)/lib/pkgconfig $(DESTDIR)$(PREFIX)/include
-	install -m 644 $(ARCHIVE) $(DESTDIR)$(PREFIX)/lib/libbim.a
-	install -m 644 include/bim.h include/bim_table.h include/bim_walk.h $(DESTDIR)$(PREFIX)/include
-	printf '%s\n' 'prefix=$(abspath $(PREFIX))' 'Name: bim' 'Description: Proved reader and writer of BiM guide fragments' \
-	    'Version: $(VERSION)' 'Cflags: -I$${prefix}/include' 'Libs: -L$${prefix}/lib -lbim' >$(DESTDIR)$(PREFIX)/lib/pkgconfig/bim.pc
+# The shared library: the archive's own machine code, which is position independent, and nothing besides.
+SHARED = target/dist/libbim.so.$(VERSION)
+$(SHARED): $(ARCHIVE) dist/libbim.map
+	@mkdir -p target/dist
+	$(CC) -shared -nostartfiles -Wl,--whole-archive $(ARCHIVE) -Wl,--no-whole-archive -Wl,--version-script=dist/libbim.map \
+	    -Wl,-soname,libbim.so.$(basename $(VERSION)) -Wl,-z,defs -Wl,-z,now -Wl,-z,text -Wl,-z,noexecstack -o $@
+
+# The programs under the names that they are installed by.
+target/dist/bim-%: %.c $(ARCHIVE) $(wildcard include/*.h tools/*.h)
+	@mkdir -p target/dist
+	$(CC) $(STRICT) $(CFLAGS) -DNAMED='"bim-"' $< $(ARCHIVE) -o $@
+
+# The proved listing program.
+target/bin/list: $(SOURCES) | $(ARCHIVE)
+	@bash dev/prove check list
+	@touch $@
+
+# Libraries, headers, package files, programs and man pages.
+INSTALLED = $(PROGRAMS) list
+TO_INSTALL = $(SHARED) $(PROGRAMS:%=target/dist/bim-%) target/bin/list
+install: $(TO_INSTALL)
+	bash dist/install "$(DESTDIR)$(PREFIX)" "$(abspath $(PREFIX))" $(VERSION) $(INSTALLED)
+
+# The same with documents, examples and the proof's verdicts, as a tarball that needs no kit.
+dist: $(TO_INSTALL)
+	@bash dist/pack $(VERSION) $(INSTALLED)
 
 # The headers, the C programs and what the documents quote of them: the gate's part for the C side.
-face: host $(TRIALS:%=target/c/%)
+face: host $(TRIALS:%=target/c/%) $(TO_INSTALL)
 	bash tests/face
 
 # Writes anew what the documents quote.
-quotes: host $(TRIALS:%=target/c/%)
+quotes: host $(TRIALS:%=target/c/%) $(TO_INSTALL)
 	bash tests/quotes --write
 
 # The C side under AddressSanitizer and UndefinedBehaviorSanitizer, the C calls and a sample of the comparison under valgrind: a part of the gate.
-sanitized: peer/target/release/calls $(SANITIZED:%=target/sanitized/%) target/c/exact target/c/messages target/c/reports target/c/threads target/c/host target/c/write target/c/shelf target/c/shelves
+sanitized: peer/target/release/calls $(SANITIZED:%=target/sanitized/%) target/c/exact target/c/messages target/c/reports target/c/threads target/c/host target/c/write target/c/shelf target/c/shelves target/c/fleet target/c/lint target/c/holds
 	bash tests/sanitized
 
 # The stack that each call needs, held to BIM_STACK.

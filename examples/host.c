@@ -1,19 +1,17 @@
 /* A small receiver: reads a table file and payload files, and prints what they say. */
-#define _XOPEN_SOURCE 700
-#include <dirent.h>
-#include <sys/stat.h>
+#include "../tools/payloads.h"
 #include "../tools/faults.h"
 #include "../tools/show_html.h"
 #include "../tools/show_json.h"
 #include "../tools/show_text.h"
 
-static const char usage[] = "[-n NAMES] [-p PARTY] [--json|--html] TABLE ROOT_NAME ROOT_TYPE PAYLOAD..";
+static const char usage[] = "[-n NAMES] [-p PARTY] [--json|--html] TABLE " PAYLOADS_USAGE;
 static const char help[] =
     "Reads payloads as PARTY, 0 where none is named, and prints each as indented text. NAMES has a number and its word on\n"
-    "each line; without it names are shown as numbers. A PAYLOAD is a file, or a folder, whose files are read, and those\n"
-    "of its folders; - is a list of files on standard input, one a line, and -0 one with a NUL behind each. A payload that\n"
-    "cannot be read or is refused does not end the run. Of more than one payload a last line counts them, and every\n"
-    "thousand a line on standard error.\n"
+    "each line; without it names are shown as numbers.\n"
+    PAYLOADS_HELP
+    "A payload that cannot be read or is refused does not end the run. Of more than one payload a last line counts them,\n"
+    "and every thousand a line on standard error.\n"
     "--json prints one JSON object a payload and line (docs/host.schema.json), and the last line on standard error.\n"
     "--html prints one page, with each payload's bits joined to its listing.\n"
     "Exit status, the sum of those that apply:\n"
@@ -34,97 +32,65 @@ static int status = STATUS_DONE;
 static void show_progress(void)
 {
     if (payloads % 1000 == 0)
-        fprintf(stderr, "host: %lu payloads, %lu with Blanks, %lu refused, %lu unreadable\n", payloads, with_blanks,
+        fprintf(stderr, NAMED "host: %lu payloads, %lu with Blanks, %lu refused, %lu unreadable\n", payloads, with_blanks,
                 payloads - by_number[BIM_ACCEPTED] - unreadable, unreadable);
 }
 
 /* Shows a reading; answers 0 where its list is not what the table says. */
-static int show(const char *path)
+static int show(const struct origin *from)
 {
-    return form == AS_JSON ? json_reading(path, &it) : form == AS_HTML ? html_reading(payloads, path, &it) : text_reading(path, &it);
+    return form == AS_JSON ? json_reading(from, &it) : form == AS_HTML ? html_reading(payloads, from, &it) : text_reading(from, &it);
 }
 
-static void take_payload(const char *path)
+static void take_payload(const struct payload *found)
 {
     payloads++;
-    if (read_file(path, it.payload, sizeof it.payload, &it.payload_bytes)) {
-        read_payload(&it);
-        by_number[it.number & 63]++;
-        with_blanks += it.blanks > 0;
-        if (it.number != BIM_ACCEPTED)
-            status |= STATUS_REFUSED;
-        if (it.blanks > 0)
-            status |= STATUS_BLANKS;
-        if (!show(path)) {
-            complain(path, 0, "its list is not what the table says");
-            status |= STATUS_NO_LIST;
-        }
-    } else {
-        if (form == AS_JSON)
-            json_unreadable(path, strerror(errno));
-        if (form == AS_HTML)
-            html_unreadable(payloads, path, strerror(errno));
-        unreadable++;
-        status |= STATUS_NO_GOOD;
+    memcpy(it.payload, found->bytes, found->count);
+    it.payload_bytes = found->count;
+    it.root_name = found->from.root_name;
+    it.root_type = found->from.root_type;
+    read_payload(&it);
+    by_number[it.number & 63]++;
+    with_blanks += it.blanks > 0;
+    if (it.number != BIM_ACCEPTED)
+        status |= STATUS_REFUSED;
+    if (it.blanks > 0)
+        status |= STATUS_BLANKS;
+    if (!show(&found->from)) {
+        complain(found->from.path, 0, "its list is not what the table says");
+        status |= STATUS_NO_LIST;
     }
     show_progress();
 }
 
-static int is_folder(const char *path, int (*look)(const char *, struct stat *))
+static void take_refused_shelf(const char *path, uint32_t number, uint32_t block)
 {
-    struct stat found;
-    return look(path, &found) == 0 && S_ISDIR(found.st_mode);
-}
-
-/* The files of a folder and of the folders in it, by name. A link to a folder is not followed, so that there is an end. */
-static void take_folder(const char *path)
-{
-    struct dirent **entries;
-    int i, count = scandir(path, &entries, NULL, alphasort);
-    if (count < 0) {
-        complain(path, 0, "%s", strerror(errno));
-        status |= STATUS_NO_GOOD;
-        return;
+    payloads++;
+    by_number[number & 63]++;
+    status |= STATUS_REFUSED;
+    if (form == AS_JSON)
+        json_shelf_refusal(path, it.party, number, block);
+    else if (form == AS_HTML)
+        html_shelf_refusal(payloads, path, number, block);
+    else {
+        put_path(stdout, path);
+        fputs(": ", stdout);
+        text_shelf_refusal(number, block);
+        putchar('\n');
     }
-    for (i = 0; i < count; i++) {
-        const char *name = entries[i]->d_name;
-        const size_t length = strlen(path) + strlen(name) + 2;
-        char *inside = (char *)malloc(length);
-        if (inside == NULL)
-            abort();
-        snprintf(inside, length, "%s%s%s", path, path[strlen(path) - 1] == '/' ? "" : "/", name);
-        if (strcmp(name, ".") != 0 && strcmp(name, "..") != 0 && !ferror(stdout)) {
-            if (is_folder(inside, lstat))
-                take_folder(inside);
-            else if (!is_folder(inside, stat))
-                take_payload(inside);
-        }
-        free(inside);
-        free(entries[i]);
-    }
-    free(entries);
+    show_progress();
 }
 
-static void take(const char *path)
+static void take_unreadable(const char *path, const char *why)
 {
-    if (is_folder(path, stat))
-        take_folder(path);
-    else
-        take_payload(path);
-}
-
-/* The payloads of a list on standard input. */
-static void take_list(int end)
-{
-    static char line[4097];
-    struct lines lines;
-    int more = -1;
-    if (open_lines(&lines, NULL, end))
-        while ((more = take_line(&lines, line, sizeof line)) == 1 && !ferror(stdout))
-            if (line[0] != '\0')
-                take(line);
-    if (more < 0)
-        status |= STATUS_NO_GOOD;
+    payloads++;
+    unreadable++;
+    status |= STATUS_NO_GOOD;
+    if (form == AS_JSON)
+        json_unreadable(path, why);
+    if (form == AS_HTML)
+        html_unreadable(payloads, path, why);
+    show_progress();
 }
 
 /* "2000 read, 31 with Blanks, 4 refused 9". */
@@ -145,8 +111,9 @@ static void show_summary(FILE *to)
 int main(int argc, char **argv)
 {
     struct call call = begin_call("host", usage, help, argc, argv);
-    const char *value, *names_path = NULL;
-    int i, good = 1;
+    struct payloads asked = {0, 0, 0, 0, 0, take_payload, take_unreadable, take_refused_shelf};
+    const char *value, *table_path, *names_path = NULL;
+    int good = 1;
     for (;;)
         if ((value = option_value(&call, "-n")) != NULL)
             names_path = value;
@@ -158,23 +125,19 @@ int main(int argc, char **argv)
             form = AS_HTML;
         else
             break;
-    if (!options_end(&call) || !good || call.left < 4 || !number_of(call.next[1], &it.root_name) || !number_of(call.next[2], &it.root_type))
+    if (!options_end(&call) || !good || (table_path = take_argument(&call)) == NULL || !payloads_called(&asked, &call, 1))
         return wrong_call(&call);
-    if ((names_path != NULL && !read_names(names_path)) || !read_file(call.next[0], it.table, sizeof it.table, &it.table_bytes))
+    if ((names_path != NULL && !read_names(names_path)) || !read_file(table_path, it.table, sizeof it.table, &it.table_bytes))
         return finish(STATUS_NO_GOOD);
     if (bim_check_table(it.table, it.table_bytes, it.area, sizeof it.area) != BIM_ACCEPTED) {
-        complain_of_table(call.next[0], it.table, it.table_bytes, bim_area_place(it.area));
+        complain_of_table(table_path, it.table, it.table_bytes, bim_area_place(it.area));
         return finish(STATUS_NO_GOOD);
     }
     if (form == AS_HTML)
         html_begin();
-    for (i = 3; i < call.left && !ferror(stdout); i++)
-        if (strcmp(call.next[i], "-") == 0)
-            take_list('\n');
-        else if (strcmp(call.next[i], "-0") == 0)
-            take_list('\0');
-        else
-            take(call.next[i]);
+    take_payloads(&asked, &call);
+    if (asked.unlisted)
+        status |= STATUS_NO_GOOD;
     if (form == AS_HTML)
         html_end();
     if (payloads != 1)

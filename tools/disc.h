@@ -17,6 +17,7 @@
 #include <sys/file.h>
 #include <sys/stat.h>
 #include <unistd.h>
+#include "io.h"
 
 /* Files over this size are told of on standard error, once for as many bytes again. */
 #define DISC_TOLD 67108864
@@ -46,11 +47,14 @@ static inline void keep_standard_files(void)
     signal(SIGXFSZ, SIG_IGN);
 }
 
+/* What was last wrong with a file, for whoever has to say it elsewhere too. */
+static const char *disc_said = "";
+
 /* Says what is wrong with a file, and answers 0. */
 static inline int no_good(const char *path, const char *why)
 {
-    fprintf(stderr, "%s: %s\n", path, why);
-    return 0;
+    disc_said = why;
+    return complain(path, 0, "%s", why);
 }
 
 static inline int failed_at(const char *path) { return no_good(path, strerror(errno)); }
@@ -58,15 +62,17 @@ static inline int failed_at(const char *path) { return no_good(path, strerror(er
 static inline void tell(const char *path, const char *what, size_t done, size_t all)
 {
     if (all > DISC_TOLD && (done % DISC_TOLD == 0 || done == all))
-        fprintf(stderr, "%s: %s, %zu of %zu MB\n", path, what, done >> 20, all >> 20);
+        complain(path, 0, "%s, %zu of %zu MB", what, done >> 20, all >> 20);
 }
 
 /* Room in memory; says so where there is none. */
 static inline uint8_t *room_for(const char *path, size_t count)
 {
     uint8_t *bytes = (uint8_t *)malloc(count == 0 ? 1 : count);
-    if (bytes == NULL)
-        fprintf(stderr, "%s: no memory for %zu bytes; a shelf has to fit in memory, as a file and as its records\n", path, count);
+    if (bytes == NULL) {
+        disc_said = "no memory";
+        complain(path, 0, "%s for %zu bytes; a shelf has to fit in memory, as a file and as its records", disc_said, count);
+    }
     return bytes;
 }
 

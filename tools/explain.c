@@ -1,10 +1,10 @@
-/* Says of a table file whether it is right; of a wrong one which word is at fault, and why; of a right one what each row is. */
-#include "faults.h"
-#include "names.h"
+/* Says of a table file whether it is right; of a wrong one which word is at fault, and why; of a right one what each row is, or its source. */
+#include "source_print.h"
 
-static const char usage[] = "[-n NAMES] TABLE";
+static const char usage[] = "[--source] [-n NAMES] TABLE";
 static const char help[] =
-    "Says of a table whether it is right; of a wrong one which word is at fault, and why; of a right one what each row is.\n"
+    "Says of a table whether it is right; of a wrong one which word is at fault, and why; of a right one what each row is,\n"
+    "or with --source its source, of which the program table makes the same table again.\n"
     "NAMES has a number and its word on each line.\n"
     "Exit status:\n"
     "  0  right\n"
@@ -12,14 +12,6 @@ static const char help[] =
     "  2  a wrong call, or a file could not be read or written\n";
 
 static uint8_t table[BIM_MOST_TABLE + 4], area[BIM_AREA];
-
-/* "name 20", and the word of the names file where there is one. */
-static void print_name(uint32_t name)
-{
-    printf("%lu", (unsigned long)name);
-    if (names[name] != NULL)
-        printf(" (%s)", names[name]);
-}
 
 /* ", 1 type", ", 2 types". */
 static void print_count(const char *one, const char *more, uint32_t count)
@@ -69,7 +61,10 @@ static void print_holders(uint32_t held)
 static void print_type(uint32_t row)
 {
     const struct bim_type type = bim_type_row(table, row);
-    printf("word %-4lu type %lu: ", (unsigned long)bim_type_at(row), (unsigned long)row);
+    printf("word %-4lu type %lu", (unsigned long)bim_type_at(row), (unsigned long)row);
+    if (type_names[row] != NULL)
+        printf(" (%s)", type_names[row]);
+    printf(": ");
     print_holders(type.held);
     printf(", ");
     print_content(type);
@@ -165,9 +160,11 @@ static void print_row_substitutes(uint32_t row)
 int main(int argc, char **argv)
 {
     struct call call = begin_call("explain", usage, help, argc, argv);
+    int in_source = option(&call, "--source");
     const char *names_path = option_value(&call, "-n");
     size_t bytes;
     uint32_t row;
+    in_source = option(&call, "--source") || in_source;
     if (!options_end(&call) || call.left != 1)
         return wrong_call(&call);
     if ((names_path != NULL && !read_names(names_path)) || !read_file(call.next[0], table, sizeof table, &bytes))
@@ -179,6 +176,10 @@ int main(int argc, char **argv)
             say(&why, "at fault");
         printf("wrong at word %lu: %s\n", (unsigned long)place, why.words);
         return finish(STATUS_REFUSED);
+    }
+    if (in_source) {
+        print_source(stdout, table);
+        return finish(STATUS_DONE);
     }
     printf("right: %lu words", (unsigned long)(bytes / 4));
     print_count("type", "types", bim_types(table));

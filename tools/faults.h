@@ -160,11 +160,18 @@ static int fault_content(struct sentence *s, const uint8_t *table, struct bim_ty
     return fault_zero(s, word, "kind", simple_name(type.a));
 }
 
+/* The words of a type row, of an attribute row, and of a particle row by its kind behind the first, by name. */
+static const char *const type_words[] = {"held marks", "content", "first attribute row", "attribute count", "a", "b", "c"};
+static const char *const attribute_words[] = {"name", "required", "type"};
+static const char *const particle_words[4][3] = {{"name", "type", "last word"},
+                                                 {"first child", "number of children", "last word"},
+                                                 {"first child", "number of children", "last word"},
+                                                 {"child", "least", "most"}};
+
 static int fault_type(struct sentence *s, const uint8_t *table, uint32_t row, uint32_t i)
 {
-    static const char *const words[] = {"held marks", "content", "first attribute row", "attribute count", "a", "b", "c"};
     const struct bim_type type = bim_type_row(table, row);
-    say(s, "type row %lu, %s: ", (unsigned long)row, words[i]);
+    say(s, "type row %lu, %s: ", (unsigned long)row, type_words[i]);
     switch (i) {
     case 0: return fault_most(s, type.held, (1 << BIM_PARTIES) - 1);
     case 1:
@@ -180,10 +187,9 @@ static int fault_type(struct sentence *s, const uint8_t *table, uint32_t row, ui
 
 static int fault_attribute(struct sentence *s, const uint8_t *table, uint32_t row, uint32_t i)
 {
-    static const char *const words[] = {"name", "required", "type"};
     const struct bim_attribute attribute = bim_attribute_row(table, row);
     struct bim_type type;
-    say(s, "attribute row %lu, %s: ", (unsigned long)row, words[i]);
+    say(s, "attribute row %lu, %s: ", (unsigned long)row, attribute_words[i]);
     if (i == 0)
         return fault_most(s, attribute.name, BIM_MOST_NAME);
     if (i == 1)
@@ -212,10 +218,6 @@ static const char *const particle_names[] = {"element", "sequence", "choice", "o
 
 static int fault_particle(struct sentence *s, const uint8_t *table, uint32_t row, uint32_t i)
 {
-    static const char *const words[4][3] = {{"name", "type", "last word"},
-                                            {"first child", "number of children", "last word"},
-                                            {"first child", "number of children", "last word"},
-                                            {"child", "least", "most"}};
     const struct bim_particle it = bim_particle_row(table, row);
     const uint32_t there = bim_particles(table);
     if (i == 0 || it.kind > BIM_OCCURS) {
@@ -223,7 +225,7 @@ static int fault_particle(struct sentence *s, const uint8_t *table, uint32_t row
             (unsigned long)it.kind);
         return it.kind > BIM_OCCURS;
     }
-    say(s, "particle row %lu, %s, %s: ", (unsigned long)row, particle_names[it.kind], words[it.kind][i - 1]);
+    say(s, "particle row %lu, %s, %s: ", (unsigned long)row, particle_names[it.kind], particle_words[it.kind][i - 1]);
     if (it.kind == BIM_ELEMENT)
         return i == 1   ? fault_most(s, it.p, BIM_MOST_NAME)
                : i == 2 ? fault_below(s, "type", it.q, bim_types(table))

@@ -107,6 +107,11 @@ static inline int finish(int status)
 
 /* CALLS */
 
+/* What stands before a program's name where it is installed. */
+#ifndef NAMED
+#define NAMED ""
+#endif
+
 /* A program and its arguments, of which those that were taken are gone. */
 struct call {
     const char *name, *usage, *help;
@@ -117,7 +122,7 @@ struct call {
 /* A wrong call: one line says how it is called. Answers the exit status. */
 static inline int wrong_call(const struct call *call)
 {
-    fprintf(stderr, "usage: %s %s\n", call->name, call->usage);
+    fprintf(stderr, "usage: " NAMED "%s %s\n", call->name, call->usage);
     return finish(STATUS_NO_GOOD);
 }
 
@@ -131,11 +136,11 @@ static inline struct call begin_call(const char *name, const char *usage, const 
     call.left = argc > 0 ? argc - 1 : 0;
     call.next = argv + 1;
     if (call.left > 0 && strcmp(call.next[0], "--help") == 0) {
-        printf("usage: %s %s\n%s", name, usage, help);
+        printf("usage: " NAMED "%s %s\n%s", name, usage, help);
         exit(finish(STATUS_DONE));
     }
     if (call.left > 0 && strcmp(call.next[0], "--version") == 0) {
-        printf("%s of Gaugepebble %d.%d\n", name, BIM_VERSION / 100, BIM_VERSION % 100);
+        printf(NAMED "%s of Gaugepebble %d.%d\n", name, BIM_VERSION / 100, BIM_VERSION % 100);
         exit(finish(STATUS_DONE));
     }
     return call;
@@ -164,6 +169,15 @@ static inline const char *option_value(struct call *call, const char *name)
 static inline int options_end(struct call *call)
 {
     return option(call, "--") || call->left == 0 || call->next[0][0] != '-' || call->next[0][1] == '\0';
+}
+
+/* Takes the next argument, whatever it is; null where there is none. */
+static inline const char *take_argument(struct call *call)
+{
+    if (call->left < 1)
+        return NULL;
+    call->left--;
+    return *call->next++;
 }
 
 /* INPUT */

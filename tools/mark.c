@@ -1,8 +1,6 @@
 /* Sets or clears a party's mark of a type in a table file. The file is never half changed: the table as it is then is written beside it, and takes
  * its name. */
-#define _XOPEN_SOURCE 700
-#include <sys/stat.h>
-#include <unistd.h>
+#include "replace.h"
 #include "faults.h"
 
 static const char usage[] = "TABLE PARTY TYPE on|off";
@@ -14,44 +12,6 @@ static const char help[] =
     "  2  a wrong call, or it could not be read or written\n";
 
 static uint8_t table[BIM_MOST_TABLE + 4], area[BIM_AREA];
-
-/* Says which step failed, and leaves nothing beside the file. */
-static int give_up(const char *path, const char *beside)
-{
-    complain(path, 0, "%s", strerror(errno));
-    if (beside != NULL)
-        unlink(beside);
-    return 0;
-}
-
-/* Puts these bytes in the place of a file, with its permissions, all at once. */
-static int replace(const char *path, const uint8_t *bytes, size_t count)
-{
-    struct stat was;
-    const size_t length = strlen(path) + sizeof ".XXXXXX";
-    char *beside = (char *)malloc(length);
-    FILE *file;
-    int made, good;
-    if (beside == NULL)
-        abort();
-    snprintf(beside, length, "%s.XXXXXX", path);
-    made = stat(path, &was) == 0 ? mkstemp(beside) : -1;
-    if (made < 0)
-        good = give_up(path, NULL);
-    else {
-        good = fchmod(made, was.st_mode & 07777) == 0 && (file = fdopen(made, "wb")) != NULL;
-        if (!good)
-            close(made);
-        else {
-            good = fwrite(bytes, 1, count, file) == count && fflush(file) == 0 && fsync(made) == 0;
-            good = fclose(file) == 0 && good && rename(beside, path) == 0;
-        }
-        if (!good)
-            give_up(path, beside);
-    }
-    free(beside);
-    return good;
-}
 
 /* Says why the table was not marked. */
 static void say_refusal(const char *path, size_t bytes, uint32_t number, uint32_t type)

@@ -29,7 +29,7 @@ enum { DONE = STATUS_DONE, REFUSED = STATUS_REFUSED, NO_GOOD = STATUS_NO_GOOD };
 static int accepted(const char *path, uint32_t number)
 {
     if (number != BIM_ACCEPTED)
-        fprintf(stderr, "%s: refused %" PRIu32 ", %s, at block %" PRIu32 "\n", path, number, bim_refusal_name(number), bim_shelf_place(area));
+        complain(path, 0, "refused %" PRIu32 ", %s, at block %" PRIu32, number, bim_refusal_name(number), bim_shelf_place(area));
     return number == BIM_ACCEPTED;
 }
 
@@ -141,7 +141,7 @@ static int get(struct shelf_file *shelf, const char *path, uint32_t wanted)
     if (read_whole(shelf, path, 1, 0))
         status = records_of(shelf, 0, &records);
     if (status == DONE && wanted >= bim_shelf_records(area)) {
-        fprintf(stderr, "%s: no record %" PRIu32 ": there are %" PRIu64 ", from 0\n", path, wanted, bim_shelf_records(area));
+        complain(path, 0, "no record %" PRIu32 ": there are %" PRIu64 ", from 0", wanted, bim_shelf_records(area));
         status = REFUSED;
     } else if (status == DONE) {
         for (i = 0, at = records; i < wanted; i++)
@@ -211,7 +211,7 @@ int main(int argc, char **argv)
     keep_standard_files();
     if (strcmp(command, "add") == 0 && call.left > 4 && number_of(next[2], &name) && number_of(next[3], &type)) {
         if (name > 65535 || type > 65535) {
-            fprintf(stderr, "shelf: a root's name and type are at most 65535\n");
+            fprintf(stderr, NAMED "shelf: a root's name and type are at most 65535\n");
             return NO_GOOD;
         }
         status = add(&shelf, next[1], name, type, next + 4, call.left - 4);

@@ -188,13 +188,13 @@ static inline void html_refused_bits(const struct reading *it)
 }
 
 /* Answers 0 where the list is not what the table says. */
-static inline int html_reading(unsigned long payload, const char *path, const struct reading *it)
+static inline int html_reading(unsigned long payload, const struct origin *from, const struct reading *it)
 {
     struct bim_walk walk;
     struct bim_step step;
     int more = 0;
     printf("<section id=\"p%lu\">\n<h2>", payload);
-    html_word(path);
+    put_origin(from, html_word);
     if (it->number != BIM_ACCEPTED) {
         fputs("</h2>\n<p class=\"refusal\">", stdout);
         text_refusal(it, html_word);
@@ -216,7 +216,17 @@ static inline int html_reading(unsigned long payload, const char *path, const st
     return more == 0;
 }
 
-/* A payload that could not be read. */
+/* A shelf that is damaged. */
+static inline void html_shelf_refusal(unsigned long payload, const char *path, uint32_t number, uint32_t block)
+{
+    printf("<section id=\"p%lu\">\n<h2>", payload);
+    html_word(path);
+    fputs("</h2>\n<p class=\"refusal\">", stdout);
+    text_shelf_refusal(number, block);
+    fputs("</p>\n</section>\n", stdout);
+}
+
+/* A payload or a shelf that could not be read. */
 static inline void html_unreadable(unsigned long payload, const char *path, const char *why)
 {
     printf("<section id=\"p%lu\">\n<h2>", payload);

@@ -4,6 +4,7 @@
 #define SHOW_JSON_H
 
 #include "names.h"
+#include "origin.h"
 #include "reading.h"
 
 /* A string: what acts on a terminal is escaped here too, and bytes that are no UTF-8, which a path may have, are FFFD. */
@@ -177,15 +178,26 @@ static inline void json_refusal(const struct reading *it)
     putchar('}');
 }
 
+/* {"payload":"path", and of a shelf the record and its root, without its end. */
+static inline void json_origin(const struct origin *from)
+{
+    fputs("{\"payload\":", stdout);
+    json_string(from->path);
+    if (from->of_shelf) {
+        printf(",\"record\":%llu", (unsigned long long)from->record);
+        json_number("root_name", from->root_name);
+        json_number("root_type", from->root_type);
+    }
+}
+
 /* Answers 0 where the list is not what the table says. */
-static inline int json_reading(const char *path, const struct reading *it)
+static inline int json_reading(const struct origin *from, const struct reading *it)
 {
     static struct json_open open[BIM_MOST_OPEN + 1];
     struct bim_walk walk;
     struct bim_step step;
     int more = 0;
-    fputs("{\"payload\":", stdout);
-    json_string(path);
+    json_origin(from);
     json_number("party", it->party);
     if (it->number != BIM_ACCEPTED)
         json_refusal(it);
@@ -204,7 +216,19 @@ static inline int json_reading(const char *path, const struct reading *it)
     return more == 0;
 }
 
-/* A payload that could not be read. */
+/* A shelf that is damaged: nothing of it is read. */
+static inline void json_shelf_refusal(const char *path, uint32_t party, uint32_t number, uint32_t block)
+{
+    fputs("{\"payload\":", stdout);
+    json_string(path);
+    json_number("party", party);
+    printf(",\"refused\":{\"number\":%lu,\"name\":", (unsigned long)number);
+    json_string(bim_refusal_name(number));
+    json_number("block", block);
+    puts(",\"path\":[]}}");
+}
+
+/* A payload or a shelf that could not be read. */
 static inline void json_unreadable(const char *path, const char *why)
 {
     fputs("{\"payload\":", stdout);

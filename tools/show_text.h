@@ -1,12 +1,13 @@
 /* A reading as indented text.
  *
  * An element whose type the party does not hold is shown as what it is, a hole: [not held: name, type, n bits]. Beside an element that is cast
- * or substituted stands what is in effect: [type 2], or [as name, type 2]. An enumeration is shown as #index, a dateTime as
- * 2026-11-15 18:30:00.000, in GMT. */
+ * or substituted stands what is in effect: [type 2], or [as name, type 2]. An enumeration is shown as #index, with its
+ * word where the names file has one, a dateTime as 2026-11-15 18:30:00.000, in GMT. */
 #ifndef SHOW_TEXT_H
 #define SHOW_TEXT_H
 
 #include "names.h"
+#include "origin.h"
 #include "reading.h"
 
 static inline void text_value(const struct bim_step *step)
@@ -15,7 +16,11 @@ static inline void text_value(const struct bim_step *step)
     case BIM_BOOLEAN: fputs(step->p ? "true" : "false", stdout); break;
     case BIM_RANGED:
     case BIM_SIGNED: printf("%ld", (long)bim_signed(step->p)); break;
-    case BIM_ENUMERATION: printf("#%lu", (unsigned long)step->p); break;
+    case BIM_ENUMERATION:
+        printf("#%lu", (unsigned long)step->p);
+        if (value_names[step->type] != NULL && value_names[step->type][step->p] != NULL)
+            printf(" (%s)", value_names[step->type][step->p]);
+        break;
     case BIM_TEXT: put_bytes(stdout, step->text, step->p, 1); break;
     case BIM_FLOAT: fputs(float_digits(step->p), stdout); break;
     case BIM_DATE_TIME:
@@ -108,12 +113,12 @@ static inline void text_counts(const struct reading *it)
 }
 
 /* Answers 0 where the list is not what the table says. */
-static inline int text_reading(const char *path, const struct reading *it)
+static inline int text_reading(const struct origin *from, const struct reading *it)
 {
     struct bim_walk walk;
     struct bim_step step;
     int more, line = 0;
-    put_path(stdout, path);
+    put_origin(from, put_word);
     fputs(": ", stdout);
     if (it->number != BIM_ACCEPTED) {
         text_refusal(it, text_word);
@@ -126,6 +131,12 @@ static inline int text_reading(const char *path, const struct reading *it)
     while ((more = bim_walk_next(&walk, &step)) == 1)
         text_step(it->table, &step, &line);
     return more == 0;
+}
+
+/* A shelf that is damaged, so that nothing of it is read. */
+static inline void text_shelf_refusal(uint32_t number, uint32_t block)
+{
+    printf("refused %lu, %s, at block %lu", (unsigned long)number, bim_refusal_name(number), (unsigned long)block);
 }
 
 #endif

@@ -14,6 +14,7 @@ use crate::tally::{Numbers, Tally};
 use crate::words::{big_endian, hex, words_of};
 use std::collections::HashMap;
 use std::hint::black_box;
+use std::sync::OnceLock;
 
 /// The C call of a report, with its buffers as slices.
 pub trait ReportCalls {
@@ -32,8 +33,9 @@ impl ReportCalls for ReportJudge {
 
 const ADD: &str = "bim_report_add";
 /// What it can answer: what a reading in the largest rooms can, and 24.
-fn numbers() -> Vec<u32> {
-    READER.into_iter().filter(|&number| number != bim::TEXT_ROOM).collect()
+fn numbers() -> &'static [u32] {
+    static NUMBERS: OnceLock<Vec<u32>> = OnceLock::new();
+    NUMBERS.get_or_init(|| READER.into_iter().filter(|&number| number != bim::TEXT_ROOM).collect())
 }
 
 /// The page's theorems, in its words.
@@ -417,8 +419,7 @@ impl<'a> ReportBench<'a> {
         for (call, calls, numbers) in self.tally.rows() {
             println!("{call}: {calls} calls   {numbers}");
         }
-        let numbers: &'static [u32] = numbers().leak();
-        let needed: [Numbers; 1] = [(ADD, numbers)];
+        let needed: [Numbers; 1] = [(ADD, numbers())];
         let mut good = self.sample || self.tally.has_met(&needed);
         for (promise, times) in PROMISES.iter().zip(self.held) {
             println!("{promise}: {times} times");
