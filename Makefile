@@ -1,5 +1,5 @@
 # Two commands for everybody (run, test), three for C programmers (host, install, dist), the rest for those who work here.
-.PHONY: test run host install dist fuzz soak soak-shelves stack sanitized bench figures peer fmt face quotes
+.PHONY: test run host install dist fuzz soak soak-shelves stack sanitized bench goals nanopb figures peer fmt face quotes
 
 PREFIX = /usr/local
 CFLAGS = -O2
@@ -38,7 +38,7 @@ run: target/c/host
 # The small receiver, what gives a payload its lengths, the table curator's programs, where the bits go, and butted payloads apart, in target/c.
 host: $(PROGRAMS:%=target/c/%)
 
-vpath %.c examples tools tests
+vpath %.c examples examples/nanopb tools tests peer/src/bin/speed
 target/c/%: %.c $(ARCHIVE) $(wildcard include/*.h tools/*.h tests/*.h)
 	@mkdir -p target/c
 	$(CC) $(STRICT) $(CFLAGS) $< $(ARCHIVE) -o $@
@@ -123,10 +123,49 @@ peer/target/release/calls: $(ARCHIVE) $(shell find peer/src peer/build.rs peer/C
 	cd peer && cargo build --release --locked --offline --quiet --features host_write --bin calls
 	@touch $@
 
-# The proved C calls against the peer's fast ones: times, instruction counts and growth. A part of docs/FIGURES.md.
+# nanopb, which the bench compares with: where Debian's nanopb and libnanopb-dev are, on the archive's own processor. Elsewhere its rows are skipped.
+NANOPB := $(if $(filter x86_64,$(shell uname -m)),$(and $(wildcard /usr/include/pb_decode.h),$(wildcard /usr/bin/nanopb_generator.py)))
+
+# What its generator makes of the guide's messages. Its code is its own: it is not held to our warnings.
+target/nanopb/guide.pb.c: examples/nanopb/guide.proto examples/nanopb/guide.options
+	@mkdir -p target/nanopb
+	@nanopb_generator.py -q -D target/nanopb -I examples/nanopb guide.proto
+
+target/nanopb/guide.pb.o: target/nanopb/guide.pb.c
+	$(CC) -O3 -Itarget/nanopb -c $< -o $@
+
+target/nanopb/%.o: %.c target/nanopb/guide.pb.c $(wildcard include/*.h examples/nanopb/*.h)
+	$(CC) $(STRICT) -O3 -isystem target/nanopb -c $< -o $@
+
+# What the bench asks of nanopb.
+target/nanopb/libguide.a: target/nanopb/nanopb.o target/nanopb/guide.pb.o
+	@rm -f $@
+	ar rcs $@ $^
+
+# The guide of examples/nanopb from BiM to nanopb, printed.
+ifeq ($(NANOPB),)
+nanopb:
+	@echo "SKIPPED: nanopb is not on this machine"
+else
+nanopb: target/nanopb/guide
+	@target/nanopb/guide examples/nanopb/guide.table examples/nanopb/guide.bim
+endif
+target/nanopb/guide: target/nanopb/guide.o target/nanopb/guide.pb.o $(ARCHIVE)
+	$(CC) $^ -lprotobuf-nanopb -o $@
+
+# The bench's program, with what it is linked with.
+define SPEED
+@$(MAKE) --no-print-directory $(ARCHIVE) $(if $(NANOPB),target/nanopb/libguide.a) >&2
+@cd peer && cargo build --profile speed --locked --offline --quiet --features $(if $(NANOPB),nanopb,host_write) --bin speed && target/speed/speed
+endef
+
+# The proved C calls against the peer's fast ones and nanopb: times, instruction counts and growth. A part of docs/FIGURES.md.
 bench:
-	@$(MAKE) --no-print-directory $(ARCHIVE) >&2
-	@cd peer && cargo build --profile speed --locked --offline --quiet --features host_write --bin speed && target/speed/speed
+	$(SPEED)
+
+# The instruction counts alone, of the rows that have a goal (peer/src/bin/speed/goals.rs): a part of the gate.
+goals:
+	$(SPEED) goals
 
 # docs/FIGURES.md anew, or only some of its parts: make figures PARTS="lines stack" (lines gate stack speed split soak shelves fuzz).
 figures: PARTS =

@@ -1,5 +1,6 @@
 //! Links the proved leaves into `leaves` alone and the proved C calls into `calls`, `speed` and `fuzz` alone: every other target
-//! is built without them. `HOST_ARCHIVE` names another archive of the C calls. `fuzz` gets libFuzzer and blocks.c besides:
+//! is built without them. `HOST_ARCHIVE` names another archive of the C calls. With the feature `nanopb`, `speed` gets what the Makefile
+//! made of examples/nanopb, and Debian's nanopb. `fuzz` gets libFuzzer and blocks.c besides:
 //! `FUZZER` and `FUZZ_BLOCKS` name the archive and the object.
 
 /// The crates whose archives are linked (`rt staticlib NAME`), and the one that runs the vectors.
@@ -19,6 +20,10 @@ fn main() {
     if std::env::var_os("CARGO_FEATURE_HOST_WRITE").is_some() {
         link("calls", &calls);
         link("speed", &calls);
+    }
+    if std::env::var_os("CARGO_FEATURE_NANOPB").is_some() {
+        link("speed", concat!(env!("CARGO_MANIFEST_DIR"), "/../target/nanopb/libguide.a"));
+        println!("cargo:rustc-link-arg-bin=speed=-lprotobuf-nanopb");
     }
     if std::env::var_os("CARGO_FEATURE_FUZZ").is_some() {
         link("fuzz", &calls);

@@ -6,6 +6,7 @@ use peer::bim;
 use peer::code_cases::{code_case, payload_case};
 use peer::guide;
 use peer::listing::listing;
+use peer::speed::guide_files;
 use peer::vectors::{again, renewed, vectors_of};
 use std::collections::BTreeSet;
 use std::path::{Path, PathBuf};
@@ -102,8 +103,9 @@ fn made() -> io::Result<Vec<(PathBuf, Vec<u8>)>> {
         files.push((input.with_extension("out"), listing(&fs::read(&input)?).into_bytes()));
     }
 
-    let guide = guide::files();
-    println!("guide, worked: {} files", guide.len());
+    let mut guide = guide::files();
+    guide.extend(guide_files());
+    println!("guide, worked, nanopb: {} files", guide.len());
     files.extend(guide.into_iter().map(|(name, bytes)| (examples(name), bytes)));
     Ok(files)
 }

@@ -240,6 +240,12 @@ pub fn fifty_guides() -> Vec<Input> {
     (1..=50).map(guide).collect()
 }
 
+/// The guide that is compared with nanopb's: its smallest table and its payload, as examples/nanopb has them.
+pub fn guide_files() -> [(&'static str, Vec<u8>); 2] {
+    let input = guide(50);
+    [("nanopb/guide.table", big_endian(&input.rows.words())), ("nanopb/guide.bim", input.payload)]
+}
+
 /// What the short call is timed on: a list that has every length.
 pub fn with_lengths() -> Input {
     guide_with_lengths(50)

@@ -3,4 +3,4 @@
 mod guide;
 mod inputs;
 
-pub use inputs::{fifty_guides, growing, of_dates, standard, with_lengths, Growth, Input, VALUES};
+pub use inputs::{fifty_guides, growing, guide_files, of_dates, standard, with_lengths, Growth, Input, VALUES};

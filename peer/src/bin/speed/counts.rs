@@ -1,8 +1,8 @@
 //! Instructions of each call, by valgrind's callgrind: they repeat.
 
-use crate::shelves;
 use crate::sides::{Buffers, FUNCTIONS, SIDES};
 use crate::Item;
+use crate::{nanopb, shelves};
 use std::fs;
 use std::hint::black_box;
 use std::process::{Command, Stdio};
@@ -28,18 +28,19 @@ pub extern "C" fn speed_mark() {
     black_box(());
 }
 
-/// The instructions between the marks, of which there are so many.
-pub fn under_callgrind(marks: usize) -> Vec<u64> {
+/// The instructions between the marks, of which this program makes so many when it is called with these words.
+pub fn under_callgrind(words: &[&str], marks: usize) -> Vec<u64> {
     let folder = std::env::temp_dir().join(format!("speed-{}", std::process::id()));
     fs::create_dir_all(&folder).expect("a temporary folder");
     let out = folder.join("out");
+    let functions = FUNCTIONS.iter().chain(&shelves::FUNCTIONS).chain(&nanopb::FUNCTIONS);
     let ran = Command::new("valgrind")
         .arg("--tool=callgrind")
         .arg(format!("--callgrind-out-file={}", out.display()))
         .arg("--dump-before=speed_mark")
-        .args(FUNCTIONS.iter().chain(&shelves::FUNCTIONS).map(|name| format!("--toggle-collect={name}")))
+        .args(functions.map(|name| format!("--toggle-collect={name}")))
         .arg(std::env::current_exe().expect("this program's path"))
-        .arg("counts")
+        .args(words)
         .env("GLIBC_TUNABLES", BY_VECTORS)
         .env("LD_BIND_NOW", "1")
         .stderr(Stdio::null())

@@ -1,8 +1,11 @@
-//! `speed`: the proved C calls against the peer's fast ones, timed in turn and counted by callgrind, as a page of Markdown.
-//! `speed counts` makes each call once; `speed` runs that under valgrind. `speed reports` has the last table alone, and exit status 1 where
-//! counting takes longer than it may.
+//! `speed`: the proved C calls against the peer's fast ones and nanopb, timed in turn and counted by callgrind, as a page of Markdown.
+//! `speed goals` counts the rows that have a goal, and has exit status 1 where one passes what it is guarded at. `speed reports` has the
+//! last table alone, and exit status 1 where counting takes longer than it may. `speed rows` names the rows of the comparison.
+//! `speed counts` and `speed counts goals` make each call once; `speed` and `speed goals` run that under valgrind.
 
 mod counts;
+mod goals;
+mod nanopb;
 mod page;
 #[path = "../calls/proved.rs"]
 mod proved;
@@ -11,8 +14,10 @@ mod shelves;
 mod sides;
 mod times;
 
+use nanopb::Nanopb;
 use peer::calls::{Call, Case};
 use peer::speed::{growing, of_dates, standard, with_lengths, Input};
+use std::process::ExitCode;
 
 /// A call to be measured, and where it stands on the page.
 pub struct Item {
@@ -39,8 +44,8 @@ pub enum Part {
     Values,
 }
 
-/// Everything that is measured, in order.
-fn items() -> Vec<Item> {
+/// The rows of the comparison proper, in order.
+fn compared() -> Vec<Item> {
     let mut items = vec![];
     let mut add = |input: &Input, words: usize, cases: [Case; 2]| {
         let (bytes, events) = input.sizes();
@@ -60,6 +65,12 @@ fn items() -> Vec<Item> {
         let named = input.writing(&table);
         add(&input, table.len(), [named.clone(), named.without_mode()]);
     }
+    items
+}
+
+/// All that is measured of reading and writing, in order: the comparison, what grows, and values.
+fn items() -> Vec<Item> {
+    let mut items = compared();
     for growth in growing() {
         for call in [Call::Read, Call::Write] {
             for (size, input, table) in &growth.steps {
@@ -80,23 +91,50 @@ fn items() -> Vec<Item> {
     items
 }
 
-fn main() {
+/// Each call of the page once, with a mark behind each.
+fn make_calls() {
+    let items = items();
+    counts::make_calls(&items);
+    shelves::make_calls(&shelves::items());
+    if let Some(mut nanopb) = Nanopb::of_guide(&items) {
+        nanopb.make_calls(&items);
+    }
+}
+
+/// Everything, measured and printed.
+fn print_page() {
     let (items, shelves) = (items(), shelves::items());
-    if std::env::args().nth(1).as_deref() == Some("counts") {
-        counts::make_calls(&items);
-        shelves::make_calls(&shelves);
-        return;
-    }
-    if std::env::args().nth(1).as_deref() == Some("reports") {
-        std::process::exit(i32::from(!reports::print()));
-    }
+    let mut nanopb = Nanopb::of_guide(&items);
     items.iter().for_each(|item| sides::check(&item.case));
     shelves.iter().for_each(shelves::Shelf::check);
-    let counts = counts::under_callgrind(sides::SIDES.len() * items.len() + shelves::SIDES * shelves.len());
-    let (of_items, of_shelves) = counts.split_at(sides::SIDES.len() * items.len());
+    let marks = [sides::SIDES.len() * items.len(), shelves::SIDES * shelves.len()];
+    let of_nanopb = if nanopb.is_some() { nanopb::MARKS } else { 0 };
+    let counts = counts::under_callgrind(&["counts"], marks[0] + marks[1] + of_nanopb);
+    let (of_items, counts) = counts.split_at(marks[0]);
+    let (of_shelves, of_nanopb) = counts.split_at(marks[1]);
     let times: Vec<_> = items.iter().map(|item| times::medians(&item.case)).collect();
-    page::print(&items, &times, of_items.as_chunks().0);
+    let rivals =
+        nanopb.as_mut().map_or(vec![], |nanopb| nanopb.measured(&items, of_items.as_chunks().0, &of_nanopb[1..]));
+    let short = page::print(&items, &times, of_items.as_chunks().0, &rivals);
     let times: Vec<_> = shelves.iter().map(shelves::Shelf::medians).collect();
     shelves::print(&shelves, &times, of_shelves.as_chunks().0);
     reports::print();
+    page::print_short(&short);
+}
+
+fn main() -> ExitCode {
+    let words: Vec<_> = std::env::args().skip(1).collect();
+    match words.iter().map(String::as_str).collect::<Vec<_>>()[..] {
+        [] => print_page(),
+        ["goals"] => return goals::guard(),
+        ["reports"] => return ExitCode::from(u8::from(!reports::print())),
+        ["rows"] => compared().iter().for_each(|item| println!("{}", page::row_name(item))),
+        ["counts"] => make_calls(),
+        ["counts", "goals"] => goals::make_calls(),
+        _ => {
+            eprintln!("speed [goals | reports | rows | counts | counts goals]");
+            return ExitCode::from(2);
+        }
+    }
+    ExitCode::SUCCESS
 }

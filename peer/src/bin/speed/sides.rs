@@ -45,6 +45,11 @@ impl Buffers {
         }
     }
 
+    /// What the side that was asked last left, in the call's order.
+    pub fn outputs(&self) -> &[Vec<u8>] {
+        &self.outputs
+    }
+
     /// Asks a side.
     #[inline(always)]
     pub fn ask(&mut self, case: &Case, side: Side) -> u32 {
