@@ -2,6 +2,7 @@ pub mod Sides
 pub mod Walks
 pub mod Bytes
 pub mod Loops
+pub mod Lanes
 pub mod Sealing
 pub mod Ways
 pub mod Cutting

@@ -1,5 +1,6 @@
 pub mod Stream
 pub mod Block
+pub mod Sums
 pub mod Judge
 pub mod Shelf
 pub mod Contracts

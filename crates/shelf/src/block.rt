@@ -2,17 +2,17 @@
 use crate::answers::Walk;
 use crate::stream::first_in_stream;
 use crate::stream::walk_stream;
+use crate::sums::sum_words;
 use buffers::clear;
 use buffers::put_half;
 use buffers::put_word;
-use buffers::word;
 use numbers::limit;
 ghost use mathlib.Core.Path.{_≡_};
 ghost use mathlib.Core.List.{_++_};
 ghost use Prim.Native.Nat.{_+_, _*_, _≤_, _<_};
 ghost use lib.ListN.{length, take, drop, getD};
-ghost use Rattle.numbers.specs.Limit.{blockBytes, blockData, blockBody, blockWords, mostBlocks};
-ghost use Rattle.shelf.specs.Block.{bytesFrom, sumTo, headOf, block, usedIn, blocksFor, blockIn, cut};
+ghost use Rattle.numbers.specs.Limit.{blockBytes, blockData, mostBlocks};
+ghost use Rattle.shelf.specs.Block.{bytesFrom, headOf, block, usedIn, blocksFor, blockIn, cut};
 ghost use Rattle.shelf.specs.Stream.{byteAt, walk};
 ghost use Rattle.shelf.specs.Contracts.{Carried, SoundStream, placeIn};
 
@@ -26,20 +26,6 @@ pub fn copy_bytes(s: &[u8], from: usize, d: &mut [u8], to: usize, k: usize)
         d[to + i] = s[from + i];
         i += 1;
     }
-}
-
-// The sum of a block's words but the last, modulo 2^32.
-pub fn sum_words(s: &[u8], from: usize) -> u32
-    requires { ⌜ from + blockBody ≤ length (now s) ⌝ }
-    ensures { λ r. ⌜ r ≡ sumTo (now (s .entry)) from blockWords ⌝ }
-{
-    let mut sum = 0;
-    let mut i = 0;
-    while i < limit::BLOCK_WORDS {
-        sum = std::num::wrapping_add_u32(sum, word(s, from + 4 * i));
-        i += 1;
-    }
-    sum
 }
 
 // A block's head.

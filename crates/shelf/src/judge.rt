@@ -2,8 +2,8 @@
 use crate::answers::Scan;
 use crate::answers::Stepped;
 use crate::answers::Walk;
-use crate::block::sum_words;
 use crate::stream::name_start;
+use crate::sums::sum_words;
 use buffers::half;
 use buffers::word;
 use numbers::limit;

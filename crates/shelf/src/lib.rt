@@ -6,6 +6,7 @@ mod judge;
 mod rescue;
 mod reseal;
 mod stream;
+mod sums;
 
 use answers::Answer;
 use answers::Rescued;

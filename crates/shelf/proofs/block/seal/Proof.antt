@@ -7,7 +7,7 @@ use Rattle.shelf.proofs.block.seal.Lts as lts
 use Rattle.buffers.proofs.clear.Reads as clear-reads
 use Rattle.buffers.proofs.put_word.Reads as put-word-reads
 use Rattle.shelf.proofs.block.put_head.Reads as put-head-reads
-use Rattle.shelf.proofs.block.sum_words.Reads as sum-words-reads
+use Rattle.shelf.proofs.sums.sum_words.Reads as sum-words-reads
 
 -- src/block.rt:60:25
 cast-put-head : tie.Need-cast-put-head

@@ -5,7 +5,7 @@ use Rattle.shelf.proofs.judge.reason.Tie as tie
 use Rattle.shelf.proofs.judge.reason.Reads as reads
 use Rattle.shelf.proofs.judge.reason.Lts as lts
 use Rattle.buffers.proofs.word.Reads as word-reads
-use Rattle.shelf.proofs.block.sum_words.Reads as sum-words-reads
+use Rattle.shelf.proofs.sums.sum_words.Reads as sum-words-reads
 use Rattle.shelf.proofs.judge.alone.Reads as alone-reads
 use Rattle.shelf.proofs.judge.number_at.Reads as number-at-reads
 
