@@ -1,13 +1,14 @@
 -- One more turn of each loop, and its end.
-use Prim.Native.Nat.{ℕ, zero, suc, _+_, _-_, _*_, _%_, _≤_, _<_}
+use Prim.Native.Nat.{ℕ, zero, suc, _+_, _-_, _*_, _%_, _≤_, _<_, max}
 use mathlib.Core.Path.{_≡_, refl, sym, ap, _∙_}
-use mathlib.Core.Bool.{Bool, true, false}
+use mathlib.Core.Bool.{Bool, true, false, cond}
 use mathlib.Core.List.{List, [], _∷_, _++_, append-assoc, append-nil}
 use native.Mathlib.Omega.{arith}
 use native.Mathlib.Numerals.{add-one}
+use lib.Dec.{eqb}
 use lib.ListN.{length, getD, set, take, drop, length-append, take-append-drop}
 use lib.Seq.{set-at, drop-cons, length-take-le}
-use borrow.Author.Tests.{eq-eqb, ne-eqb}
+use borrow.Author.Tests.{ne-eqb}
 use Rattle.buffers.specs.Bytes.{wordFrom}
 use Rattle.shelf.specs.declared.answers.Walk.{Walk}
 use Rattle.shelf.specs.declared.answers.Walk.the-variants.{Over, To}
@@ -54,20 +55,23 @@ module _ (b : ℕ → ℕ) (end p c q d : ℕ) (e : walk b end p c ≡ walk b en
     pub follow-on : n ≤ 8192 → walk b end p c ≡ walk b end (q + 6 + n) (d + 1)
     follow-on l = e ∙ walk-on b end q d (omega arith) (omega arith) ∙ ap (λ (x : ℕ). walk b end (q + 6 + x) (d + 1)) (sym f)
 
--- zeros passed
-module _ (f : List ℕ) (from k at end : ℕ) (e : zerosFrom f from k ≡ zerosFrom f at (end - at)) where
-  pub zeros-end : end ≤ at → true ≡ zerosFrom f from k
+-- zeros passed, of which the largest is 0
+module _ (f : List ℕ) (from k at end most : ℕ) (e : zerosFrom f from k ≡ cond (eqb most 0) (zerosFrom f at (end - at)) false) where
+  pub zeros-end : end ≤ at → eqb most 0 ≡ zerosFrom f from k
   unfolding zerosFrom
-  zeros-end h = let n : end - at ≡ 0 = omega arith in sym (e ∙ rw n)
+  zeros-end h = let n : end - at ≡ 0 = omega arith in sym (e ∙ rw n (plain (eqb most 0)))
+    where
+      plain : (x : Bool) → cond x true false ≡ x
+      plain true = refl
+      plain false = refl
 
-  module _ (h : at < end) where
-    left : end - at ≡ suc (end - (at + 1))
-    left = omega arith
-
-    pub zeros-not : (getD f at 0 ≡ 0 → ⊥) → false ≡ zerosFrom f from k
-    unfolding zerosFrom
-    zeros-not n = sym (e ∙ rw left (simp (ne-eqb (getD f at 0) 0 n)))
-
-    pub zeros-on : getD f at 0 ≡ 0 → zerosFrom f from k ≡ zerosFrom f (at + 1) (end - (at + 1))
-    unfolding zerosFrom
-    zeros-on n = e ∙ rw left (simp (eq-eqb (getD f at 0) 0 n))
+  pub zeros-on : {r : ℕ} → at < end → r ≡ max most (getD f at 0) → zerosFrom f from k ≡ cond (eqb r 0) (zerosFrom f (at + 1) (end - (at + 1))) false
+  unfolding zerosFrom
+  zeros-on {r} h m =
+      let left : end - at ≡ suc (end - (at + 1)) = omega arith in
+      e ∙ rw left (by-most most (getD f at 0) r m (zerosFrom f (at + 1) (end - (at + 1))))
+    where
+      by-most : (a b r : ℕ) → r ≡ max a b → (z : Bool) → cond (eqb a 0) (cond (eqb b 0) z false) false ≡ cond (eqb r 0) z false
+      by-most zero zero r m z = rw m
+      by-most zero (suc b) r m z = simp (ne-eqb (suc b) 0 (λ (n : suc b ≡ 0). omega arith), ne-eqb r 0 (λ (n : r ≡ 0). omega arith))
+      by-most (suc a) b r m z = simp (ne-eqb (suc a) 0 (λ (n : suc a ≡ 0). omega arith), ne-eqb r 0 (λ (n : r ≡ 0). omega arith))
