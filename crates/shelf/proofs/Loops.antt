@@ -14,7 +14,7 @@ use Rattle.shelf.specs.declared.answers.Walk.{Walk}
 use Rattle.shelf.specs.declared.answers.Walk.the-variants.{Over, To}
 use Rattle.shelf.specs.Stream.{byteAt, lengthAt, walk}
 use Rattle.shelf.specs.Block.{bytesFrom, sumTo}
-use Rattle.shelf.specs.Judge.{zerosFrom}
+use Rattle.shelf.specs.Judge.{placeOf, byteOf, zerosFrom}
 use Rattle.shelf.proofs.Walks.{walk-stop, walk-over, walk-on}
 use Rattle.shelf.proofs.Bytes.{bytes-long}
 
@@ -42,6 +42,13 @@ module _ (s d₀ : List ℕ) (from to : ℕ) where
 pub summed-more : (s : List ℕ) (from i : ℕ) {sum w r : ℕ} → sum ≡ sumTo s from i → w ≡ wordFrom s (from + 4 * i) → r ≡ (sum + w) % 4294967296 → r ≡ sumTo s from (i + 1)
 unfolding sumTo
 summed-more s from i e f g = g ∙ rw (e, f, add-one i)
+
+-- a length that lies in block i whole
+pub length-within : (f : List ℕ) (i p : ℕ) {r : ℕ} → 498 * i ≤ p → p + 1 < 498 * (i + 1) → r ≡ lengthAt (byteAt f) (512 * i + 8 + (p - 498 * i)) → r ≡ lengthAt (byteOf f) p
+length-within f i p h g e =
+    let a : placeOf p ≡ 512 * i + 8 + (p - 498 * i) = omega arith in
+    let b : placeOf (p + 1) ≡ 512 * i + 8 + (p - 498 * i) + 1 = omega arith in
+    e ∙ rw (a, b)
 
 -- records followed
 module _ (b : ℕ → ℕ) (end p c q d : ℕ) (e : walk b end p c ≡ walk b end q d) where

@@ -2,6 +2,7 @@
 use crate::answers::Scan;
 use crate::answers::Stepped;
 use crate::answers::Walk;
+use crate::stream;
 use crate::stream::name_start;
 use crate::sums::sum_words;
 use buffers::half;
@@ -45,16 +46,29 @@ pub fn length_at(f: &[u8], p: usize) -> usize
     high * 256 + low
 }
 
+// The same where the length ends in block i or before it, so that most often no number is divided.
+fn length_by(f: &[u8], i: usize, p: usize) -> usize
+    requires { ⌜ (i < blocks (now f)) × (p + 1 < blockData * (i + 1)) ⌝ }
+    ensures { λ r. ⌜ (r ≡ meaning.lengthAt (byteOf (now (f .entry))) p) × (r < 65536) ⌝ }
+{
+    let lo = limit::BLOCK_DATA * i;
+    if p < lo {
+        return length_at(f, p);
+    }
+    stream::length_at(f, limit::BLOCK_BYTES * i + limit::BLOCK_HEAD + (p - lo))
+}
+
 // Follows records from p on, c before them, while a length's second byte lies before end.
 pub fn walk_file(f: &[u8], end: usize, p: usize, c: usize) -> Walk
     requires { ⌜ (0 < end) × (end ≤ blockData * blocks (now f)) × (c ≤ p) ⌝ }
     ensures { λ r. ⌜ r ≡ meaning.walk (byteOf (now (f .entry))) end p c ⌝ }
 {
     let last = end - 1;
+    let i = last / limit::BLOCK_DATA;
     let mut next = p;
     let mut count = c;
     while next < last {
-        let n = length_at(f, next);
+        let n = length_by(f, i, next);
         if limit::MOST_PAYLOAD < n {
             return Walk::Over(next);
         }

@@ -14,7 +14,7 @@ fn wide(x: u8) -> usize
 }
 
 // The length of the record that begins at p.
-fn length_at(s: &[u8], p: usize) -> usize
+pub fn length_at(s: &[u8], p: usize) -> usize
     requires { ⌜ p + 1 < length (now s) ⌝ }
     ensures { λ r. ⌜ (r ≡ lengthAt (byteAt (now (s .entry))) p) × (r < 65536) ⌝ }
 {

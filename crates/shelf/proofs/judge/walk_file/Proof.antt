@@ -9,13 +9,13 @@ use Rattle.shelf.proofs.judge.walk_file.Statement.{statement}
 use Rattle.shelf.proofs.judge.walk_file.Tie as tie
 use Rattle.shelf.proofs.judge.walk_file.Reads as reads
 use Rattle.shelf.proofs.judge.walk_file.Lts as lts
-use Rattle.shelf.proofs.judge.length_at.Reads as length-at-reads
+use Rattle.shelf.proofs.judge.length_by.Reads as length-by-reads
 
 abbrev Inv-loop : tie.InvT-loop
-Inv-loop f end p c last next₀ count₀ next count = (walk (byteOf f) end p c ≡ walk (byteOf f) end next count) × (count ≤ next)
+Inv-loop f end p c last i next₀ count₀ next count = (walk (byteOf f) end p c ≡ walk (byteOf f) end next count) × (count ≤ next)
 
 abbrev μ-loop : tie.MeasureT-loop
-μ-loop f end p c last next₀ count₀ next count = last - next
+μ-loop f end p c last i next₀ count₀ next count = last - next
 
 -- src/judge.rt:51:16
 sub-last : tie.Need-sub-last Inv-loop μ-loop
@@ -26,8 +26,8 @@ loop-holds : tie.Need-loop-holds Inv-loop μ-loop
 loop-holds c = search needs
 
 -- src/judge.rt:55:13
-length-at-requires : tie.Need-length-at-requires Inv-loop μ-loop
-length-at-requires c κs = search needs
+length-by-requires : tie.Need-length-by-requires Inv-loop μ-loop
+length-by-requires c κs = search needs
 
 -- src/judge.rt:57:13
 returns : tie.Need-returns Inv-loop μ-loop
@@ -65,7 +65,7 @@ walk-file-spec =
     μ-loop
     sub-last
     loop-holds
-    length-at-requires
+    length-by-requires
     returns
     add-next
     add-next-2
