@@ -1,7 +1,7 @@
 -- What writing and reading come to, way by way.
-use Prim.Native.Nat.{ℕ, zero, suc, _+_, _-_, _*_, _/_, _%_, _≤_, _<_}
+use Prim.Native.Nat.{ℕ, _+_, _-_, _*_, _/_, _≤_, _<_}
 use mathlib.Core.Path.{_≡_, refl, sym, ap, _∙_}
-use mathlib.Core.List.{List, [], _∷_, _++_, append-nil}
+use mathlib.Core.List.{List, [], _++_, append-nil}
 use native.Mathlib.Omega.{arith}
 use lib.ListN.{length, take, drop, replicate, length-append, length-drop}
 use lib.Seq.{take-at, drop-length}
@@ -12,13 +12,12 @@ use Rattle.shelf.specs.declared.answers.Soundness.the-variants.{Sound, F
 use Rattle.shelf.specs.declared.answers.Scan.{Scan}
 use Rattle.shelf.specs.declared.answers.Scan.the-variants.{Refused, Whole}
 use Rattle.shelf.specs.declared.answers.Answer.{Answer}
-use Rattle.shelf.specs.Contracts.{SoundStream}
 use Rattle.shelf.specs.Stream.{byteAt, fault}
-use Rattle.shelf.specs.Block.{bytesFrom, cut, blocksFor, fileOf}
+use Rattle.shelf.specs.Block.{bytesFrom, cut, blocksFor}
 use Rattle.shelf.specs.Judge.{byteOf}
-use Rattle.shelf.specs.Shelf.{Outcome, refuses, gives, filled, Done, writeSound, shelfWrite, scan, readScanned, shelfRead}
+use Rattle.shelf.specs.Shelf.{Outcome, refuses, gives, lacking, filled, Done, writeSound, shelfWrite, scan, readScanned, shelfRead}
 use Rattle.shelf.proofs.Bytes.{bytes-long}
-use Rattle.shelf.proofs.Cutting.{cut-long}
+use Rattle.shelf.proofs.Cutting.{cut-long, cut-kept}
 
 -- a buffer whose front holds the content, and is cleared behind it
 pub tail-cleared : (l l₀ b b′ z : List ℕ) (k : ℕ) → length l ≡ k → k ≤ length l₀ → b ≡ l ++ drop k l₀ → b′ ≡ putMid k (length b - k) b z → z ≡ replicate (length (midOf k (length b - k) b)) 0
@@ -45,29 +44,43 @@ given-so : (o : Outcome) (room records stream file : ℕ) (l b : List ℕ) → g
 given-so o room records stream file l b e h =
     record { answer = ap (λ (x : Outcome). x .answer) e; content = h ∙ ap (λ (x : Outcome). filled room (x .content)) e }
 
-module _ (s : List ℕ) (room : ℕ) {w : Soundness} (e : w ≡ fault (byteAt s) (length s)) where
-  pub write-faulty : {i : ℕ} {r : Answer} {b : List ℕ} → w ≡ Faulty i → r ≡ refuses 33 i .answer → b ≡ replicate room 0 → Done (shelfWrite s room) room r b
+-- no room
+module _ {w v : Soundness} {r : Answer} (e : w ≡ v) where
+  pub lacks-sound : {c : ℕ} → w ≡ Sound c → r ≡ refuses 21 0 .answer → r ≡ lacking v
+  unfolding lacking
+  lacks-sound g a = a ∙ ap lacking (sym g ∙ e)
+
+  pub lacks-faulty : {i : ℕ} → w ≡ Faulty i → r ≡ refuses 33 i .answer → r ≡ lacking v
+  unfolding lacking
+  lacks-faulty g a = a ∙ ap lacking (sym g ∙ e)
+
+module _ (s : List ℕ) (room : ℕ) {m : ℕ} {r : Answer} {b : List ℕ} (k : m ≡ blocksFor (length s)) (a : r ≡ lacking (fault (byteAt s) (length s))) (h : b ≡ replicate room 0) where
+  lacks : ((c : ℕ) → writeSound s room (Sound c) ≡ refuses 21 0) → Done (shelfWrite s room) room r b
+  unfolding shelfWrite writeSound lacking
+  lacks small = by (fault (byteAt s) (length s)) refl
+    where
+      by : (v : Soundness) → fault (byteAt s) (length s) ≡ v → Done (shelfWrite s room) room r b
+      by (Faulty i) q = all-zero (shelfWrite s room) room 33 i r b (sym (ap (writeSound s room) q)) (a ∙ ap lacking q) h
+      by (Sound c) q = all-zero (shelfWrite s room) room 21 0 r b (sym (ap (writeSound s room) q ∙ small c)) (a ∙ ap lacking q) h
+
+  pub write-small : room / 512 < m → Done (shelfWrite s room) room r b
+  unfolding writeSound
+  write-small l = lacks (λ c. simp (lt-ltb (room / 512) (blocksFor (length s)) (omega arith)))
+
+  pub write-many : m ≤ room / 512 → 4294967296 < m → Done (shelfWrite s room) room r b
+  unfolding writeSound
+  write-many o l = lacks (λ c. simp (le-ltb (room / 512) (blocksFor (length s)) (omega arith), lt-ltb 4294967296 (blocksFor (length s)) (omega arith)))
+
+module _ (s : List ℕ) {w : Soundness} (e : w ≡ fault (byteAt s) (length s)) where
+  -- what was made is cleared
+  pub write-undone : {i m : ℕ} {r : Answer} (b₀ b z : List ℕ) → w ≡ Faulty i → m ≤ length b₀ / 512 → b ≡ cut (byteAt s) (length s) m ++ drop (512 * m) b₀ → r ≡ refuses 33 i .answer
+      → z ≡ replicate (length b) 0 → Done (shelfWrite s (length b₀)) (length b₀) r z
   unfolding shelfWrite writeSound
-  write-faulty {i} {r} {b} g a h = all-zero (shelfWrite s room) room 33 i r b (sym (ap (writeSound s room) (sym e ∙ g))) a h
+  write-undone {i} {m} {r} b₀ b z g l k a h =
+      let o : length b ≡ length b₀ = cut-kept (byteAt s) (length s) m b b₀ (omega arith) k in
+      all-zero (shelfWrite s (length b₀)) (length b₀) 33 i r z (sym (ap (writeSound s (length b₀)) (sym e ∙ g))) a (h ∙ ap (λ (x : ℕ). replicate x 0) o)
 
-  module _ {c m : ℕ} (g : w ≡ Sound c) (k : m ≡ blocksFor (length s)) where
-    pub write-small : {r : Answer} {b : List ℕ} → room / 512 < m → r ≡ refuses 21 0 .answer → b ≡ replicate room 0 → Done (shelfWrite s room) room r b
-    unfolding shelfWrite writeSound
-    write-small {r} {b} l a h =
-        all-zero (shelfWrite s room) room 21 0 r b
-        (sym (ap (writeSound s room) (sym e ∙ g) ∙ simp (lt-ltb (room / 512) (blocksFor (length s)) (omega arith)))) a h
-
-    pub write-many : {r : Answer} {b : List ℕ} → m ≤ room / 512 → 4294967296 < m → r ≡ refuses 21 0 .answer → b ≡ replicate room 0 → Done (shelfWrite s room) room r b
-    unfolding shelfWrite writeSound
-    write-many {r} {b} o l a h =
-        all-zero (shelfWrite s room) room 21 0 r b
-        (sym
-        (ap (writeSound s room) (sym e ∙ g)
-        ∙ simp (le-ltb (room / 512) (blocksFor (length s)) (omega arith), lt-ltb 4294967296 (blocksFor (length s)) (omega arith)))) a h
-
-    pub stream-so : m ≤ 4294967296 → m ≤ room / 512 → SoundStream s m room
-    stream-so h l = record { count = c; sound = sym e ∙ g; all = k; numbered = h; fits = omega arith }
-
+  module _ (room : ℕ) {c m : ℕ} (g : w ≡ Sound c) (k : m ≡ blocksFor (length s)) where
     pub write-done : (b₀ b b′ z : List ℕ) → length b₀ ≡ room → m ≤ room / 512 → m ≤ 4294967296 → b ≡ cut (byteAt s) (length s) m ++ drop (512 * m) b₀
         → b′ ≡ putMid (512 * m) (length b - 512 * m) b z → z ≡ replicate (length (midOf (512 * m) (length b - 512 * m) b)) 0
         → Done (shelfWrite s room) room (gives c (length s) (512 * m) [] .answer) b′

@@ -6,6 +6,7 @@ pub mod Lanes
 pub mod Sealing
 pub mod Ways
 pub mod Cutting
+pub mod Following
 pub mod Scanning
 pub mod Scans
 pub mod Parts

@@ -5,54 +5,23 @@ use mathlib.Core.List.{List, _++_, append-assoc}
 use mathlib.Core.Logic.{⊎-elim}
 use native.Mathlib.Omega.{arith}
 use native.Mathlib.Numerals.{add-one}
-use lib.ListN.{length, getD, take, drop, length-append, length-drop}
+use lib.ListN.{length, getD, take, drop, length-drop}
 use lib.Seq.{getD-drop, getD-append-add, take-at, drop-at, drop-drop, drop-append-le, take-append-le}
 use borrow.Author.Tests.{lt-ltb, le-ltb}
 use borrow.Rule.Slice.PartMut.{putMid, midOf, post-is}
 use Rattle.shelf.specs.declared.answers.Walk.{Walk}
 use Rattle.shelf.specs.declared.answers.Walk.the-variants.{Over, To}
-use Rattle.shelf.specs.Stream.{byteAt, walk, firstFrom}
+use Rattle.shelf.specs.Stream.{byteAt, walk}
 use Rattle.shelf.specs.Block.{bytesFrom, block, usedIn, nameAfter, firstIn, blockIn, cut, blocksFor}
 use Rattle.shelf.specs.Judge.{placeOf, byteOf}
-use Rattle.shelf.specs.Rescue.{walkOn, Fewer, Followed}
+use Rattle.shelf.specs.Contracts.{walkOn}
 use Rattle.shelf.proofs.Sides.{less}
-use Rattle.shelf.proofs.Walks.{andThen, walk-stop, walked-so, reached, walk-longer, walk-alike}
+use Rattle.shelf.proofs.Walks.{walk-alike}
+use Rattle.shelf.proofs.Following.{hi-least, block-so, on-so, on-next, walk-at}
 use Rattle.shelf.proofs.Bytes.{bytes-long, byte-of, bytes-alike}
-use Rattle.shelf.proofs.Cutting.{used-within, cut-long, first-small}
+use Rattle.shelf.proofs.Cutting.{used-within, cut-long}
 use Rattle.shelf.proofs.Theorems.{after-alike}
 use Rattle.shelf.proofs.Parts.{partOf, part-at, byte-is, cut-part}
-
-pub name-small : (b : ℕ → ℕ) (lo hi p : ℕ) {r : ℕ} → r ≡ firstFrom b lo hi p → hi ≤ lo + 498 → r < 65536
-name-small b lo hi p g h = rw g (first-small b lo hi p h)
-
--- what a block names
-module _ (b : ℕ → ℕ) (lo hi : ℕ) {w : Walk} where
-  pub name-over : {p : ℕ} → w ≡ Over p → 65535 ≡ nameAfter b lo hi w
-  unfolding nameAfter
-  name-over e = rw e
-
-  pub name-to : {p c r : ℕ} → w ≡ To p c → r ≡ firstFrom b lo hi p → r ≡ nameAfter b lo hi w
-  unfolding nameAfter
-  name-to e g = rw e g
-
-  pub on-over : {p : ℕ} → w ≡ Over p → w ≡ walkOn b hi w
-  unfolding walkOn
-  on-over e = rw e
-
-  pub on-to : {p c : ℕ} {r : Walk} → w ≡ To p c → r ≡ walk b hi p c → r ≡ walkOn b hi w
-  unfolding walkOn
-  on-to e g = rw e g
-
-pub followed-past : {w : Walk} {p c : ℕ} (i : ℕ) → Followed i w → w ≡ To p c → 498 * i ≤ p + 1
-followed-past {w} {p} {c} i g e = g .past p c e
-
-pub followed-fewer : {w : Walk} (i : ℕ) → Followed i w → Fewer w
-followed-fewer i g = g .fewer
-
-pub fewer-so : {w : Walk} {p c : ℕ} → Fewer w → w ≡ To p c → c ≤ p
-fewer-so {w} {p} {c} g e = g .most p c e
-
-pub ruleset reseal-ways = (name-over, name-to, on-over, on-to)
 
 -- bytes of a block in its place
 mid-bytes : (f mid : List ℕ) (i u : ℕ) → mid ≡ partOf f i → u ≤ 498 → bytesFrom (byteAt mid) 8 u ≡ bytesFrom (byteOf f) (498 * i) u
@@ -78,31 +47,14 @@ block-made f d n i first used w h e g k =
     ∙ ap (λ (x : ℕ). take (512 * i) f ++ block i x (bytesFrom (byteOf f) (498 * i) used) ++ drop (512 * (i + 1)) f) g
     ∙ ap (λ (x : ℕ). take (512 * i) f ++ block i (nameAfter (byteOf f) (498 * i) (498 * i + x) w) (bytesFrom (byteOf f) (498 * i) x) ++ drop (512 * (i + 1)) f) e
 
-pub followed-on : (b : ℕ → ℕ) (n i used : ℕ) (w : Walk) {r : Walk} → used ≡ usedIn n i → r ≡ walkOn b (498 * i + used) w → r ≡ walkOn b (498 * i + usedIn n i) w
-followed-on b n i used w e g = g ∙ ap (λ (x : ℕ). walkOn b (498 * i + x) w) e
-
--- what was followed
-pub followed : (b : ℕ → ℕ) (i : ℕ) {w : Walk} → w ≡ walk b (498 * i) 0 0 → Followed i w
-followed b i e =
-    record {
-      past = λ p c g. reached (walked-so (sym e ∙ g)) .past;
-      fewer = record { most = λ p c g. reached (walked-so (sym e ∙ g)) .fewer (omega arith) };
-    }
-
 -- a block of bytes that agree
 module _ (b b′ : ℕ → ℕ) (n i : ℕ) (same : (k : ℕ) → k < n → b′ k ≡ b k) (h : 498 * i < n) where
   hi : ℕ
   hi = 498 * i + usedIn n i
 
-  hi-least : hi ≡ min (498 * (i + 1)) n
-  unfolding hi
-  hi-least = ⊎-elim (λ (g : n - 498 * i < 498). rw (lt-ltb (n - 498 * i) 498 g) (omega arith)) (λ (g : 498 ≤ n - 498 * i). rw (le-ltb (n - 498 * i) 498 g) (omega arith)) (less (n - 498 * i) 498)
-
   hi-in : hi ≤ n
-  hi-in = omega (arith, hi-least)
-
-  hi-more : 498 * i < hi
-  hi-more = omega (arith, hi-least)
+  unfolding hi
+  hi-in = omega (arith, hi-least n i h)
 
   same-walk : (w : Walk) → walkOn b′ hi w ≡ walkOn b hi w
   unfolding walkOn
@@ -114,27 +66,15 @@ module _ (b b′ : ℕ → ℕ) (n i : ℕ) (same : (k : ℕ) → k < n → b′
   same-bytes = let q = hi-in in bytes-alike b′ b (498 * i) (498 * i) (usedIn n i) (λ j l. same (498 * i + j) (omega arith))
 
   pub block-alike : (w : Walk) → w ≡ walk b (498 * i) 0 0 → block i (nameAfter b′ (498 * i) (498 * i + usedIn n i) w) (bytesFrom b′ (498 * i) (usedIn n i)) ≡ blockIn b n i
-  unfolding blockIn firstIn hi
+  unfolding hi
   block-alike w g =
-      ap (λ (x : ℕ). block i x (bytesFrom b′ (498 * i) (usedIn n i))) (after-alike b′ b n same (498 * i) hi w h ∙ ap (nameAfter b (498 * i) hi) g)
-      ∙ ap (block i (nameAfter b (498 * i) hi (walk b (498 * i) 0 0))) same-bytes
-
-  chain : (v : Walk) → walk b (498 * i) 0 0 ≡ v → walkOn b hi v ≡ walk b hi 0 0
-  unfolding andThen walkOn
-  chain (Over p) z = let q = hi-more in rw z at (walk-longer b (498 * i) hi 0 0 (omega arith))
-  chain (To p c) z = let q = hi-more in rw z at (walk-longer b (498 * i) hi 0 0 (omega arith))
+      ap (λ (x : ℕ). block i x (bytesFrom b′ (498 * i) (usedIn n i))) (after-alike b′ b n same (498 * i) hi w h)
+      ∙ ap (block i (nameAfter b (498 * i) hi w)) same-bytes
+      ∙ block-so b n i g
 
   pub walk-next : (w r : Walk) → w ≡ walk b (498 * i) 0 0 → r ≡ walkOn b′ (498 * i + usedIn n i) w → r ≡ walk b (min (498 * (i + 1)) n) 0 0
   unfolding hi
-  walk-next w r g k =
-      k ∙ same-walk w ∙ ap (walkOn b hi) g ∙ chain (walk b (498 * i) 0 0) refl ∙ ap (λ (x : ℕ). walk b x 0 0) hi-least
-
--- a block that has bytes begins before the end
-walk-at : (b : ℕ → ℕ) (n i : ℕ) {w : Walk} → w ≡ walk b (min (498 * i) n) 0 0 → 498 * i < n → w ≡ walk b (498 * i) 0 0
-walk-at b n i e h = let z : min (498 * i) n ≡ 498 * i = omega arith in rw z at e
-
-pub followed-at : (b : ℕ → ℕ) (n i m : ℕ) {w : Walk} → w ≡ walk b (min (498 * i) n) 0 0 → m ≡ blocksFor n → i < m → Followed i w
-followed-at b n i m e g h = followed b i (walk-at b n i e (omega arith))
+  walk-next w r g k = on-next b n i h (on-so b (498 * i) hi (omega arith) g (k ∙ same-walk w))
 
 -- the stream stays while blocks are made
 module _ (f₀ : List ℕ) (n : ℕ) where
@@ -201,17 +141,3 @@ module _ (f₀ : List ℕ) (n : ℕ) where
 
     pub followed-next : (r : Walk) → r ≡ walkOn (byteOf f) (498 * i + usedIn n i) w → r ≡ walk b (min (498 * (i + 1)) n) 0 0
     followed-next r k = walk-next b (byteOf f) n i (λ j y. stays f i j e y) h w r g k
-
--- none yet, and all
-pub sealed-none : (f₀ : List ℕ) (n : ℕ) → f₀ ≡ cut (byteOf f₀) n 0 ++ drop (512 * 0) f₀
-unfolding cut
-sealed-none f₀ n = refl
-
-pub walk-none : (b : ℕ → ℕ) (n : ℕ) → To 0 0 ≡ walk b (min (498 * 0) n) 0 0
-walk-none b n = sym (walk-stop b (min (498 * 0) n) 0 0 (omega arith))
-
-pub sealed-long : (b : ℕ → ℕ) (n i : ℕ) (f f₀ : List ℕ) → 512 * i ≤ length f₀ → f ≡ cut b n i ++ drop (512 * i) f₀ → length f ≡ length f₀
-sealed-long b n i f f₀ h e = ap length e ∙ simp (length-append, length-drop) (omega (arith, cut-long b n i))
-
-pub sealed-end : (b : ℕ → ℕ) (n i m : ℕ) (f f₀ : List ℕ) → f ≡ cut b n i ++ drop (512 * i) f₀ → i ≤ m → m ≤ i → f ≡ cut b n m ++ drop (512 * m) f₀
-sealed-end b n i m f f₀ e g h = let z : i ≡ m = omega arith in rw z at e

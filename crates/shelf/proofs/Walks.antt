@@ -1,5 +1,5 @@
 -- Following records: the steps of a walk as a relation, by which every law of it is an induction; walks one after another; walks over bytes that agree.
-use Prim.Native.Nat.{ℕ, zero, suc, _+_, _*_, _≤_, _<_}
+use Prim.Native.Nat.{ℕ, zero, suc, _+_, _≤_, _<_}
 use mathlib.Core.Path.{_≡_, refl, sym, ap, _∙_}
 use mathlib.Core.Bool.{cond}
 use mathlib.Core.Logic.{⊎-elim}
@@ -9,7 +9,6 @@ use borrow.Author.Tests.{lt-ltb, le-ltb}
 use Rattle.shelf.proofs.Sides.{less}
 use Rattle.shelf.specs.declared.answers.Walk.{Walk}
 use Rattle.shelf.specs.declared.answers.Walk.the-variants.{Over, To}
-use Rattle.shelf.specs.Contracts.{placeIn}
 use Rattle.shelf.specs.Stream.{lengthAt, next, walkBy, walk}
 
 -- more steps than enough change nothing
@@ -119,13 +118,3 @@ walk-alike-from b b′ end p c lo o same = is-walk (agrees b′ lo o same (walks
 
 pub walk-alike : (b b′ : ℕ → ℕ) (end p c : ℕ) → ((k : ℕ) → k < end → b k ≡ b′ k) → walk b′ end p c ≡ walk b end p c
 walk-alike b b′ end p c same = walk-alike-from b b′ end p c 0 (omega arith) (λ k l h. same k h)
-
--- how many there were before does not change where it comes to
-place-from : {b : ℕ → ℕ} {end p c : ℕ} {w : Walk} (d : ℕ) → Walks b end p c w → placeIn w ≡ placeIn (walk b end p d)
-unfolding placeIn
-place-from {b} {end} {p} d (Walks.stops h) = sym (ap placeIn (walk-stop b end p d h))
-place-from {b} {end} {p} d (Walks.passes h l) = sym (ap placeIn (walk-over b end p d h l))
-place-from {b} {end} {p} d (Walks.goes h l r) = place-from (d + 1) r ∙ sym (ap placeIn (walk-on b end p d h l))
-
-pub place-any : (b : ℕ → ℕ) (end p c d : ℕ) → placeIn (walk b end p c) ≡ placeIn (walk b end p d)
-place-any b end p c d = place-from d (walks b end p c)

@@ -1,21 +1,20 @@
 -- The ways through the functions that judge.
-use Prim.Native.Nat.{ℕ, zero, suc, _+_, _-_, _*_, _/_, _%_, _≤_, _<_}
+use Prim.Native.Nat.{ℕ, zero, suc, _+_, _-_, _*_, _/_, _≤_, _<_}
 use mathlib.Core.Path.{_≡_, refl, sym, ap, _∙_}
 use mathlib.Core.Bool.{Bool, true, false, cond, false≢true}
 use mathlib.Core.List.{List}
 use native.Mathlib.Omega.{arith}
-use lib.ListN.{length}
-use lib.Dec.{ltb, eqb, leb}
-use borrow.Author.Tests.{lt-ltb, le-ltb, eq-eqb, ne-eqb, le-leb, lt-leb, eqb-false, ltb-false}
+use lib.Dec.{ltb, eqb}
+use borrow.Author.Tests.{lt-ltb, le-ltb, eq-eqb, ne-eqb, eqb-false, ltb-false}
 use Rattle.shelf.specs.declared.answers.Walk.{Walk}
 use Rattle.shelf.specs.declared.answers.Walk.the-variants.{Over, To}
 use Rattle.shelf.specs.declared.answers.Soundness.the-variants.{Sound, Faulty}
 use Rattle.shelf.specs.declared.answers.Stepped.{Stepped}
 use Rattle.shelf.specs.declared.answers.Stepped.the-variants.{Off, On}
-use Rattle.shelf.specs.Stream.{next, lengthAt, walk, named, firstFrom, judged, fault}
+use Rattle.shelf.specs.Stream.{lengthAt, walk, named, firstFrom, judged, fault}
 use Rattle.shelf.specs.Block.{usedIn, sumTo}
 use Rattle.shelf.proofs.Walks.{walk-stop, stopped, walked-so}
-use Rattle.shelf.specs.Judge.{byteOf, blocks, zerosFrom, last, ends, numberAt, usedAt, firstAt, sumAt, endAt, someUsed, restZero, firstInside, zeroFirst, alone, reason, closes, walked, inStep}
+use Rattle.shelf.specs.Judge.{byteOf, zerosFrom, last, ends, numberAt, usedAt, firstAt, sumAt, endAt, someUsed, restZero, firstInside, zeroFirst, alone, reason, closes, walked, inStep}
 
 -- bytes used
 pub used-left : (n i : ℕ) → n - 498 * i < 498 → n - 498 * i ≡ usedIn n i
@@ -189,6 +188,13 @@ module _ (b : ℕ → ℕ) (n : ℕ) where
 
     pub over-below : {p : ℕ} → w ≡ Over p → p + 1 < n
     over-below g = stopped (walked-so (sym e ∙ g)) .before
+
+    pub some-cut : {p c : ℕ} → w ≡ To p c → (p ≡ n → ⊥) → 0 < n
+    some-cut {p} {c} g h = by n refl
+      where
+        by : (k : ℕ) → n ≡ k → 0 < n
+        by zero z = let y : To p c ≡ To 0 0 = sym g ∙ e ∙ walk-stop b n 0 0 (omega arith) in let o : p ≡ 0 = cc in absurd (h (omega arith))
+        by (suc k) z = omega arith
 
     pub sound-to : {p c : ℕ} → w ≡ To p c → p ≡ n → Sound c ≡ fault b n
     unfolding fault judged

@@ -9,8 +9,6 @@ use lib.Seq.{sets}
 use Rattle.numbers.specs.Limit.{blockBytes, blockData, mostBlocks, dropped}
 use Rattle.numbers.specs.Refusal.{blockLayout}
 use Rattle.buffers.specs.Bytes.{bytesOf}
-use Rattle.shelf.specs.declared.answers.Walk.{Walk}
-use Rattle.shelf.specs.declared.answers.Walk.the-variants.{Over, To}
 use Rattle.shelf.specs.declared.answers.Known.{Known}
 use Rattle.shelf.specs.declared.answers.Known.the-variants.{Lost, From}
 use Rattle.shelf.specs.declared.answers.Judged.{Judged}
@@ -20,7 +18,6 @@ use Rattle.shelf.specs.declared.answers.Listed.{Listed}
 use Rattle.shelf.specs.declared.answers.Tally.{Tally}
 use Rattle.shelf.specs.declared.answers.Stand.{Stand}
 use Rattle.shelf.specs.declared.answers.Rescued.{Rescued}
-use Rattle.shelf.specs.Stream.{walk}
 use Rattle.shelf.specs.Judge.{placeOf, byteOf, blocks, numberAt, usedAt}
 use Rattle.shelf.specs.Shelf.{filled}
 use Rattle.shelf.specs.Salvage as salvage
@@ -158,19 +155,6 @@ pub record Stands (f : List ℕ) (i : ℕ) (s : Stand) : Type 0 where
   pub goods : Goods f (s .first) i
   pub ready : Ready f (s .first) i (s .known)
   pub tally : Within (s .first) (s .tally)
-
--- one walk after another
-unfoldable pub walkOn : (ℕ → ℕ) → (end : ℕ) → Walk → Walk
-walkOn b end (Over p) = Over p
-walkOn b end (To p c) = walk b end p c
-
--- following the records of a stream up to block i came to w
-pub record Fewer (w : Walk) : Type 0 where
-  pub most : (p c : ℕ) → w ≡ To p c → c ≤ p
-
-pub record Followed (i : ℕ) (w : Walk) : Type 0 where
-  pub past : (p c : ℕ) → w ≡ To p c → blockData * i ≤ p + 1
-  pub fewer : Fewer w
 
 -- room for m blocks, each with a number, and for the entries
 unfoldable pub hasRoom : (room list m entries : ℕ) → Bool

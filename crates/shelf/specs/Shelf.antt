@@ -2,8 +2,8 @@
 use Prim.Native.Nat.{ℕ, zero, suc, _+_, _-_, _*_, _/_, _%_}
 use mathlib.Core.Path.{_≡_}
 use mathlib.Core.Bool.{cond}
-use mathlib.Core.List.{List, [], _∷_, _++_}
-use lib.Dec.{eqb, ltb, leb}
+use mathlib.Core.List.{List, [], _++_}
+use lib.Dec.{eqb, ltb}
 use lib.ListN.{length, replicate}
 use Rattle.numbers.specs.Limit.{blockBytes, mostBlocks}
 use Rattle.numbers.specs.Refusal.{blockLayout, payloadRoom}
@@ -36,6 +36,11 @@ filled room content = content ++ replicate (room - length content) 0
 pub record Done (o : Outcome) (room : ℕ) (r : Answer) (buffer : List ℕ) : Type 0 where
   pub answer : r ≡ o .answer
   pub content : buffer ≡ filled room (o .content)
+
+-- without room for its blocks a stream is refused for a fault of its own, else for that
+unfoldable pub lacking : Soundness → Answer
+lacking (Faulty i) = refuses blockLayout i .answer
+lacking (Sound c) = refuses payloadRoom 0 .answer
 
 -- a sound stream is cut into blocks, where there is room for them and a number for each
 unfoldable pub writeSound : List ℕ → (room : ℕ) → Soundness → Outcome

@@ -1,7 +1,7 @@
 // Making the blocks of a file.
 use crate::answers::Walk;
-use crate::stream::first_in_stream;
-use crate::stream::walk_stream;
+use crate::stream::name_after;
+use crate::stream::walk_on;
 use crate::sums::sum_words;
 use buffers::clear;
 use buffers::put_half;
@@ -14,7 +14,6 @@ ghost use lib.ListN.{length, take, drop, getD};
 ghost use Rattle.numbers.specs.Limit.{blockBytes, blockData, mostBlocks};
 ghost use Rattle.shelf.specs.Block.{bytesFrom, headOf, block, usedIn, blocksFor, blockIn, cut};
 ghost use Rattle.shelf.specs.Stream.{byteAt, walk};
-ghost use Rattle.shelf.specs.Contracts.{Carried, SoundStream, placeIn};
 
 // k bytes copied from a place of one buffer to a place of another.
 pub fn copy_bytes(s: &[u8], from: usize, d: &mut [u8], to: usize, k: usize)
@@ -71,36 +70,35 @@ pub fn used_in(n: usize, i: usize) -> usize
     limit::BLOCK_DATA
 }
 
-// Makes block i, where the next record begins at p, and answers where it begins after the block.
-fn cut_block(s: &[u8], b: &mut [u8], i: usize, p: usize) -> usize
-    requires { ⌜ (length (now b) ≡ blockBytes) × Carried (now s) i p ⌝ }
+// Makes block i, where following the records up to it came to w, and follows them to its end.
+fn cut_block(s: &[u8], b: &mut [u8], i: usize, w: Walk) -> Walk
+    requires { ⌜ (length (now b) ≡ blockBytes) × (blockData * i < length (now s)) × (i < mostBlocks) × (w ≡ walk (byteAt (now s)) (blockData * i) 0 0) ⌝ }
     ensures made { λ r. ⌜ now (b .exit) ≡ blockIn (byteAt (now (s .entry))) (length (now (s .entry))) i ⌝ }
-    ensures carried { λ r. ⌜ r ≡ placeIn (walk (byteAt (now (s .entry))) (blockData * i + usedIn (length (now (s .entry))) i) 0 0) ⌝ }
+    ensures followed { λ r. ⌜ r ≡ walk (byteAt (now (s .entry))) (blockData * i + usedIn (length (now (s .entry))) i) 0 0 ⌝ }
 {
     let lo = limit::BLOCK_DATA * i;
     let used = used_in(s.len(), i);
     let hi = lo + used;
-    let first = first_in_stream(s, lo, hi, p);
+    let first = name_after(s, i, hi, w);
     fill(b, s, lo, used, i as u32, first);
-    match walk_stream(s, hi, p, 0) {
-        Walk::Over(q) => q,
-        Walk::To(q, _) => q,
-    }
+    walk_on(s, hi, w)
 }
 
-// Makes the m blocks of a stream.
-pub fn cut_blocks(s: &[u8], file: &mut [u8], m: usize)
-    requires { ⌜ SoundStream (now s) m (length (now file)) ⌝ }
-    ensures { λ _. ⌜
+// Makes the m blocks of a stream, and follows its records to the end.
+pub fn cut_blocks(s: &[u8], file: &mut [u8], m: usize) -> Walk
+    requires { ⌜ (m ≡ blocksFor (length (now s))) × (m ≤ mostBlocks) × (blockBytes * m ≤ length (now file)) ⌝ }
+    ensures made { λ r. ⌜
         now (file .exit)
         ≡ cut (byteAt (now (s .entry))) (length (now (s .entry))) m ++ drop (blockBytes * m) (now (file .entry)) ⌝ }
+    ensures followed { λ r. ⌜ r ≡ walk (byteAt (now (s .entry))) (length (now (s .entry))) 0 0 ⌝ }
 {
+    let mut w = Walk::To(0, 0);
     let mut i = 0;
-    let mut p = 0;
     while i < m {
         let from = limit::BLOCK_BYTES * i;
         let to = from + limit::BLOCK_BYTES;
-        p = cut_block(s, &mut file[from..to], i, p);
+        w = cut_block(s, &mut file[from..to], i, w);
         i += 1;
     }
+    w
 }

@@ -20,6 +20,7 @@ use numbers::limit;
 use numbers::refusal;
 use rescue::collect;
 use reseal::seal_blocks;
+use stream::judged;
 use stream::soundness;
 ghost use mathlib.Core.Path.{_≡_};
 ghost use mathlib.Core.List.{_++_};
@@ -27,8 +28,9 @@ ghost use Prim.Native.Nat.{_*_, _≤_};
 ghost use lib.ListN.{length, drop};
 ghost use Rattle.numbers.specs.Limit.{blockData};
 ghost use Rattle.shelf.specs.Block.{bytesFrom, blocksFor};
+ghost use Rattle.shelf.specs.Stream.{byteAt, fault};
 ghost use Rattle.shelf.specs.Judge.{byteOf, blocks};
-ghost use Rattle.shelf.specs.Shelf.{Done, refuses, shelfWrite, shelfRead};
+ghost use Rattle.shelf.specs.Shelf.{Done, refuses, lacking, shelfWrite, shelfRead};
 ghost use Rattle.shelf.specs.Salvage as meaning;
 ghost use Rattle.shelf.specs.Rescue.{hasRoom, Saved};
 
@@ -54,27 +56,38 @@ fn blocks_for(n: usize) -> usize
     n / limit::BLOCK_DATA + 1
 }
 
-// Writes a stream as a shelf file; the room that it does not take is cleared.
+// What a stream is refused for whose blocks find no room.
+fn no_room(records: &[u8]) -> Answer
+    ensures { λ r. ⌜ r ≡ lacking (fault (byteAt (now (records .entry))) (length (now (records .entry)))) ⌝ }
+{
+    match soundness(records) {
+        Soundness::Faulty(i) => refused(refusal::BLOCK_LAYOUT, i),
+        Soundness::Sound(_) => refused(refusal::PAYLOAD_ROOM, 0),
+    }
+}
+
+// Writes a stream as a shelf file; the room that it does not take is cleared. Its records are followed while its blocks are made, and what was made
+// is cleared where they are found at fault.
 pub fn write(records: &[u8], file: &mut [u8]) -> Answer
     ensures { λ r. ⌜ Done (shelfWrite (now (records .entry)) (length (now (file .entry)))) (length (now (file .entry))) r (now (file .exit)) ⌝ }
 {
-    match soundness(records) {
+    let n = records.len();
+    let m = blocks_for(n);
+    if file.len() / limit::BLOCK_BYTES < m {
+        clear(file);
+        return no_room(records);
+    }
+    if limit::MOST_BLOCKS < m {
+        clear(file);
+        return no_room(records);
+    }
+    let w = cut_blocks(records, file, m);
+    match judged(records, w) {
         Soundness::Faulty(i) => {
             clear(file);
             refused(refusal::BLOCK_LAYOUT, i)
         }
         Soundness::Sound(count) => {
-            let n = records.len();
-            let m = blocks_for(n);
-            if file.len() / limit::BLOCK_BYTES < m {
-                clear(file);
-                return refused(refusal::PAYLOAD_ROOM, 0);
-            }
-            if limit::MOST_BLOCKS < m {
-                clear(file);
-                return refused(refusal::PAYLOAD_ROOM, 0);
-            }
-            cut_blocks(records, file, m);
             let bytes = limit::BLOCK_BYTES * m;
             clear(&mut file[bytes..]);
             Answer {

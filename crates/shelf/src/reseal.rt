@@ -12,7 +12,7 @@ ghost use lib.ListN.{length, take, drop};
 ghost use Rattle.numbers.specs.Limit.{blockBytes, blockData, mostBlocks};
 ghost use Rattle.shelf.specs.Block.{bytesFrom, block, usedIn, nameAfter, blocksFor, cut};
 ghost use Rattle.shelf.specs.Judge.{byteOf, blocks};
-ghost use Rattle.shelf.specs.Rescue.{walkOn, Fewer, Followed};
+ghost use Rattle.shelf.specs.Contracts.{walkOn, Fewer, Followed};
 
 // What block i names, which has the bytes up to hi, where following the records up to it came to w.
 fn name_after(f: &[u8], i: usize, hi: usize, w: Walk) -> u32

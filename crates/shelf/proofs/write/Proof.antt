@@ -1,7 +1,7 @@
 use mathlib.Core.Path.{refl}
 use native.Mathlib.Omega.{arith}
 use lib.ListN.{length}
-use Rattle.shelf.proofs.Entries.{write-faulty, write-small, write-many, write-done, stream-so}
+use Rattle.shelf.proofs.Entries.{write-undone, write-small, write-many, write-done}
 use borrow.Author.Needs.{needs}
 use Rattle.shelf.proofs.write.Statement.{statement}
 use Rattle.shelf.proofs.write.Tie as tie
@@ -10,126 +10,127 @@ use Rattle.shelf.proofs.write.Lts as lts
 use Rattle.buffers.proofs.clear.Reads as clear-reads
 use Rattle.shelf.proofs.block.cut_blocks.Reads as cut-blocks-reads
 use Rattle.shelf.proofs.blocks_for.Reads as blocks-for-reads
+use Rattle.shelf.proofs.no_room.Reads as no-room-reads
 use Rattle.shelf.proofs.refused.Reads as refused-reads
-use Rattle.shelf.proofs.stream.soundness.Reads as soundness-reads
+use Rattle.shelf.proofs.stream.judged.Reads as judged-reads
 
--- src/lib.rt:59:11
-soundness-requires : tie.Need-soundness-requires
-soundness-requires c κs = search needs
-
--- src/lib.rt:60:27
-enum-known-i : tie.Need-enum-known-i
-enum-known-i c = search needs
-
--- src/lib.rt:61:13
-clear-requires : tie.Need-clear-requires
-clear-requires c κs = search needs
-
--- src/lib.rt:62:13
-refused-requires : tie.Need-refused-requires
-refused-requires c κs = search needs
-
--- src/lib.rt:64:26
-enum-known-count : tie.Need-enum-known-count
-enum-known-count c = search needs
-
--- src/lib.rt:66:17
+-- src/lib.rt:75:9
 blocks-for-requires : tie.Need-blocks-for-requires
 blocks-for-requires c κs = search needs
 
--- src/lib.rt:68:17
-clear-requires-2 : tie.Need-clear-requires-2
-clear-requires-2 c κs = search needs
+-- src/lib.rt:77:9
+clear-requires : tie.Need-clear-requires
+clear-requires c κs = search needs
 
--- src/lib.rt:69:17
-refused-requires-2 : tie.Need-refused-requires-2
-refused-requires-2 c κs = search needs
+-- src/lib.rt:78:9
+no-room-requires : tie.Need-no-room-requires
+no-room-requires c κs = search needs
 
--- src/lib.rt:69:17
+-- src/lib.rt:78:9
 same-length : tie.Need-same-length
 same-length c = search needs
 
--- src/lib.rt:69:17
+-- src/lib.rt:78:9
 returns : tie.Need-returns
 returns c = search (needs, write-small)
 
--- src/lib.rt:72:17
-clear-requires-3 : tie.Need-clear-requires-3
-clear-requires-3 c κs = search needs
+-- src/lib.rt:81:9
+clear-requires-2 : tie.Need-clear-requires-2
+clear-requires-2 c κs = search needs
 
--- src/lib.rt:73:17
-refused-requires-3 : tie.Need-refused-requires-3
-refused-requires-3 c κs = search needs
+-- src/lib.rt:82:9
+no-room-requires-2 : tie.Need-no-room-requires-2
+no-room-requires-2 c κs = search needs
 
--- src/lib.rt:73:17
+-- src/lib.rt:82:9
 same-length-2 : tie.Need-same-length-2
 same-length-2 c = search needs
 
--- src/lib.rt:73:17
+-- src/lib.rt:82:9
 returns-2 : tie.Need-returns-2
 returns-2 c = search (needs, write-many)
 
--- src/lib.rt:75:13
+-- src/lib.rt:84:9
 cut-blocks-requires : tie.Need-cut-blocks-requires
-cut-blocks-requires c κs = search (needs, stream-so)
+cut-blocks-requires c κs = search needs
 
--- src/lib.rt:76:25
+-- src/lib.rt:85:11
+judged-requires : tie.Need-judged-requires
+judged-requires c κs = search needs
+
+-- src/lib.rt:86:27
+enum-known-i : tie.Need-enum-known-i
+enum-known-i c = search needs
+
+-- src/lib.rt:87:13
+clear-requires-3 : tie.Need-clear-requires-3
+clear-requires-3 c κs = search needs
+
+-- src/lib.rt:88:13
+refused-requires : tie.Need-refused-requires
+refused-requires c κs = search needs
+
+-- src/lib.rt:90:26
+enum-known-count : tie.Need-enum-known-count
+enum-known-count c = search needs
+
+-- src/lib.rt:91:25
 mul-bytes : tie.Need-mul-bytes
 mul-bytes c = search needs
 
--- src/lib.rt:77:19
+-- src/lib.rt:92:19
 sub-clear : tie.Need-sub-clear
 sub-clear c = search needs
 
--- src/lib.rt:77:19
+-- src/lib.rt:92:19
 part-clear-start : tie.Need-part-clear-start
 part-clear-start c = search needs
 
--- src/lib.rt:77:19
+-- src/lib.rt:92:19
 part-clear-end : tie.Need-part-clear-end
 part-clear-end c = search needs
 
--- src/lib.rt:77:13
+-- src/lib.rt:92:13
 clear-requires-4 : tie.Need-clear-requires-4
 clear-requires-4 c κs = search needs
 
--- src/lib.rt:56:1
+-- src/lib.rt:71:1
 same-length-3 : tie.Need-same-length-3
 same-length-3 c = search needs
 
--- src/lib.rt:56:1
+-- src/lib.rt:71:1
 returns-3 : tie.Need-returns-3
-returns-3 c = search (needs, write-faulty)
+returns-3 c = search (needs, write-undone)
 
--- src/lib.rt:56:1
+-- src/lib.rt:71:1
 same-length-4 : tie.Need-same-length-4
 same-length-4 c = search needs
 
--- src/lib.rt:56:1
+-- src/lib.rt:71:1
 returns-4 : tie.Need-returns-4
 returns-4 c = let a = c .before .before .before .before .before .before .before .before .before .before .before .before .before .before .before .before .before .args in
-    write-done (a .records .now) (length (a .file .now)) (c .before .before .before .before .before .before .before .before .before .before .before .before .before .before .soundness .ensures) (c .before .before .before .before .before .before .before .before .before .before .before .before .count .given .1) (c .before .before .before .before .before .before .before .before .before .before .blocks-for .ensures) (a .file .now) _ _ _ refl
-    (omega arith) (omega arith) (c .before .before .before .before .before .before .cut-blocks .ensures) refl (c .before .before .clear4 .ensures)
+    write-done (a .records .now) (c .before .before .before .before .before .before .before .judged .ensures) (length (a .file .now)) (c .before .before .before .before .before .count .given .1) (c .before .before .before .before .before .before .before .before .before .before .before .before .before .before .blocks-for .ensures) (a .file .now) _ _ _ refl
+    (omega arith) (omega arith) (c .before .before .before .before .before .before .before .before .before .before .cut-blocks .ensures .0) refl (c .before .before .clear4 .ensures)
 
 pub write-spec : {M : Type 1} → statement M
 write-spec =
     tie.close
     (tie.spec
-    soundness-requires
-    enum-known-i
-    clear-requires
-    refused-requires
-    enum-known-count
     blocks-for-requires
-    clear-requires-2
-    refused-requires-2
+    clear-requires
+    no-room-requires
     same-length
     returns
-    clear-requires-3
-    refused-requires-3
+    clear-requires-2
+    no-room-requires-2
     same-length-2
     returns-2
     cut-blocks-requires
+    judged-requires
+    enum-known-i
+    clear-requires-3
+    refused-requires
+    enum-known-count
     mul-bytes
     sub-clear
     part-clear-start

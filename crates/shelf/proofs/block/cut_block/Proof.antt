@@ -1,4 +1,4 @@
-use Rattle.shelf.proofs.Cutting.{carried-past, cut-made, carried-over, carried-to}
+use Rattle.shelf.proofs.Following.{followed, walk-fewer, block-cut, on-cut}
 use borrow.Author.Needs.{needs}
 use Rattle.shelf.proofs.block.cut_block.Statement.{statement}
 use Rattle.shelf.proofs.block.cut_block.Tie as tie
@@ -6,60 +6,44 @@ use Rattle.shelf.proofs.block.cut_block.Reads as reads
 use Rattle.shelf.proofs.block.cut_block.Lts as lts
 use Rattle.shelf.proofs.block.fill.Reads as fill-reads
 use Rattle.shelf.proofs.block.used_in.Reads as used-in-reads
-use Rattle.shelf.proofs.stream.first_in_stream.Reads as first-in-stream-reads
-use Rattle.shelf.proofs.stream.walk_stream.Reads as walk-stream-reads
+use Rattle.shelf.proofs.stream.name_after.Reads as name-after-reads
+use Rattle.shelf.proofs.stream.walk_on.Reads as walk-on-reads
 
--- src/block.rt:94:14
+-- src/block.rt:79:14
 mul-lo : tie.Need-mul-lo
 mul-lo c = search needs
 
--- src/block.rt:95:9
+-- src/block.rt:80:9
 used-in-requires : tie.Need-used-in-requires
 used-in-requires c κs = search needs
 
--- src/block.rt:96:14
+-- src/block.rt:81:14
 add-hi : tie.Need-add-hi
 add-hi c = search needs
 
--- src/block.rt:97:9
-first-in-stream-requires : tie.Need-first-in-stream-requires
-first-in-stream-requires c κs = search (needs, carried-past)
+-- src/block.rt:82:9
+name-after-requires : tie.Need-name-after-requires
+name-after-requires c κs = search (needs, followed)
 
--- src/block.rt:98:26
+-- src/block.rt:83:26
 cast-fill : tie.Need-cast-fill
 cast-fill c = search needs
 
--- src/block.rt:98:5
+-- src/block.rt:83:5
 fill-requires : tie.Need-fill-requires
 fill-requires c κs = search needs
 
--- src/block.rt:99:11
-walk-stream-requires : tie.Need-walk-stream-requires
-walk-stream-requires c κs = search needs
+-- src/block.rt:84:5
+walk-on-requires : tie.Need-walk-on-requires
+walk-on-requires c κs = search (needs, walk-fewer)
 
--- src/block.rt:100:20
-enum-known-q : tie.Need-enum-known-q
-enum-known-q c = search needs
-
--- src/block.rt:101:18
-enum-known-q-2 : tie.Need-enum-known-q-2
-enum-known-q-2 c = search needs
-
--- src/block.rt:89:1
+-- src/block.rt:74:1
 same-length : tie.Need-same-length
 same-length c = search needs
 
--- src/block.rt:89:1
+-- src/block.rt:74:1
 returns : tie.Need-returns
-returns c = search (needs, cut-made, carried-over)
-
--- src/block.rt:89:1
-same-length-2 : tie.Need-same-length-2
-same-length-2 c = search needs
-
--- src/block.rt:89:1
-returns-2 : tie.Need-returns-2
-returns-2 c = search (needs, cut-made, carried-to)
+returns c = (search (needs, block-cut), search (needs, on-cut))
 
 pub cut-block-spec : {M : Type 1} → statement M
 cut-block-spec =
@@ -68,13 +52,9 @@ cut-block-spec =
     mul-lo
     used-in-requires
     add-hi
-    first-in-stream-requires
+    name-after-requires
     cast-fill
     fill-requires
-    walk-stream-requires
-    enum-known-q
-    enum-known-q-2
+    walk-on-requires
     same-length
-    returns
-    same-length-2
-    returns-2)
+    returns)

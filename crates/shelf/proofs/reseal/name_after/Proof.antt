@@ -1,4 +1,4 @@
-use Rattle.shelf.proofs.Resealing.{reseal-ways, followed-past, name-small}
+use Rattle.shelf.proofs.Following.{follow-ways, followed-past, name-small}
 use borrow.Author.Needs.{needs}
 use Rattle.shelf.proofs.reseal.name_after.Statement.{statement}
 use Rattle.shelf.proofs.reseal.name_after.Tie as tie
@@ -13,7 +13,7 @@ enum-told : tie.Need-enum-told
 enum-told c = search needs
 
 returns : tie.Need-returns
-returns c = search (needs, reseal-ways)
+returns c = search (needs, follow-ways)
 
 mul-first-in-file : tie.Need-mul-first-in-file
 mul-first-in-file c = search needs
@@ -22,7 +22,7 @@ first-in-file-requires : tie.Need-first-in-file-requires
 first-in-file-requires c κs = search (needs, followed-past)
 
 returns-2 : tie.Need-returns-2
-returns-2 c = search (needs, reseal-ways, name-small)
+returns-2 c = search (needs, follow-ways, name-small)
 
 pub name-after-spec : {M : Type 1} → statement M
 name-after-spec =

@@ -1,4 +1,5 @@
-use Rattle.shelf.proofs.Resealing.{block-made, followed-on}
+use Rattle.shelf.proofs.Resealing.{block-made}
+use Rattle.shelf.proofs.Following.{followed-on}
 use borrow.Author.Needs.{needs}
 use Rattle.shelf.proofs.reseal.seal_block.Statement.{statement}
 use Rattle.shelf.proofs.reseal.seal_block.Tie as tie

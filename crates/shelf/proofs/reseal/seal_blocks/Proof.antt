@@ -6,7 +6,9 @@ use lib.ListN.{length, drop}
 use Rattle.shelf.specs.Stream.{walk}
 use Rattle.shelf.specs.Block.{cut}
 use Rattle.shelf.specs.Judge.{byteOf}
-use Rattle.shelf.proofs.Resealing.{sealed-none, walk-none, followed-at, sealed-more, followed-next, sealed-end}
+use Rattle.shelf.proofs.Resealing.{sealed-more, followed-next}
+use Rattle.shelf.proofs.Cutting.{cut-none, cut-end}
+use Rattle.shelf.proofs.Following.{walk-none, followed-at}
 use borrow.Author.Needs.{needs}
 use Rattle.shelf.proofs.reseal.seal_blocks.Statement.{statement}
 use Rattle.shelf.proofs.reseal.seal_blocks.Tie as tie
@@ -22,7 +24,7 @@ abbrev μ-loop : tie.MeasureT-loop
 μ-loop file₀ n m w₀ i₀ file w i = m - i
 
 loop-holds : tie.Need-loop-holds Inv-loop μ-loop
-loop-holds c = (omega arith, refl, sealed-none _ _, walk-none _ _)
+loop-holds c = (omega arith, refl, cut-none _ _ _, walk-none _ _)
 
 seal-block-requires : tie.Need-seal-block-requires Inv-loop μ-loop
 seal-block-requires c κs = search (needs, followed-at)
@@ -40,7 +42,7 @@ same-length : tie.Need-same-length Inv-loop μ-loop
 same-length c = search needs
 
 returns : tie.Need-returns Inv-loop μ-loop
-returns c = search (needs, sealed-end)
+returns c = search (needs, cut-end)
 
 pub seal-blocks-spec : {M : Type 1} → statement M
 seal-blocks-spec =

@@ -1,4 +1,4 @@
-use Rattle.shelf.proofs.Resealing.{reseal-ways, fewer-so}
+use Rattle.shelf.proofs.Following.{follow-ways, fewer-so}
 use borrow.Author.Needs.{needs}
 use Rattle.shelf.proofs.reseal.walk_on.Statement.{statement}
 use Rattle.shelf.proofs.reseal.walk_on.Tie as tie
@@ -13,13 +13,13 @@ enum-told : tie.Need-enum-told
 enum-told c = search needs
 
 returns : tie.Need-returns
-returns c = search (needs, reseal-ways)
+returns c = search (needs, follow-ways)
 
 walk-file-requires : tie.Need-walk-file-requires
 walk-file-requires c κs = search (needs, fewer-so)
 
 returns-2 : tie.Need-returns-2
-returns-2 c = search (needs, reseal-ways)
+returns-2 c = search (needs, follow-ways)
 
 pub walk-on-spec : {M : Type 1} → statement M
 walk-on-spec = tie.close (tie.spec enum-known-w enum-told returns walk-file-requires returns-2)
