@@ -1,7 +1,8 @@
 //! `speed`: the proved C calls against the peer's fast ones and nanopb, timed in turn and counted by callgrind, as a page of Markdown.
 //! `speed goals` counts the rows that have a goal, and has exit status 1 where one passes what it is guarded at. `speed reports` has the
-//! last table alone, and exit status 1 where counting takes longer than it may. `speed rows` names the rows of the comparison.
-//! `speed counts` and `speed counts goals` make each call once; `speed` and `speed goals` run that under valgrind.
+//! last table alone, and exit status 1 where counting takes longer than it may; `speed shelves` the table of shelves, and 1 where a call is
+//! over its goal. `speed rows` names the rows of the comparison.
+//! `speed counts`, `speed counts goals` and `speed counts shelves` make each call once; `speed`, `speed goals` and `speed shelves` run that under valgrind.
 
 mod counts;
 mod goals;
@@ -116,10 +117,23 @@ fn print_page() {
     let rivals =
         nanopb.as_mut().map_or(vec![], |nanopb| nanopb.measured(&items, of_items.as_chunks().0, &of_nanopb[1..]));
     let short = page::print(&items, &times, of_items.as_chunks().0, &rivals);
-    let times: Vec<_> = shelves.iter().map(shelves::Shelf::medians).collect();
-    shelves::print(&shelves, &times, of_shelves.as_chunks().0);
+    print_shelves(&shelves, of_shelves);
     reports::print();
     page::print_short(&short);
+}
+
+/// The table of shelves, by the counts; whether every call is within its goal.
+fn print_shelves(shelves: &[shelves::Shelf], counts: &[u64]) -> bool {
+    let times: Vec<_> = shelves.iter().map(shelves::Shelf::medians).collect();
+    shelves::print(shelves, &times, counts.as_chunks().0)
+}
+
+/// That table alone.
+fn shelves_alone() -> bool {
+    let shelves = shelves::items();
+    shelves.iter().for_each(shelves::Shelf::check);
+    let counts = counts::under_callgrind(&["counts", "shelves"], shelves::SIDES * shelves.len());
+    print_shelves(&shelves, &counts)
 }
 
 fn main() -> ExitCode {
@@ -128,11 +142,13 @@ fn main() -> ExitCode {
         [] => print_page(),
         ["goals"] => return goals::guard(),
         ["reports"] => return ExitCode::from(u8::from(!reports::print())),
+        ["shelves"] => return ExitCode::from(u8::from(!shelves_alone())),
         ["rows"] => compared().iter().for_each(|item| println!("{}", page::row_name(item))),
         ["counts"] => make_calls(),
         ["counts", "goals"] => goals::make_calls(),
+        ["counts", "shelves"] => shelves::make_calls(&shelves::items()),
         _ => {
-            eprintln!("speed [goals | reports | rows | counts | counts goals]");
+            eprintln!("speed [goals | reports | shelves | rows | counts | counts goals | counts shelves]");
             return ExitCode::from(2);
         }
     }
