@@ -5,6 +5,8 @@ use mathlib.Core.Bool.{Bool, true, false, cond, false≢true}
 use mathlib.Core.List.{List}
 use native.Mathlib.Omega.{arith}
 use lib.Dec.{ltb, eqb}
+use lib.ListN.{getD}
+use Rattle.buffers.specs.Bytes.{halfFrom}
 use borrow.Author.Tests.{lt-ltb, le-ltb, eq-eqb, ne-eqb, eqb-false, ltb-false}
 use Rattle.shelf.specs.declared.answers.Walk.{Walk}
 use Rattle.shelf.specs.declared.answers.Walk.the-variants.{Over, To}
@@ -172,6 +174,18 @@ pub rest-is : (f : List ℕ) (i : ℕ) {u : ℕ} {r : Bool} → u ≡ usedAt f i
 unfolding restZero
 rest-is f i e g = rw e at g
 
+pub rest-full : (f : List ℕ) (i : ℕ) {u h : ℕ} → u ≡ usedAt f i → u ≡ 498 → h ≡ halfFrom f (512 * i + 506) → eqb h 0 ≡ restZero f i
+unfolding restZero zerosFrom
+rest-full f i e g k =
+    let z : usedAt f i ≡ 498 = sym e ∙ g in
+    let y : 512 * i + 8 + 498 ≡ 512 * i + 506 = omega arith in
+    rw (z, y, k) (pair (getD f (512 * i + 506) 0) (getD f (512 * i + 506 + 1) 0))
+  where
+    pair : (a b : ℕ) → eqb (a * 256 + b) 0 ≡ cond (eqb a 0) (cond (eqb b 0) true false) false
+    pair zero zero = refl
+    pair zero (suc b) = simp (ne-eqb (0 * 256 + suc b) 0 (λ (n : 0 * 256 + suc b ≡ 0). omega arith), ne-eqb (suc b) 0 (λ (n : suc b ≡ 0). omega arith))
+    pair (suc a) b = simp (ne-eqb (suc a * 256 + b) 0 (λ (n : suc a * 256 + b ≡ 0). omega arith), ne-eqb (suc a) 0 (λ (n : suc a ≡ 0). omega arith))
+
 pub used-most : (f : List ℕ) (i : ℕ) {u : Bool} → u ≡ someUsed f i → u ≡ true → usedAt f i ≤ 498
 used-most f i e g = used-so f i (sym e ∙ g) .most
 
@@ -204,4 +218,4 @@ module _ (b : ℕ → ℕ) (n : ℕ) where
     unfolding fault judged
     sound-cut {p} {c} g h = rw (sym e ∙ g) (simp (ne-eqb p n h))
 
-pub ruleset judge-ways = (used-left, used-full, named-inside, named-none, first-next, first-here, used-none, used-over, used-all, used-some, inside-used, inside-none, closes-short, closes-end, zero-first-zero, zero-first-other, alone-unused, alone-dirty, alone-outside, alone-inside, reason-sum, reason-turn, reason-layout, reason-none, walked-over, walked-open, walked-ended, walked-cut, step-off, step-on, rest-is, sound-none, sound-over, sound-to, sound-cut)
+pub ruleset judge-ways = (used-left, used-full, named-inside, named-none, first-next, first-here, used-none, used-over, used-all, used-some, inside-used, inside-none, closes-short, closes-end, zero-first-zero, zero-first-other, alone-unused, alone-dirty, alone-outside, alone-inside, reason-sum, reason-turn, reason-layout, reason-none, walked-over, walked-open, walked-ended, walked-cut, step-off, step-on, rest-is, rest-full, sound-none, sound-over, sound-to, sound-cut)

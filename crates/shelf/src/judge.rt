@@ -159,6 +159,9 @@ fn rest_zero(f: &[u8], i: usize) -> bool
     ensures { λ r. ⌜ r ≡ meanings.restZero (now (f .entry)) i ⌝ }
 {
     let used = used_at(f, i);
+    if used == limit::BLOCK_DATA {
+        return half(f, limit::BLOCK_BYTES * i + 506) == 0;
+    }
     zeros_from(
         f,
         limit::BLOCK_BYTES * i + limit::BLOCK_HEAD + used,
