@@ -4,6 +4,7 @@ use crate::answers::Stepped;
 use crate::answers::Walk;
 use crate::stream;
 use crate::stream::name_start;
+use crate::stream::wide;
 use crate::sums::sum_words;
 use buffers::half;
 use buffers::word;
@@ -18,12 +19,6 @@ ghost use Rattle.shelf.specs.Stream as meaning;
 ghost use Rattle.shelf.specs.Judge as meanings;
 ghost use Rattle.shelf.specs.Judge.{byteOf, blocks, zerosFrom, usedAt, endAt};
 ghost use Rattle.shelf.specs.Shelf as shelf;
-
-fn wide(x: u8) -> usize
-    ensures { λ r. ⌜ (r ≡ x) × (r < 256) ⌝ }
-{
-    x as usize
-}
 
 // Byte k of a file's stream.
 fn stream_byte(f: &[u8], k: usize) -> usize

@@ -10,7 +10,7 @@ ghost use Rattle.shelf.specs.Stream.{byteAt, lengthAt, walk, fault, name
 ghost use Rattle.shelf.specs.Block.{nameAfter};
 ghost use Rattle.shelf.specs.Contracts.{walkOn, Fewer, Followed};
 
-fn wide(x: u8) -> usize
+pub fn wide(x: u8) -> usize
     ensures { λ r. ⌜ (r ≡ x) × (r < 256) ⌝ }
 {
     x as usize

@@ -20,67 +20,52 @@ Inv-loop f records₀ n i₀ at₀ records i at =
 abbrev μ-loop : tie.MeasureT-loop
 μ-loop f records₀ n i₀ at₀ records i at = n - at
 
--- src/lib.rt:96:5
 loop-holds : tie.Need-loop-holds Inv-loop μ-loop
 unfolding bytesFrom
 loop-holds c = (omega arith, omega arith, refl, refl)
 
--- src/lib.rt:96:31
 sub-loop : tie.Need-sub-loop Inv-loop μ-loop
 sub-loop c = search needs
 
--- src/lib.rt:99:13
 mul-copy-bytes : tie.Need-mul-copy-bytes Inv-loop μ-loop
 mul-copy-bytes c = search needs
 
--- src/lib.rt:99:13
 add-copy-bytes : tie.Need-add-copy-bytes Inv-loop μ-loop
 add-copy-bytes c = search needs
 
--- src/lib.rt:97:9
 copy-bytes-requires : tie.Need-copy-bytes-requires Inv-loop μ-loop
 copy-bytes-requires c κs = search needs
 
--- src/lib.rt:104:9
 add-i : tie.Need-add-i Inv-loop μ-loop
 add-i c = search needs
 
--- src/lib.rt:105:9
 add-at : tie.Need-add-at Inv-loop μ-loop
 add-at c = search needs
 
--- src/lib.rt:96:5
 loop-less : tie.Need-loop-less Inv-loop μ-loop
 loop-less c = search needs
 
--- src/lib.rt:96:5
 loop-again : tie.Need-loop-again Inv-loop μ-loop
 loop-again c = let a = c .before .before .before .before .before .before .before .before .args in
     let v = c .before .before .before .before .before .loop in
     let e = gathered-more (a .f .now) (a .records .now) (v .records) _ (v .i) (v .at) 498 (v .inv .0) (omega arith) (omega arith) (v .inv .3) (c .before .before .copy-bytes .ensures) in
     (omega arith, omega arith, gathered-long _ (a .records .now) _ (v .at + 498) (omega arith) e, e)
 
--- src/lib.rt:110:13
 mul-copy-bytes-2 : tie.Need-mul-copy-bytes-2 Inv-loop μ-loop
 mul-copy-bytes-2 c = search needs
 
--- src/lib.rt:110:13
 add-copy-bytes-2 : tie.Need-add-copy-bytes-2 Inv-loop μ-loop
 add-copy-bytes-2 c = search needs
 
--- src/lib.rt:113:13
 sub-copy-bytes : tie.Need-sub-copy-bytes Inv-loop μ-loop
 sub-copy-bytes c = search needs
 
--- src/lib.rt:108:9
 copy-bytes-requires-2 : tie.Need-copy-bytes-requires-2 Inv-loop μ-loop
 copy-bytes-requires-2 c κs = search needs
 
--- src/lib.rt:90:1
 same-length : tie.Need-same-length Inv-loop μ-loop
 same-length c = search needs
 
--- src/lib.rt:90:1
 returns : tie.Need-returns Inv-loop μ-loop
 returns c = let a = c .before .before .before .before .before .before .before .before .before .args in
     let v = c .before .before .before .before .before .before .loop in
@@ -88,11 +73,9 @@ returns c = let a = c .before .before .before .before .before .before .before .b
     rw e
     at (gathered-more (a .f .now) (a .records .now) (v .records) _ (v .i) (v .at) (a .n - v .at) (v .inv .0) (omega arith) (omega arith) (v .inv .3) (c .before .before .copy-bytes2 .ensures))
 
--- src/lib.rt:90:1
 same-length-2 : tie.Need-same-length-2 Inv-loop μ-loop
 same-length-2 c = search needs
 
--- src/lib.rt:90:1
 returns-2 : tie.Need-returns-2 Inv-loop μ-loop
 returns-2 c = let v = c .before .before .loop in let e : v .at ≡ c .before .before .before .before .before .args .n = omega arith in rw e at (v .inv .3)
 

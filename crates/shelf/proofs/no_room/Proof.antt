@@ -7,31 +7,24 @@ use Rattle.shelf.proofs.no_room.Lts as lts
 use Rattle.shelf.proofs.refused.Reads as refused-reads
 use Rattle.shelf.proofs.stream.soundness.Reads as soundness-reads
 
--- src/lib.rt:63:11
 soundness-requires : tie.Need-soundness-requires
 soundness-requires c κs = search needs
 
--- src/lib.rt:64:27
 enum-known-i : tie.Need-enum-known-i
 enum-known-i c = search needs
 
--- src/lib.rt:64:33
 refused-requires : tie.Need-refused-requires
 refused-requires c κs = search needs
 
--- src/lib.rt:65:32
 enum-told : tie.Need-enum-told
 enum-told c = search needs
 
--- src/lib.rt:65:32
 refused-requires-2 : tie.Need-refused-requires-2
 refused-requires-2 c κs = search needs
 
--- src/lib.rt:60:1
 returns : tie.Need-returns
 returns c = search (needs, lacks-faulty)
 
--- src/lib.rt:60:1
 returns-2 : tie.Need-returns-2
 returns-2 c = search (needs, lacks-sound)
 

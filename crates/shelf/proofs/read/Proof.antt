@@ -13,75 +13,57 @@ use Rattle.shelf.proofs.gather.Reads as gather-reads
 use Rattle.shelf.proofs.judge.scan.Reads as scan-reads
 use Rattle.shelf.proofs.refused.Reads as refused-reads
 
--- src/lib.rt:122:11
 scan-requires : tie.Need-scan-requires
 scan-requires c κs = search needs
 
--- src/lib.rt:123:23
 enum-known-number : tie.Need-enum-known-number
 enum-known-number c = search needs
 
--- src/lib.rt:124:13
 clear-requires : tie.Need-clear-requires
 clear-requires c κs = search needs
 
--- src/lib.rt:125:13
 refused-requires : tie.Need-refused-requires
 refused-requires c κs = search needs
 
--- src/lib.rt:127:21
 enum-known-n : tie.Need-enum-known-n
 enum-known-n c = search needs
 
--- src/lib.rt:129:17
 clear-requires-2 : tie.Need-clear-requires-2
 clear-requires-2 c κs = search needs
 
--- src/lib.rt:130:17
 refused-requires-2 : tie.Need-refused-requires-2
 refused-requires-2 c κs = search needs
 
--- src/lib.rt:130:17
 same-length : tie.Need-same-length
 same-length c = search needs
 
--- src/lib.rt:130:17
 returns : tie.Need-returns
 returns c = search (needs, read-small)
 
--- src/lib.rt:132:13
 gather-requires : tie.Need-gather-requires
 gather-requires c κs = search (needs, scan-within)
 
--- src/lib.rt:133:19
 sub-clear : tie.Need-sub-clear
 sub-clear c = search needs
 
--- src/lib.rt:133:19
 part-clear-start : tie.Need-part-clear-start
 part-clear-start c = search needs
 
--- src/lib.rt:133:19
 part-clear-end : tie.Need-part-clear-end
 part-clear-end c = search needs
 
--- src/lib.rt:133:13
 clear-requires-3 : tie.Need-clear-requires-3
 clear-requires-3 c κs = search needs
 
--- src/lib.rt:119:1
 same-length-2 : tie.Need-same-length-2
 same-length-2 c = search needs
 
--- src/lib.rt:119:1
 returns-2 : tie.Need-returns-2
 returns-2 c = search (needs, read-refused)
 
--- src/lib.rt:119:1
 same-length-3 : tie.Need-same-length-3
 same-length-3 c = search needs
 
--- src/lib.rt:119:1
 returns-3 : tie.Need-returns-3
 returns-3 c = let a = c .before .before .before .before .before .before .before .before .before .before .before .before .before .before .before .args in
     read-done (a .file .now) (length (a .records .now)) (c .before .before .before .before .before .before .before .before .before .before .before .before .scan .ensures) (c .before .before .before .before .before .before .before .before .before .before .n .given .1) (a .records .now) _ _ _ refl (omega arith)

@@ -14,99 +14,75 @@ use Rattle.shelf.proofs.no_room.Reads as no-room-reads
 use Rattle.shelf.proofs.refused.Reads as refused-reads
 use Rattle.shelf.proofs.stream.judged.Reads as judged-reads
 
--- src/lib.rt:75:9
 blocks-for-requires : tie.Need-blocks-for-requires
 blocks-for-requires c κs = search needs
 
--- src/lib.rt:77:9
 clear-requires : tie.Need-clear-requires
 clear-requires c κs = search needs
 
--- src/lib.rt:78:9
 no-room-requires : tie.Need-no-room-requires
 no-room-requires c κs = search needs
 
--- src/lib.rt:78:9
 same-length : tie.Need-same-length
 same-length c = search needs
 
--- src/lib.rt:78:9
 returns : tie.Need-returns
 returns c = search (needs, write-small)
 
--- src/lib.rt:81:9
 clear-requires-2 : tie.Need-clear-requires-2
 clear-requires-2 c κs = search needs
 
--- src/lib.rt:82:9
 no-room-requires-2 : tie.Need-no-room-requires-2
 no-room-requires-2 c κs = search needs
 
--- src/lib.rt:82:9
 same-length-2 : tie.Need-same-length-2
 same-length-2 c = search needs
 
--- src/lib.rt:82:9
 returns-2 : tie.Need-returns-2
 returns-2 c = search (needs, write-many)
 
--- src/lib.rt:84:9
 cut-blocks-requires : tie.Need-cut-blocks-requires
 cut-blocks-requires c κs = search needs
 
--- src/lib.rt:85:11
 judged-requires : tie.Need-judged-requires
 judged-requires c κs = search needs
 
--- src/lib.rt:86:27
 enum-known-i : tie.Need-enum-known-i
 enum-known-i c = search needs
 
--- src/lib.rt:87:13
 clear-requires-3 : tie.Need-clear-requires-3
 clear-requires-3 c κs = search needs
 
--- src/lib.rt:88:13
 refused-requires : tie.Need-refused-requires
 refused-requires c κs = search needs
 
--- src/lib.rt:90:26
 enum-known-count : tie.Need-enum-known-count
 enum-known-count c = search needs
 
--- src/lib.rt:91:25
 mul-bytes : tie.Need-mul-bytes
 mul-bytes c = search needs
 
--- src/lib.rt:92:19
 sub-clear : tie.Need-sub-clear
 sub-clear c = search needs
 
--- src/lib.rt:92:19
 part-clear-start : tie.Need-part-clear-start
 part-clear-start c = search needs
 
--- src/lib.rt:92:19
 part-clear-end : tie.Need-part-clear-end
 part-clear-end c = search needs
 
--- src/lib.rt:92:13
 clear-requires-4 : tie.Need-clear-requires-4
 clear-requires-4 c κs = search needs
 
--- src/lib.rt:71:1
 same-length-3 : tie.Need-same-length-3
 same-length-3 c = search needs
 
--- src/lib.rt:71:1
 returns-3 : tie.Need-returns-3
 returns-3 c = search (needs, write-undone)
 
--- src/lib.rt:71:1
 same-length-4 : tie.Need-same-length-4
 same-length-4 c = search needs
 
--- src/lib.rt:71:1
 returns-4 : tie.Need-returns-4
 returns-4 c = let a = c .before .before .before .before .before .before .before .before .before .before .before .before .before .before .before .before .before .args in
     write-done (a .records .now) (c .before .before .before .before .before .before .before .judged .ensures) (length (a .file .now)) (c .before .before .before .before .before .count .given .1) (c .before .before .before .before .before .before .before .before .before .before .before .before .before .before .blocks-for .ensures) (a .file .now) _ _ _ refl

@@ -19,44 +19,34 @@ Inv-loop s from d₀ to k i₀ d i =
 abbrev μ-loop : tie.MeasureT-loop
 μ-loop s from d₀ to k i₀ d i = k - i
 
--- src/block.rt:25:5
 loop-holds : tie.Need-loop-holds Inv-loop μ-loop
 loop-holds c = let a = c .args in (omega arith, refl, copied-none (a .s .now) (a .d .now) (a .from) (a .to))
 
--- src/block.rt:26:23
 add-d : tie.Need-add-d Inv-loop μ-loop
 add-d c = search needs
 
--- src/block.rt:26:21
 shared-slice-read-d : tie.Need-shared-slice-read-d Inv-loop μ-loop
 shared-slice-read-d c = search needs
 
--- src/block.rt:26:11
 add-d-2 : tie.Need-add-d-2 Inv-loop μ-loop
 add-d-2 c = search needs
 
--- src/block.rt:26:9
 slice-write-d : tie.Need-slice-write-d Inv-loop μ-loop
 slice-write-d c = search needs
 
--- src/block.rt:27:9
 add-i : tie.Need-add-i Inv-loop μ-loop
 add-i c = search needs
 
--- src/block.rt:25:5
 loop-less : tie.Need-loop-less Inv-loop μ-loop
 loop-less c = search needs
 
--- src/block.rt:25:5
 loop-again : tie.Need-loop-again Inv-loop μ-loop
 loop-again c = let v = c .before .before .loop in
     let a = c .before .before .before .args in (omega arith, simp length-set (omega arith), copied-more (a .s .now) (a .d .now) (a .from) (a .to) (v .d) (v .i) (omega arith) (v .inv .2))
 
--- src/block.rt:20:1
 same-length : tie.Need-same-length Inv-loop μ-loop
 same-length c = search needs
 
--- src/block.rt:20:1
 returns : tie.Need-returns Inv-loop μ-loop
 returns c = let e : c .before .loop .i ≡ c .before .before .args .k = omega arith in rw e at (c .before .loop .inv .2)
 

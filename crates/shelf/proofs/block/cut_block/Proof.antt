@@ -9,39 +9,30 @@ use Rattle.shelf.proofs.block.used_in.Reads as used-in-reads
 use Rattle.shelf.proofs.stream.name_after.Reads as name-after-reads
 use Rattle.shelf.proofs.stream.walk_on.Reads as walk-on-reads
 
--- src/block.rt:79:14
 mul-lo : tie.Need-mul-lo
 mul-lo c = search needs
 
--- src/block.rt:80:9
 used-in-requires : tie.Need-used-in-requires
 used-in-requires c κs = search needs
 
--- src/block.rt:81:14
 add-hi : tie.Need-add-hi
 add-hi c = search needs
 
--- src/block.rt:82:9
 name-after-requires : tie.Need-name-after-requires
 name-after-requires c κs = search (needs, followed)
 
--- src/block.rt:83:26
 cast-fill : tie.Need-cast-fill
 cast-fill c = search needs
 
--- src/block.rt:83:5
 fill-requires : tie.Need-fill-requires
 fill-requires c κs = search needs
 
--- src/block.rt:84:5
 walk-on-requires : tie.Need-walk-on-requires
 walk-on-requires c κs = search (needs, walk-fewer)
 
--- src/block.rt:74:1
 same-length : tie.Need-same-length
 same-length c = search needs
 
--- src/block.rt:74:1
 returns : tie.Need-returns
 returns c = (search (needs, block-cut), search (needs, on-cut))
 

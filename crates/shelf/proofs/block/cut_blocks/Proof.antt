@@ -22,31 +22,24 @@ Inv-loop s file₀ m w₀ i₀ file w i =
 abbrev μ-loop : tie.MeasureT-loop
 μ-loop s file₀ m w₀ i₀ file w i = m - i
 
--- src/block.rt:97:5
 loop-holds : tie.Need-loop-holds Inv-loop μ-loop
 loop-holds c = (omega arith, refl, cut-none _ _ _, walk-none _ _)
 
--- src/block.rt:98:20
 mul-from : tie.Need-mul-from Inv-loop μ-loop
 mul-from c = search needs
 
--- src/block.rt:99:18
 add-to : tie.Need-add-to Inv-loop μ-loop
 add-to c = search needs
 
--- src/block.rt:100:26
 sub-cut-block : tie.Need-sub-cut-block Inv-loop μ-loop
 sub-cut-block c = search needs
 
--- src/block.rt:100:26
 part-cut-block-start : tie.Need-part-cut-block-start Inv-loop μ-loop
 part-cut-block-start c = search needs
 
--- src/block.rt:100:26
 part-cut-block-end : tie.Need-part-cut-block-end Inv-loop μ-loop
 part-cut-block-end c = search needs
 
--- src/block.rt:100:9
 cut-block-requires : tie.Need-cut-block-requires Inv-loop μ-loop
 cut-block-requires c κs = let v = c .before .before .loop in
     let q = c .before .before .before .before .before .pre in
@@ -57,15 +50,12 @@ cut-block-requires c κs = let v = c .before .before .loop in
       walk-at _ _ (v .i) (v .inv .3) (omega arith),
     )
 
--- src/block.rt:101:9
 add-i : tie.Need-add-i Inv-loop μ-loop
 add-i c = search needs
 
--- src/block.rt:97:5
 loop-less : tie.Need-loop-less Inv-loop μ-loop
 loop-less c = search needs
 
--- src/block.rt:97:5
 loop-again : tie.Need-loop-again Inv-loop μ-loop
 loop-again c = let v = c .before .before .before .before .before .loop in
     let a = c .before .before .before .before .before .before .before .before .args in
@@ -76,11 +66,9 @@ loop-again c = let v = c .before .before .before .before .before .loop in
       on-next _ _ (v .i) (omega arith) (p .ensures .1),
     )
 
--- src/block.rt:88:1
 same-length : tie.Need-same-length Inv-loop μ-loop
 same-length c = search needs
 
--- src/block.rt:88:1
 returns : tie.Need-returns Inv-loop μ-loop
 returns c = (search (needs, cut-end), search (needs, on-end))
 

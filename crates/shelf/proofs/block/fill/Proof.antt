@@ -7,19 +7,15 @@ use Rattle.shelf.proofs.block.fill.Lts as lts
 use Rattle.shelf.proofs.block.copy_bytes.Reads as copy-bytes-reads
 use Rattle.shelf.proofs.block.seal.Reads as seal-reads
 
--- src/block.rt:72:5
 copy-bytes-requires : tie.Need-copy-bytes-requires
 copy-bytes-requires c κs = search needs
 
--- src/block.rt:73:5
 seal-requires : tie.Need-seal-requires
 seal-requires c κs = search needs
 
--- src/block.rt:68:1
 same-length : tie.Need-same-length
 same-length c = search needs
 
--- src/block.rt:68:1
 returns : tie.Need-returns
 returns c = search (needs, filled-is)
 

@@ -7,23 +7,18 @@ use Rattle.shelf.proofs.block.put_head.Lts as lts
 use Rattle.buffers.proofs.put_half.Reads as put-half-reads
 use Rattle.buffers.proofs.put_word.Reads as put-word-reads
 
--- src/block.rt:50:5
 put-word-requires : tie.Need-put-word-requires
 put-word-requires c κs = search needs
 
--- src/block.rt:51:5
 put-half-requires : tie.Need-put-half-requires
 put-half-requires c κs = search needs
 
--- src/block.rt:52:5
 put-half-requires-2 : tie.Need-put-half-requires-2
 put-half-requires-2 c κs = search needs
 
--- src/block.rt:46:1
 same-length : tie.Need-same-length
 same-length c = search needs
 
--- src/block.rt:46:1
 returns : tie.Need-returns
 returns c = search (needs, head-put)
 

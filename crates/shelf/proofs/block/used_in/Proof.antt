@@ -5,19 +5,15 @@ use Rattle.shelf.proofs.block.used_in.Tie as tie
 use Rattle.shelf.proofs.block.used_in.Reads as reads
 use Rattle.shelf.proofs.block.used_in.Lts as lts
 
--- src/block.rt:81:20
 mul-left : tie.Need-mul-left
 mul-left c = search needs
 
--- src/block.rt:81:16
 sub-left : tie.Need-sub-left
 sub-left c = search needs
 
--- src/block.rt:83:9
 returns : tie.Need-returns
 returns c = search (needs, judge-ways)
 
--- src/block.rt:77:1
 returns-2 : tie.Need-returns-2
 returns-2 c = search (needs, judge-ways)
 

@@ -8,43 +8,33 @@ use Rattle.buffers.proofs.clear.Reads as clear-reads
 use Rattle.shelf.proofs.calls.tell.Reads as tell-reads
 use Rattle.shelf.proofs.read.Reads as read-reads
 
--- src/calls.rt:75:9
 clear-requires : tie.Need-clear-requires
 clear-requires c κs = search needs
 
--- src/calls.rt:76:9
 clear-requires-2 : tie.Need-clear-requires-2
 clear-requires-2 c κs = search needs
 
--- src/calls.rt:77:9
 same-length : tie.Need-same-length
 same-length c = search needs
 
--- src/calls.rt:77:9
 same-length-2 : tie.Need-same-length-2
 same-length-2 c = search needs
 
--- src/calls.rt:77:9
 returns : tie.Need-returns
 returns c = search (needs, read-other)
 
--- src/calls.rt:79:9
 read-requires : tie.Need-read-requires
 read-requires c κs = search needs
 
--- src/calls.rt:80:5
 tell-requires : tie.Need-tell-requires
 tell-requires c κs = search needs
 
--- src/calls.rt:69:1
 same-length-3 : tie.Need-same-length-3
 same-length-3 c = search needs
 
--- src/calls.rt:69:1
 same-length-4 : tie.Need-same-length-4
 same-length-4 c = search needs
 
--- src/calls.rt:69:1
 returns-2 : tie.Need-returns-2
 returns-2 c = search (needs, read-told)
 

@@ -8,43 +8,33 @@ use Rattle.buffers.proofs.clear.Reads as clear-reads
 use Rattle.shelf.proofs.calls.tell.Reads as tell-reads
 use Rattle.shelf.proofs.write.Reads as write-reads
 
--- src/calls.rt:60:9
 clear-requires : tie.Need-clear-requires
 clear-requires c κs = search needs
 
--- src/calls.rt:61:9
 clear-requires-2 : tie.Need-clear-requires-2
 clear-requires-2 c κs = search needs
 
--- src/calls.rt:62:9
 same-length : tie.Need-same-length
 same-length c = search needs
 
--- src/calls.rt:62:9
 same-length-2 : tie.Need-same-length-2
 same-length-2 c = search needs
 
--- src/calls.rt:62:9
 returns : tie.Need-returns
 returns c = search (needs, write-other)
 
--- src/calls.rt:64:9
 write-requires : tie.Need-write-requires
 write-requires c κs = search needs
 
--- src/calls.rt:65:5
 tell-requires : tie.Need-tell-requires
 tell-requires c κs = search needs
 
--- src/calls.rt:54:1
 same-length-3 : tie.Need-same-length-3
 same-length-3 c = search needs
 
--- src/calls.rt:54:1
 same-length-4 : tie.Need-same-length-4
 same-length-4 c = search needs
 
--- src/calls.rt:54:1
 returns-2 : tie.Need-returns-2
 returns-2 c = search (needs, write-told)
 

@@ -10,35 +10,27 @@ use Rattle.shelf.proofs.judge.rest_zero.Reads as rest-zero-reads
 use Rattle.shelf.proofs.judge.some_used.Reads as some-used-reads
 use Rattle.shelf.proofs.judge.zero_first.Reads as zero-first-reads
 
--- src/judge.rt:169:8
 some-used-requires : tie.Need-some-used-requires
 some-used-requires c κs = search needs
 
--- src/judge.rt:170:12
 rest-zero-requires : tie.Need-rest-zero-requires
 rest-zero-requires c κs = search (needs, used-most)
 
--- src/judge.rt:171:16
 first-inside-requires : tie.Need-first-inside-requires
 first-inside-requires c κs = search needs
 
--- src/judge.rt:172:17
 zero-first-requires : tie.Need-zero-first-requires
 zero-first-requires c κs = search needs
 
--- src/judge.rt:172:17
 returns : tie.Need-returns
 returns c = search (needs, judge-ways)
 
--- src/judge.rt:165:1
 returns-2 : tie.Need-returns-2
 returns-2 c = search (needs, judge-ways)
 
--- src/judge.rt:165:1
 returns-3 : tie.Need-returns-3
 returns-3 c = search (needs, judge-ways)
 
--- src/judge.rt:165:1
 returns-4 : tie.Need-returns-4
 returns-4 c = search (needs, judge-ways)
 

@@ -6,23 +6,18 @@ use Rattle.shelf.proofs.judge.closes.Reads as reads
 use Rattle.shelf.proofs.judge.closes.Lts as lts
 use Rattle.shelf.proofs.judge.used_at.Reads as used-at-reads
 
--- src/judge.rt:202:8
 used-at-requires : tie.Need-used-at-requires
 used-at-requires c κs = search needs
 
--- src/judge.rt:203:9
 returns : tie.Need-returns
 returns c = search (needs, judge-ways)
 
--- src/judge.rt:205:38
 add-result : tie.Need-add-result
 add-result c = search needs
 
--- src/judge.rt:205:16
 mul-result : tie.Need-mul-result
 mul-result c = search needs
 
--- src/judge.rt:198:1
 returns-2 : tie.Need-returns-2
 returns-2 c = search (needs, judge-ways)
 

@@ -7,31 +7,24 @@ use Rattle.shelf.proofs.judge.first_in_file.Lts as lts
 use Rattle.shelf.proofs.judge.length_at.Reads as length-at-reads
 use Rattle.shelf.proofs.stream.name_start.Reads as name-start-reads
 
--- src/judge.rt:71:13
 length-at-requires : tie.Need-length-at-requires
 length-at-requires c κs = search needs
 
--- src/judge.rt:72:35
 add-name-start : tie.Need-add-name-start
 add-name-start c = search needs
 
--- src/judge.rt:72:35
 add-name-start-2 : tie.Need-add-name-start-2
 add-name-start-2 c = search needs
 
--- src/judge.rt:72:9
 name-start-requires : tie.Need-name-start-requires
 name-start-requires c κs = search needs
 
--- src/judge.rt:72:9
 returns : tie.Need-returns
 returns c = search (needs, judge-ways)
 
--- src/judge.rt:74:5
 name-start-requires-2 : tie.Need-name-start-requires-2
 name-start-requires-2 c κs = search needs
 
--- src/judge.rt:66:1
 returns-2 : tie.Need-returns-2
 returns-2 c = search (needs, judge-ways)
 

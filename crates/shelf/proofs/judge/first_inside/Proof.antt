@@ -7,23 +7,18 @@ use Rattle.shelf.proofs.judge.first_inside.Lts as lts
 use Rattle.shelf.proofs.judge.first_at.Reads as first-at-reads
 use Rattle.shelf.proofs.judge.used_at.Reads as used-at-reads
 
--- src/judge.rt:146:9
 first-at-requires : tie.Need-first-at-requires
 first-at-requires c κs = search needs
 
--- src/judge.rt:147:9
 cast-if1 : tie.Need-cast-if1
 cast-if1 c = search needs
 
--- src/judge.rt:147:27
 used-at-requires : tie.Need-used-at-requires
 used-at-requires c κs = search needs
 
--- src/judge.rt:148:9
 returns : tie.Need-returns
 returns c = search (needs, judge-ways)
 
--- src/judge.rt:142:1
 returns-2 : tie.Need-returns-2
 returns-2 c = search (needs, judge-ways)
 

@@ -10,39 +10,30 @@ use Rattle.shelf.proofs.judge.used_at.Reads as used-at-reads
 use Rattle.shelf.proofs.judge.walk_file.Reads as walk-file-reads
 use Rattle.shelf.proofs.judge.walked.Reads as walked-reads
 
--- src/judge.rt:230:14
 mul-lo : tie.Need-mul-lo
 mul-lo c = search needs
 
--- src/judge.rt:231:19
 used-at-requires : tie.Need-used-at-requires
 used-at-requires c κs = search needs
 
--- src/judge.rt:231:14
 add-hi : tie.Need-add-hi
 add-hi c = search needs
 
--- src/judge.rt:232:8
 first-at-requires : tie.Need-first-at-requires
 first-at-requires c κs = search needs
 
--- src/judge.rt:232:26
 first-in-file-requires : tie.Need-first-in-file-requires
 first-in-file-requires c κs = search needs
 
--- src/judge.rt:233:29
 walk-file-requires : tie.Need-walk-file-requires
 walk-file-requires c κs = search needs
 
--- src/judge.rt:233:9
 walked-requires : tie.Need-walked-requires
 walked-requires c κs = search needs
 
--- src/judge.rt:233:9
 returns : tie.Need-returns
 returns c = search (needs, judge-ways)
 
--- src/judge.rt:226:1
 returns-2 : tie.Need-returns-2
 returns-2 c = search (needs, judge-ways)
 

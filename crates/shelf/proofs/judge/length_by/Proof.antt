@@ -7,35 +7,27 @@ use Rattle.shelf.proofs.judge.length_by.Lts as lts
 use Rattle.shelf.proofs.judge.length_at.Reads as judge-length-at-reads
 use Rattle.shelf.proofs.stream.length_at.Reads as stream-length-at-reads
 
--- src/judge.rt:54:14
 mul-lo : tie.Need-mul-lo
 mul-lo c = search needs
 
--- src/judge.rt:56:9
 length-at-requires : tie.Need-length-at-requires
 length-at-requires c κs = search needs
 
--- src/judge.rt:56:9
 returns : tie.Need-returns
 returns c = search needs
 
--- src/judge.rt:58:26
 mul-length-at : tie.Need-mul-length-at
 mul-length-at c = search needs
 
--- src/judge.rt:58:26
 add-length-at : tie.Need-add-length-at
 add-length-at c = search needs
 
--- src/judge.rt:58:26
 add-length-at-2 : tie.Need-add-length-at-2
 add-length-at-2 c = search needs
 
--- src/judge.rt:58:5
 length-at-requires-2 : tie.Need-length-at-requires-2
 length-at-requires-2 c κs = search needs
 
--- src/judge.rt:50:1
 returns-2 : tie.Need-returns-2
 returns-2 c = search (needs, length-within)
 

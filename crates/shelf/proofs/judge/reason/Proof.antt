@@ -9,43 +9,33 @@ use Rattle.shelf.proofs.sums.sum_words.Reads as sum-words-reads
 use Rattle.shelf.proofs.judge.alone.Reads as alone-reads
 use Rattle.shelf.proofs.judge.number_at.Reads as number-at-reads
 
--- src/judge.rt:184:16
 mul-from : tie.Need-mul-from
 mul-from c = search needs
 
--- src/judge.rt:185:8
 sum-words-requires : tie.Need-sum-words-requires
 sum-words-requires c κs = search needs
 
--- src/judge.rt:185:38
 add-word : tie.Need-add-word
 add-word c = search needs
 
--- src/judge.rt:185:30
 word-requires : tie.Need-word-requires
 word-requires c κs = search needs
 
--- src/judge.rt:186:12
 number-at-requires : tie.Need-number-at-requires
 number-at-requires c κs = search needs
 
--- src/judge.rt:187:16
 alone-requires : tie.Need-alone-requires
 alone-requires c κs = search needs
 
--- src/judge.rt:188:17
 returns : tie.Need-returns
 returns c = search (needs, judge-ways)
 
--- src/judge.rt:190:13
 returns-2 : tie.Need-returns-2
 returns-2 c = search (needs, judge-ways)
 
--- src/judge.rt:192:9
 returns-3 : tie.Need-returns-3
 returns-3 c = search (needs, judge-ways)
 
--- src/judge.rt:180:1
 returns-4 : tie.Need-returns-4
 returns-4 c = search (needs, judge-ways)
 

@@ -8,7 +8,6 @@ use Rattle.buffers.proofs.half.Reads as half-reads
 use Rattle.shelf.proofs.judge.used_at.Reads as used-at-reads
 use Rattle.shelf.proofs.judge.zeros_from.Reads as zeros-from-reads
 
--- src/judge.rt:137:9
 used-at-requires : tie.Need-used-at-requires
 used-at-requires c κs = search needs
 
@@ -24,27 +23,21 @@ half-requires c κs = search needs
 returns : tie.Need-returns
 returns c = search (needs, judge-ways)
 
--- src/judge.rt:138:19
 mul-zeros-from : tie.Need-mul-zeros-from
 mul-zeros-from c = search needs
 
--- src/judge.rt:138:19
 add-zeros-from : tie.Need-add-zeros-from
 add-zeros-from c = search needs
 
--- src/judge.rt:138:19
 add-zeros-from-2 : tie.Need-add-zeros-from-2
 add-zeros-from-2 c = search needs
 
--- src/judge.rt:138:70
 sub-zeros-from : tie.Need-sub-zeros-from
 sub-zeros-from c = search needs
 
--- src/judge.rt:138:5
 zeros-from-requires : tie.Need-zeros-from-requires
 zeros-from-requires c κs = search needs
 
--- src/judge.rt:133:1
 returns-2 : tie.Need-returns-2
 returns-2 c = search (needs, judge-ways)
 

@@ -19,52 +19,40 @@ Inv-loop f m i₀ next₀ count₀ i next count =
 abbrev μ-loop : tie.MeasureT-loop
 μ-loop f m i₀ next₀ count₀ i next count = m - i
 
--- src/judge.rt:246:5
 loop-holds : tie.Need-loop-holds Inv-loop μ-loop
 loop-holds c = (omega arith, omega arith, λ h. omega arith, scan-start _)
 
--- src/judge.rt:247:13
 reason-requires : tie.Need-reason-requires Inv-loop μ-loop
 reason-requires c κs = search needs
 
--- src/judge.rt:249:13
 returns : tie.Need-returns Inv-loop μ-loop
 returns c = search (needs, scan-refuse)
 
--- src/judge.rt:251:13
 in-step-requires : tie.Need-in-step-requires Inv-loop μ-loop
 in-step-requires c κs =
     (search needs, search (needs, used-none-so), search (needs, used-most-so), search needs, c .before .before .before .loop .inv .2 (omega arith))
 
--- src/judge.rt:252:25
 enum-known-s : tie.Need-enum-known-s Inv-loop μ-loop
 enum-known-s c = search needs
 
--- src/judge.rt:253:13
 enum-told : tie.Need-enum-told Inv-loop μ-loop
 enum-told c = search needs
 
--- src/judge.rt:253:13
 returns-2 : tie.Need-returns-2 Inv-loop μ-loop
 returns-2 c = search (needs, scan-off)
 
--- src/judge.rt:257:9
 add-i : tie.Need-add-i Inv-loop μ-loop
 add-i c = search needs
 
--- src/judge.rt:246:5
 loop-less : tie.Need-loop-less Inv-loop μ-loop
 loop-less c = search needs
 
--- src/judge.rt:246:5
 loop-again : tie.Need-loop-again Inv-loop μ-loop
 loop-again c = search (needs, scan-on, next-fewer, next-past)
 
--- src/judge.rt:260:9
 returns-3 : tie.Need-returns-3 Inv-loop μ-loop
 returns-3 c = search (needs, scan-end)
 
--- src/judge.rt:239:1
 returns-4 : tie.Need-returns-4 Inv-loop μ-loop
 returns-4 c = search (needs, scan-part)
 

@@ -8,23 +8,18 @@ use Rattle.shelf.proofs.judge.used_at.Reads as reads
 use Rattle.shelf.proofs.judge.used_at.Lts as lts
 use Rattle.buffers.proofs.half.Reads as half-reads
 
--- src/judge.rt:97:13
 mul-half : tie.Need-mul-half
 mul-half c = search needs
 
--- src/judge.rt:97:13
 add-half : tie.Need-add-half
 add-half c = search needs
 
--- src/judge.rt:97:5
 half-requires : tie.Need-half-requires
 half-requires c κs = search needs
 
--- src/judge.rt:97:5
 cast-result : tie.Need-cast-result
 cast-result c = search needs
 
--- src/judge.rt:93:1
 returns : tie.Need-returns
 returns c = let g = c .before .shared-slice-known .given in
     let at = 512 * c .before .before .args .i + 4 in (search needs, omega (arith, c .half .ensures, g at, g (at + 1)))

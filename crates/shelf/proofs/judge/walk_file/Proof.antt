@@ -17,43 +17,33 @@ Inv-loop f end p c last i next₀ count₀ next count = (walk (byteOf f) end p c
 abbrev μ-loop : tie.MeasureT-loop
 μ-loop f end p c last i next₀ count₀ next count = last - next
 
--- src/judge.rt:51:16
 sub-last : tie.Need-sub-last Inv-loop μ-loop
 sub-last c = search needs
 
--- src/judge.rt:54:5
 loop-holds : tie.Need-loop-holds Inv-loop μ-loop
 loop-holds c = search needs
 
--- src/judge.rt:55:13
 length-by-requires : tie.Need-length-by-requires Inv-loop μ-loop
 length-by-requires c κs = search needs
 
--- src/judge.rt:57:13
 returns : tie.Need-returns Inv-loop μ-loop
 returns c = search (needs, follow-over)
 
--- src/judge.rt:59:16
 add-next : tie.Need-add-next Inv-loop μ-loop
 add-next c = search needs
 
--- src/judge.rt:59:16
 add-next-2 : tie.Need-add-next-2 Inv-loop μ-loop
 add-next-2 c = search needs
 
--- src/judge.rt:60:9
 add-count : tie.Need-add-count Inv-loop μ-loop
 add-count c = search needs
 
--- src/judge.rt:54:5
 loop-less : tie.Need-loop-less Inv-loop μ-loop
 loop-less c = search needs
 
--- src/judge.rt:54:5
 loop-again : tie.Need-loop-again Inv-loop μ-loop
 loop-again c = search (needs, follow-on)
 
--- src/judge.rt:47:1
 returns-2 : tie.Need-returns-2 Inv-loop μ-loop
 returns-2 c = search (needs, follow-stop)
 

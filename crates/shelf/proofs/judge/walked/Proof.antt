@@ -7,43 +7,33 @@ use Rattle.shelf.proofs.judge.walked.Lts as lts
 use Rattle.shelf.proofs.judge.closes.Reads as closes-reads
 use Rattle.shelf.proofs.judge.used_at.Reads as used-at-reads
 
--- src/judge.rt:213:18
 enum-known-w : tie.Need-enum-known-w
 enum-known-w c = search needs
 
--- src/judge.rt:214:9
 enum-told : tie.Need-enum-told
 enum-told c = search needs
 
--- src/judge.rt:214:9
 returns : tie.Need-returns
 returns c = search (needs, judge-ways)
 
--- src/judge.rt:216:8
 closes-requires : tie.Need-closes-requires
 closes-requires c κs = search needs
 
--- src/judge.rt:217:17
 mul-if2 : tie.Need-mul-if2
 mul-if2 c = search needs
 
--- src/judge.rt:217:41
 used-at-requires : tie.Need-used-at-requires
 used-at-requires c κs = search needs
 
--- src/judge.rt:217:17
 add-if2 : tie.Need-add-if2
 add-if2 c = search needs
 
--- src/judge.rt:218:13
 returns-2 : tie.Need-returns-2
 returns-2 c = search (needs, judge-ways)
 
--- src/judge.rt:220:9
 returns-3 : tie.Need-returns-3
 returns-3 c = search (needs, judge-ways)
 
--- src/judge.rt:209:1
 returns-4 : tie.Need-returns-4
 returns-4 c = search (needs, judge-ways)
 

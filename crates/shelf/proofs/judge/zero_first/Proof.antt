@@ -7,19 +7,15 @@ use Rattle.shelf.proofs.judge.zero_first.Lts as lts
 use Rattle.shelf.proofs.judge.first_at.Reads as first-at-reads
 use Rattle.shelf.proofs.judge.number_at.Reads as number-at-reads
 
--- src/judge.rt:158:8
 number-at-requires : tie.Need-number-at-requires
 number-at-requires c κs = search needs
 
--- src/judge.rt:159:16
 first-at-requires : tie.Need-first-at-requires
 first-at-requires c κs = search needs
 
--- src/judge.rt:159:9
 returns : tie.Need-returns
 returns c = search (needs, judge-ways)
 
--- src/judge.rt:154:1
 returns-2 : tie.Need-returns-2
 returns-2 c = search (needs, judge-ways)
 

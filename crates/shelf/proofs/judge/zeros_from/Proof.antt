@@ -18,37 +18,29 @@ Inv-loop f from k at₀ end most₀ at most = (at ≤ end) × (zerosFrom f from 
 abbrev μ-loop : tie.MeasureT-loop
 μ-loop f from k at₀ end most₀ at most = end - at
 
--- src/judge.rt:108:15
 add-end : tie.Need-add-end Inv-loop μ-loop
 add-end c = search needs
 
--- src/judge.rt:110:5
 loop-holds : tie.Need-loop-holds Inv-loop μ-loop
 loop-holds c = let a = c .before .args in
     let e : a .from + a .k - a .from ≡ a .k = omega arith in
     (omega arith, rw e)
 
--- src/judge.rt:111:29
 shared-slice-read-larger : tie.Need-shared-slice-read-larger Inv-loop μ-loop
 shared-slice-read-larger c = search needs
 
--- src/judge.rt:111:9
 larger-requires : tie.Need-larger-requires Inv-loop μ-loop
 larger-requires c κs = search needs
 
--- src/judge.rt:112:9
 add-at : tie.Need-add-at Inv-loop μ-loop
 add-at c = search needs
 
--- src/judge.rt:110:5
 loop-less : tie.Need-loop-less Inv-loop μ-loop
 loop-less c = search needs
 
--- src/judge.rt:110:5
 loop-again : tie.Need-loop-again Inv-loop μ-loop
 loop-again c = search (needs, zeros-on)
 
--- src/judge.rt:103:1
 returns : tie.Need-returns Inv-loop μ-loop
 returns c = search (needs, zeros-end)
 

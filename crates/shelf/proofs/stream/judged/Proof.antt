@@ -6,31 +6,24 @@ use Rattle.shelf.proofs.stream.judged.Tie as tie
 use Rattle.shelf.proofs.stream.judged.Reads as reads
 use Rattle.shelf.proofs.stream.judged.Lts as lts
 
--- src/stream.rt:55:20
 enum-known-w : tie.Need-enum-known-w
 enum-known-w c = search needs
 
--- src/stream.rt:55:45
 add-t8 : tie.Need-add-t8
 add-t8 c = omega (arith, over-below _ _ (c .before .before .before .pre) (c .before .w .given .1))
 
--- src/stream.rt:56:18
 enum-known-w-2 : tie.Need-enum-known-w-2
 enum-known-w-2 c = search needs
 
--- src/stream.rt:58:17
 returns : tie.Need-returns
 returns c = search (needs, judge-ways)
 
--- src/stream.rt:60:32
 sub-t11 : tie.Need-sub-t11
 sub-t11 c = omega (arith, some-cut _ _ (c .before .before .before .before .pre) (c .before .before .w2 .given .1) (c .if1 .left))
 
--- src/stream.rt:49:1
 returns-2 : tie.Need-returns-2
 returns-2 c = search (needs, judge-ways)
 
--- src/stream.rt:49:1
 returns-3 : tie.Need-returns-3
 returns-3 c = search (needs, judge-ways)
 

@@ -6,27 +6,21 @@ use Rattle.shelf.proofs.stream.name_after.Reads as reads
 use Rattle.shelf.proofs.stream.name_after.Lts as lts
 use Rattle.shelf.proofs.stream.first_in_stream.Reads as first-in-stream-reads
 
--- src/stream.rt:104:18
 enum-known-w : tie.Need-enum-known-w
 enum-known-w c = search needs
 
--- src/stream.rt:105:9
 enum-told : tie.Need-enum-told
 enum-told c = search needs
 
--- src/stream.rt:105:9
 returns : tie.Need-returns
 returns c = search (needs, follow-ways)
 
--- src/stream.rt:107:24
 mul-first-in-stream : tie.Need-mul-first-in-stream
 mul-first-in-stream c = search needs
 
--- src/stream.rt:107:5
 first-in-stream-requires : tie.Need-first-in-stream-requires
 first-in-stream-requires c κs = search (needs, followed-past)
 
--- src/stream.rt:100:1
 returns-2 : tie.Need-returns-2
 returns-2 c = search (needs, follow-ways, name-small)
 

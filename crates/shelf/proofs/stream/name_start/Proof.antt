@@ -5,19 +5,15 @@ use Rattle.shelf.proofs.stream.name_start.Tie as tie
 use Rattle.shelf.proofs.stream.name_start.Reads as reads
 use Rattle.shelf.proofs.stream.name_start.Lts as lts
 
--- src/stream.rt:70:17
 sub-result : tie.Need-sub-result
 sub-result c = search needs
 
--- src/stream.rt:70:16
 cast-result : tie.Need-cast-result
 cast-result c = search needs
 
--- src/stream.rt:70:9
 returns : tie.Need-returns
 returns c = search (needs, judge-ways)
 
--- src/stream.rt:65:1
 returns-2 : tie.Need-returns-2
 returns-2 c = search (needs, judge-ways)
 

@@ -7,19 +7,15 @@ use Rattle.shelf.proofs.stream.soundness.Lts as lts
 use Rattle.shelf.proofs.stream.judged.Reads as judged-reads
 use Rattle.shelf.proofs.stream.walk_stream.Reads as walk-stream-reads
 
--- src/stream.rt:71:9
 returns : tie.Need-returns
 returns c = search (needs, judge-ways)
 
--- src/stream.rt:73:15
 walk-stream-requires : tie.Need-walk-stream-requires
 walk-stream-requires c κs = search needs
 
--- src/stream.rt:73:5
 judged-requires : tie.Need-judged-requires
 judged-requires c κs = search needs
 
--- src/stream.rt:66:1
 returns-2 : tie.Need-returns-2
 returns-2 c = search needs
 

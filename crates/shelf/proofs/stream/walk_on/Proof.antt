@@ -6,23 +6,18 @@ use Rattle.shelf.proofs.stream.walk_on.Reads as reads
 use Rattle.shelf.proofs.stream.walk_on.Lts as lts
 use Rattle.shelf.proofs.stream.walk_stream.Reads as walk-stream-reads
 
--- src/stream.rt:115:18
 enum-known-w : tie.Need-enum-known-w
 enum-known-w c = search needs
 
--- src/stream.rt:116:9
 enum-told : tie.Need-enum-told
 enum-told c = search needs
 
--- src/stream.rt:116:9
 returns : tie.Need-returns
 returns c = search (needs, follow-ways)
 
--- src/stream.rt:118:5
 walk-stream-requires : tie.Need-walk-stream-requires
 walk-stream-requires c κs = search (needs, fewer-so)
 
--- src/stream.rt:111:1
 returns-2 : tie.Need-returns-2
 returns-2 c = search (needs, follow-ways)
 

@@ -17,43 +17,33 @@ Inv-loop s end p c last next₀ count₀ next count = (walk (byteAt s) end p c �
 abbrev μ-loop : tie.MeasureT-loop
 μ-loop s end p c last next₀ count₀ next count = last - next
 
--- src/stream.rt:31:16
 sub-last : tie.Need-sub-last Inv-loop μ-loop
 sub-last c = search needs
 
--- src/stream.rt:34:5
 loop-holds : tie.Need-loop-holds Inv-loop μ-loop
 loop-holds c = search needs
 
--- src/stream.rt:35:13
 length-at-requires : tie.Need-length-at-requires Inv-loop μ-loop
 length-at-requires c κs = search needs
 
--- src/stream.rt:37:13
 returns : tie.Need-returns Inv-loop μ-loop
 returns c = search (needs, follow-over)
 
--- src/stream.rt:39:16
 add-next : tie.Need-add-next Inv-loop μ-loop
 add-next c = search needs
 
--- src/stream.rt:39:16
 add-next-2 : tie.Need-add-next-2 Inv-loop μ-loop
 add-next-2 c = search needs
 
--- src/stream.rt:40:9
 add-count : tie.Need-add-count Inv-loop μ-loop
 add-count c = search needs
 
--- src/stream.rt:34:5
 loop-less : tie.Need-loop-less Inv-loop μ-loop
 loop-less c = search needs
 
--- src/stream.rt:34:5
 loop-again : tie.Need-loop-again Inv-loop μ-loop
 loop-again c = search (needs, follow-on)
 
--- src/stream.rt:27:1
 returns-2 : tie.Need-returns-2 Inv-loop μ-loop
 returns-2 c = search (needs, follow-stop)
 

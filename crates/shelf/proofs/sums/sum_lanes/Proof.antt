@@ -6,31 +6,24 @@ use Rattle.shelf.proofs.sums.sum_lanes.Reads as reads
 use Rattle.shelf.proofs.sums.sum_lanes.Lts as lts
 use Rattle.std.proofs.num.wrapping_add_u32.Reads as wrapping-add-u32-reads
 
--- src/sums.rt:44:17
 mul-first : tie.Need-mul-first
 mul-first c = search needs
 
--- src/sums.rt:45:18
 mul-second : tie.Need-mul-second
 mul-second c = search needs
 
--- src/sums.rt:46:17
 mul-third : tie.Need-mul-third
 mul-third c = search needs
 
--- src/sums.rt:47:9
 wrapping-add-u32-requires : tie.Need-wrapping-add-u32-requires
 wrapping-add-u32-requires c κs = search needs
 
--- src/sums.rt:48:9
 wrapping-add-u32-requires-2 : tie.Need-wrapping-add-u32-requires-2
 wrapping-add-u32-requires-2 c κs = search needs
 
--- src/sums.rt:49:5
 wrapping-add-u32-requires-3 : tie.Need-wrapping-add-u32-requires-3
 wrapping-add-u32-requires-3 c κs = search needs
 
--- src/sums.rt:41:1
 returns : tie.Need-returns
 returns c = search (needs, wrapped)
 
