@@ -5,6 +5,7 @@ mod Given
 mod OneRow
 mod CastRows
 mod Turns
+mod Judging
 mod Once
 mod Order
 mod Parties

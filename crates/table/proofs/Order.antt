@@ -14,7 +14,7 @@ use Rattle.table.specs.First.{Verdict, first, judge, _then_}
 use Rattle.table.specs.First.Verdict.{right, wrong}
 use Rattle.table.proofs.FirstLaws.{then-right, then-wrong, right-every, both-true}
 use Rattle.table.specs.Valid.{given, headerWords, rowWords, countWords, derivedRow, derivedWords, castWords, formWords, formSize, lengthRight, derivedVerdict, substitutesVerdict, typePairsVerdict, rowPairsVerdict, verdictFrom, verdict}
-use Rattle.table.proofs.Lines.{typesVerdict, attributesVerdict, particlesVerdict, rows-in-parts, words-in-parts, cast-in-parts, rows-every}
+use Rattle.table.proofs.Lines.{typesVerdict, attributesVerdict, particlesVerdict, rows-in-parts, words-in-parts, cast-in-parts, rows-every, form-words-length}
 use Rattle.table.specs.Views.{verdictIs}
 use Rattle.table.specs.declared.answers.Verdict as code
 use Rattle.table.specs.declared.answers.Verdict.the-variants.{Right, Wrong}
@@ -163,6 +163,10 @@ module _ (l : List ℕ) (h : code.Verdict) (e : verdictIs h ≡ first 0 (headerW
       counted = rw (t, a, p) (then-right _ _ (sym e ∙ ap verdictIs x))
 
       module _ (size : ℕ) (is : size ≡ formSize (wordAt l) T A P) where
+        -- the rows are there where the length is that of the form
+        pub rows-there : length l ≡ size → sizeOf T A P ≤ length l
+        rows-there s = omega (arith, form-words-length (wordAt l) T A P)
+
         pub length-wrong : (length l ≡ size → ⊥) → wrong (length l) ≡ verdict l
         unfolding judge _then_ lengthRight
         length-wrong n = sym (counted ∙ rw (← is, ne-eqb _ _ n))

@@ -9,3 +9,4 @@ pub mod Held
 pub mod Runs
 pub mod Setting
 pub mod Stamps
+pub mod Judged

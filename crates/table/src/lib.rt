@@ -22,14 +22,16 @@ use rows::word;
 ghost use mathlib.Core.List.{_++_};
 ghost use mathlib.Core.Path.{_≡_};
 ghost use Prim.Native.Nat.{_≤_};
+ghost use lib.ListN.{length};
 ghost use Rattle.numbers.specs.Limit.{mostTypes};
 ghost use Rattle.table.specs.First.{first};
 ghost use Rattle.table.specs.Valid.{rowWords, formWords, verdict};
 ghost use Rattle.table.specs.Views.{verdictIs};
-ghost use Rattle.table.specs.Words.{wordAt};
+ghost use Rattle.table.specs.Words.{sizeOf, wordAt};
 
 // The rows after the header, in order.
 fn every_row(table: &[u32], types: u32, attributes: u32, particles: u32) -> Verdict
+    requires { ⌜ sizeOf types attributes particles ≤ length (now table) ⌝ }
     ensures { λ r. ⌜ verdictIs r ≡ first 4 (rowWords (wordAt (now (table .entry))) types attributes particles) ⌝ }
 {
     let t = type_rows::all(table, types, attributes, particles);
@@ -45,7 +47,7 @@ fn every_row(table: &[u32], types: u32, attributes: u32, particles: u32) -> Verd
 
 // The rows, then what stands behind them.
 fn every_word(table: &[u32], types: u32, attributes: u32, particles: u32) -> Verdict
-    requires { ⌜ types ≤ mostTypes ⌝ }
+    requires { ⌜ (types ≤ mostTypes) × (sizeOf types attributes particles ≤ length (now table)) ⌝ }
     ensures { λ r. ⌜
         verdictIs r
         ≡ first 4

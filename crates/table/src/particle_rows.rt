@@ -4,10 +4,17 @@ use crate::places::particle_at;
 use crate::runs::four_from;
 use numbers::limit;
 use numbers::particle;
+ghost use mathlib.Core.Bool.{true};
 ghost use mathlib.Core.Path.{_≡_};
+ghost use Prim.Native.Nat.{_+_, _≤_, _<_};
+ghost use lib.Dec.{leb};
+ghost use lib.ListN.{length};
+ghost use Rattle.table.specs.First.Verdict.{right};
+ghost use Rattle.table.specs.Judged.{Judged};
 ghost use Rattle.table.specs.First.{first};
 ghost use Rattle.table.specs.Valid.{elementWords, groupWords, occursWords, particleWords, particleVerdict, particlesVerdict};
 ghost use Rattle.table.specs.Views.{verdictIs};
+ghost use Rattle.table.specs.Words.{particleAt};
 
 // An element: name, type, 0.
 fn element(types: u32, name: u32, t: u32, last: u32) -> Verdict
@@ -112,10 +119,107 @@ fn row(table: &[u32], types: u32, attributes: u32, particles: u32, p: u32) -> Ve
     }
 }
 
-// Every particle row, up to one at fault.
+// Whether so many rows from `start` on are all there. The sum is wider than its parts, so one test does.
+fn reaches(start: u32, number: u32, particles: u32) -> bool
+    ensures { λ r. ⌜ r ≡ leb (start + number) particles ⌝ }
+{
+    (start as usize) + (number as usize) <= (particles as usize)
+}
+
+// Whether the particle row p is judged right but for two words: its name or its least joins `small`, a word that must be 0 joins `zeros`.
+fn row_right(
+    table: &[u32],
+    types: u32,
+    attributes: u32,
+    particles: u32,
+    p: u32,
+    small: &mut u32,
+    zeros: &mut u32,
+) -> bool
+    requires { ⌜ particleAt types attributes p + 3 < length (now table) ⌝ }
+    ensures { λ r. ⌜
+        (r ≡ true
+        → Judged (now (small .entry)) (now (zeros .entry)) (now (small .exit)) (now (zeros .exit))
+        (particleVerdict (now (table .entry)) types attributes particles p)) ⌝ }
+{
+    let base = particle_at(types, attributes, p);
+    let kind = table[base];
+    let x = table[base + 1];
+    let y = table[base + 2];
+    let z = table[base + 3];
+    if kind == particle::ELEMENT {
+        *small = *small | x;
+        *zeros = *zeros | z;
+        return y < types;
+    }
+    if x <= p {
+        return false;
+    }
+    if kind == particle::OCCURS {
+        *small = *small | y;
+        if particles <= x {
+            return false;
+        }
+        if z < y {
+            return false;
+        }
+        if z == 0 {
+            return false;
+        }
+        return z <= limit::UNBOUNDED;
+    }
+    *zeros = *zeros | z;
+    if particle::OCCURS < kind {
+        return false;
+    }
+    if y < kind {
+        return false;
+    }
+    if limit::MOST_CHILDREN < y {
+        return false;
+    }
+    reaches(x, y, particles)
+}
+
+// Whether the particle rows are judged right. A no tells nothing of the word at fault.
+fn all_right(table: &[u32], types: u32, attributes: u32, particles: u32) -> bool
+    requires { ⌜ particleAt types attributes particles ≤ length (now table) ⌝ }
+    ensures { λ r. ⌜ (r ≡ true → particlesVerdict (now (table .entry)) types attributes particles ≡ right) ⌝ }
+{
+    let mut small = 0;
+    let mut zeros = 0;
+    let mut p = 0;
+    while p < particles {
+        if !row_right(
+            table,
+            types,
+            attributes,
+            particles,
+            p,
+            &mut small,
+            &mut zeros,
+        ) {
+            return false;
+        }
+        p += 1;
+    }
+    if limit::MOST_NAME < small {
+        return false;
+    }
+    if zeros != 0 {
+        return false;
+    }
+    true
+}
+
+// Every particle row, up to one at fault: it is looked for only where the rows are not judged right.
 pub fn all(table: &[u32], types: u32, attributes: u32, particles: u32) -> Verdict
+    requires { ⌜ particleAt types attributes particles ≤ length (now table) ⌝ }
     ensures { λ r. ⌜ verdictIs r ≡ particlesVerdict (now (table .entry)) types attributes particles ⌝ }
 {
+    if all_right(table, types, attributes, particles) {
+        return Verdict::Right;
+    }
     let mut p = 0;
     while p < particles {
         let r = row(table, types, attributes, particles, p);

@@ -1,6 +1,7 @@
-// Words that stand one after another, read by one test where all of them are given. A word past the end is 0, as in `rows`.
+// Words that stand one after another: seven that are given, or four read by one test where all of them are. A word past the end is 0, as in `rows`.
 use crate::rows::word;
-ghost use Prim.Native.Nat.{_<_};
+ghost use Prim.Native.Nat.{_+_, _<_};
+ghost use lib.ListN.{length};
 ghost use Rattle.table.specs.Runs.{FourAt, SevenAt};
 
 pub struct Four {
@@ -40,36 +41,18 @@ pub fn four_from(table: &[u32], i: usize) -> Four
     Four { a, b, c, d }
 }
 
-// Seven words from a place on.
+// Seven words from a place on, all of which are given.
 pub fn seven_from(table: &[u32], i: usize) -> Seven
-    requires { ⌜ i < 4611686018427387904 ⌝ }
+    requires { ⌜ (i < 4611686018427387904) × (i + 6 < length (now table)) ⌝ }
     ensures { λ r. ⌜ SevenAt (now (table .entry)) i r ⌝ }
 {
-    if i + 6 < table.len() {
-        return Seven {
-            a: table[i],
-            b: table[i + 1],
-            c: table[i + 2],
-            d: table[i + 3],
-            e: table[i + 4],
-            f: table[i + 5],
-            g: table[i + 6],
-        };
-    }
-    let a = word(table, i);
-    let b = word(table, i + 1);
-    let c = word(table, i + 2);
-    let d = word(table, i + 3);
-    let e = word(table, i + 4);
-    let f = word(table, i + 5);
-    let g = word(table, i + 6);
     Seven {
-        a,
-        b,
-        c,
-        d,
-        e,
-        f,
-        g,
+        a: table[i],
+        b: table[i + 1],
+        c: table[i + 2],
+        d: table[i + 3],
+        e: table[i + 4],
+        f: table[i + 5],
+        g: table[i + 6],
     }
 }

@@ -8,9 +8,12 @@ use numbers::simple;
 use signed::Gap;
 use signed::gap;
 ghost use mathlib.Core.Path.{_≡_};
+ghost use Prim.Native.Nat.{_+_, _≤_, _<_};
+ghost use lib.ListN.{length};
 ghost use Rattle.table.specs.First.{first};
 ghost use Rattle.table.specs.Valid.{frontWords, emptyWords, unusedWords, rangeWords, enumerationWords, simpleWords, particlesWords, contentWords, typeVerdict, typesVerdict};
 ghost use Rattle.table.specs.Views.{verdictIs};
+ghost use Rattle.table.specs.Words.{typeAt};
 
 // The first four words: held, content, first attribute row and attribute count.
 fn front(attributes: u32, held: u32, content: u32, start: u32, count: u32) -> Verdict
@@ -121,6 +124,7 @@ fn by_content(particles: u32, content: u32, a: u32, b: u32, c: u32) -> Verdict
 
 // The type row t.
 fn row(table: &[u32], attributes: u32, particles: u32, t: u32) -> Verdict
+    requires { ⌜ typeAt t + 6 < length (now table) ⌝ }
     ensures { λ r. ⌜ verdictIs r ≡ typeVerdict (now (table .entry)) attributes particles t ⌝ }
 {
     let base = type_at(t);
@@ -141,6 +145,7 @@ fn row(table: &[u32], attributes: u32, particles: u32, t: u32) -> Verdict
 
 // Every type row, up to one at fault.
 pub fn all(table: &[u32], types: u32, attributes: u32, particles: u32) -> Verdict
+    requires { ⌜ typeAt types ≤ length (now table) ⌝ }
     ensures { λ r. ⌜ verdictIs r ≡ typesVerdict (now (table .entry)) attributes particles types ⌝ }
 {
     let mut t = 0;

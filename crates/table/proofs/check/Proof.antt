@@ -1,5 +1,5 @@
 -- `check`: the order of the check, most of it by hand, since `search` loses its way in so many facts.
-use Rattle.table.proofs.Order.{check-ways, length-wrong, length-over, length-right, types-few}
+use Rattle.table.proofs.Order.{check-ways, length-wrong, length-over, length-right, types-few, rows-there}
 use borrow.Author.Needs.{needs}
 use Rattle.table.proofs.check.Statement.{statement}
 use Rattle.table.proofs.check.Tie as tie
@@ -48,8 +48,11 @@ every-word-requires : tie.Need-every-word-requires
 every-word-requires c κs =
     let sized = c .before .before in
     let counted = sized .before in
-    let told = counted .before .before .before in
-    types-few _ _ (told .before .before .given .ensures) (told .enum-told .given .1) _ (counted .before .before .word .ensures)
+    let told = counted .before .before .before in (
+      types-few _ _ (told .before .before .given .ensures) (told .enum-told .given .1) _ (counted .before .before .word .ensures),
+      rows-there _ _ (told .before .before .given .ensures) (told .enum-told .given .1) _ (counted .before .before .word .ensures)
+          _ _ (counted .before .word2 .ensures) (counted .word3 .ensures) _ (sized .size .ensures) (c .before .if1 .left),
+    )
 
 returns-4 : tie.Need-returns-4
 returns-4 c =

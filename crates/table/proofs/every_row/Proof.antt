@@ -1,11 +1,12 @@
 -- `every_row`: the three kinds of rows, one after the other.
 use Rattle.table.proofs.Order.{rows-ways}
+use native.Mathlib.Omega.{arith}
 use borrow.Author.Needs.{needs}
 use Rattle.table.proofs.every_row.Statement.{statement}
 use Rattle.table.proofs.every_row.Tie as tie
 
 all-requires : tie.Need-all-requires
-all-requires c κs = tt
+all-requires c κs = omega arith
 
 enum-told : tie.Need-enum-told
 enum-told c = search needs
@@ -17,7 +18,7 @@ returns : tie.Need-returns
 returns c = search rows-ways
 
 all-requires-2 : tie.Need-all-requires-2
-all-requires-2 c κs = tt
+all-requires-2 c κs = omega arith
 
 enum-told-3 : tie.Need-enum-told-3
 enum-told-3 c = search needs
@@ -29,7 +30,7 @@ returns-2 : tie.Need-returns-2
 returns-2 c = search rows-ways
 
 all-requires-3 : tie.Need-all-requires-3
-all-requires-3 c κs = tt
+all-requires-3 c κs = omega arith
 
 returns-3 : tie.Need-returns-3
 returns-3 c = search rows-ways

@@ -1,5 +1,6 @@
 -- `all`: after a turns the rows from a on are left.
 use Prim.Native.Nat.{_-_}
+use mathlib.Core.Path.{sym}
 use native.Mathlib.Omega.{arith}
 use borrow.Author.Needs.{needs}
 use Rattle.table.specs.Words.{attributeAt, wordAt}
@@ -15,6 +16,12 @@ Inv-loop table types attributes a₀ a = Left (attributeAt types) (attributeRow 
 abbrev μ-loop : tie.MeasureT-loop
 μ-loop table types attributes a₀ a = attributes - a
 
+all-right-requires : tie.Need-all-right-requires Inv-loop μ-loop
+all-right-requires c κs = search needs
+
+returns : tie.Need-returns Inv-loop μ-loop
+returns c = sym (c .before .all-right .ensures (c .if1 .taken))
+
 loop-holds : tie.Need-loop-holds Inv-loop μ-loop
 loop-holds c = turns-start (attributeAt _) _ (attributes-lined _ _) _
 
@@ -27,8 +34,8 @@ enum-told c = search needs
 enum-told-2 : tie.Need-enum-told-2 Inv-loop μ-loop
 enum-told-2 c = search needs
 
-returns : tie.Need-returns Inv-loop μ-loop
-returns c =
+returns-2 : tie.Need-returns-2 Inv-loop μ-loop
+returns-2 c =
     let turn = c .before .before in
     turn-wrong (attributeAt _) _ (attributes-lined _ _) _ _ (turn .before .before .loop .inv) (turn .before .loop-test .taken) _ (turn .row .ensures) _ (c .enum-told2 .given .1)
 
@@ -43,10 +50,10 @@ loop-again c =
     let turn = c .before .before in
     turn-right (attributeAt _) _ (attributes-lined _ _) _ _ (turn .before .before .loop .inv) (turn .before .loop-test .taken) _ (turn .row .ensures) (c .enum-told .given .1)
 
-returns-2 : tie.Need-returns-2 Inv-loop μ-loop
-returns-2 c = turns-done (attributeAt _) _ (attributes-lined _ _) _ _ (c .before .loop .inv) (c .loop-test .left)
+returns-3 : tie.Need-returns-3 Inv-loop μ-loop
+returns-3 c = turns-done (attributeAt _) _ (attributes-lined _ _) _ _ (c .before .loop .inv) (c .loop-test .left)
 
 pub all-spec : {M : Type 1} → statement M
 all-spec =
     tie.close
-    (tie.spec Inv-loop μ-loop loop-holds row-requires enum-told enum-told-2 returns add-a loop-less loop-again returns-2)
+    (tie.spec Inv-loop μ-loop all-right-requires returns loop-holds row-requires enum-told enum-told-2 returns-2 add-a loop-less loop-again returns-3)

@@ -19,7 +19,7 @@ loop-holds : tie.Need-loop-holds Inv-loop μ-loop
 loop-holds c = turns-start typeAt _ (types-lined _ _ _) _
 
 row-requires : tie.Need-row-requires Inv-loop μ-loop
-row-requires c κs = tt
+row-requires c κs = omega arith
 
 enum-told : tie.Need-enum-told Inv-loop μ-loop
 enum-told c = search needs
