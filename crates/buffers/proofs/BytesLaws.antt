@@ -37,10 +37,14 @@ word-at (a ∷ b ∷ c ∷ d ∷ s) zero h = refl
 word-at (a ∷ b ∷ c ∷ d ∷ s) (suc i) h =
     word-at s i (omega arith) ∙ sym (from-shifted a b c d s (4 * i) (4 * suc i) (omega arith))
 
+-- the front of so many words
+pub words-front : (s : List ℕ) (n : ℕ) → n ≤ length s / 4 → length (take n (wordsOf s)) ≡ n
+words-front s n h = length-take-le n (wordsOf s) (omega (arith, words-length s))
+
 -- the front of a buffer that n words were loaded into
 pub loaded-front : (s words loaded : List ℕ) (n : ℕ) → loaded ≡ take n (wordsOf s) ++ drop n words → n ≤ length s / 4 → take n loaded ≡ take n (wordsOf s)
 loaded-front s words loaded n e h =
-    ap (take n) e ∙ take-at (take n (wordsOf s)) (drop n words) n (length-take-le n (wordsOf s) (omega (arith, words-length s)))
+    ap (take n) e ∙ take-at (take n (wordsOf s)) (drop n words) n (words-front s n h)
 
 -- every number takes k bytes
 pub spelled-length : (f : ℕ → List ℕ) (k : ℕ) → ((x : ℕ) → length (f x) ≡ k) → (l : List ℕ) → length (spelled f l) ≡ length l * k
@@ -52,6 +56,9 @@ spelled-length f k wide (x ∷ l) =
 
 pub bytes-length : (l : List ℕ) → length (bytesOf l) ≡ 4 * length l
 bytes-length l = let h = spelled-length four 4 (λ x. refl) l in omega arith
+
+pub bytes-front : (l : List ℕ) (n : ℕ) → n ≤ length l → length (bytesOf (take n l)) ≡ 4 * n
+bytes-front l n h = bytes-length (take n l) ∙ ap (λ (j : ℕ). 4 * j) (length-take-le n l h)
 
 pub names-length : (l : List ℕ) → length (namesOf l) ≡ 2 * length l
 names-length l = let h = spelled-length two 2 (λ x. refl) l in omega arith

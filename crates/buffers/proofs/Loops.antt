@@ -7,8 +7,8 @@ use native.Mathlib.Numerals.{add-one}
 use borrow.Rule.Slice.PartMut.{putMid, post-is}
 use borrow.Author.Fill.{fill-more}
 use lib.ListN.{length, getD, set, take, drop, replicate, drop-of-length-le}
-use lib.Seq.{sets, set-at, take-suc, drop-cons, take-all, length-take-le, drop-length}
-use Rattle.buffers.specs.Bytes.{wordFrom, wordsOf, spelled}
+use lib.Seq.{sets, set-at, take-suc, drop-at, drop-cons, drop-drop, take-all, length-take-le, drop-length}
+use Rattle.buffers.specs.Bytes.{wordFrom, four, wordsOf, spelled, bytesOf}
 use Rattle.buffers.proofs.BytesLaws.{words-length, word-at, spelled-length, spelled-more}
 
 -- words loaded at the front
@@ -22,6 +22,17 @@ loaded-more s words loaded i w h g e f =
     ∙ set-at (take i W) (getD words i 0) (drop (suc i) words) w i (length-take-le i W (omega arith))
     ∙ sym (append-assoc (take i W) (w ∷ []) (drop (suc i) words))
     ∙ rw (add-one i) (ap (λ (x : List ℕ). x ++ drop (suc i) words) front)
+
+-- two words more, laid down at once
+pub loaded-two : (s words loaded after : List ℕ) (i next : ℕ) → i + 2 ≡ next → next ≤ length words → next ≤ length s / 4
+    → loaded ≡ take i (wordsOf s) ++ drop i words → after ≡ sets loaded i (wordFrom s (4 * i) ∷ wordFrom s (4 * i + 4) ∷ [])
+    → after ≡ take next (wordsOf s) ++ drop next words
+loaded-two s words loaded after i next e h g f l =
+    let one = loaded-more s words loaded i (wordFrom s (4 * i)) (omega arith) (omega arith) refl f in
+    let at : 4 * i + 4 ≡ 4 * (i + 1) = omega arith in
+    let two = loaded-more s words _ (i + 1) (wordFrom s (4 * i + 4)) (omega arith) (omega arith) (ap (wordFrom s) at) one in
+    let end : i + 1 + 1 ≡ next = omega arith in
+    l ∙ rw (← add-one i) (rw end at two)
 
 -- numbers of k bytes each stored from the front
 module _ (f : ℕ → List ℕ) (k : ℕ) (wide : (x : ℕ) → length (f x) ≡ k) (l b : List ℕ) where
@@ -37,6 +48,29 @@ module _ (f : ℕ → List ℕ) (k : ℕ) (wide : (x : ℕ) → length (f x) ≡
 
   pub stored-all : (s : List ℕ) (i at : ℕ) → length l ≤ i → s ≡ spelled f (take i l) ++ drop at b → s ≡ spelled f l ++ drop at b
   stored-all s i at h e = e ∙ ap (λ (x : List ℕ). spelled f x ++ drop at b) (take-all i l h)
+
+-- one word more, and two, at their places
+pub stored-one : (l b s s′ : List ℕ) (i next : ℕ) → i + 1 ≡ next → i < length l → 4 * length l ≤ length b
+    → s ≡ bytesOf (take i l) ++ drop (4 * i) b → s′ ≡ sets s (4 * i) (four (getD l i 0)) → s′ ≡ bytesOf (take next l) ++ drop (4 * next) b
+stored-one l b s s′ i next n h r e g =
+    rw n at (stored-more four 4 (λ x. refl) l b s s′ i (4 * i) (4 * (i + 1)) h (omega arith) (omega arith) (omega arith) e g)
+
+pub stored-two : (l b s s′ : List ℕ) (i next : ℕ) → i + 2 ≡ next → i + 1 < length l → 4 * length l ≤ length b
+    → s ≡ bytesOf (take i l) ++ drop (4 * i) b → s′ ≡ sets (sets s (4 * i) (four (getD l i 0))) (4 * (i + 1)) (four (getD l (i + 1) 0))
+    → s′ ≡ bytesOf (take next l) ++ drop (4 * next) b
+stored-two l b s s′ i next n h r e g =
+    stored-one l b _ s′ (i + 1) next (omega arith) h r (stored-one l b s _ i (i + 1) refl (omega arith) r e refl) g
+
+-- what stands behind a part laid at the front has stayed; so a loop may begin anew there
+module _ (P b₀ b₁ : List ℕ) (i : ℕ) (n : length P ≡ i) (e : b₁ ≡ P ++ drop i b₀) where
+  pub behind : (j : ℕ) → i ≤ j → drop j b₁ ≡ drop j b₀
+  behind j h =
+      let m : i + (j - i) ≡ j = omega arith in
+      let back : (x : List ℕ) → drop (j - i) (drop i x) ≡ drop j x = λ x. drop-drop (j - i) i x ∙ ap (λ (k : ℕ). drop k x) m in
+      ap (drop j) e ∙ sym (back (P ++ drop i b₀)) ∙ ap (drop (j - i)) (drop-at P (drop i b₀) i n) ∙ back b₀
+
+  pub begun : b₁ ≡ P ++ drop i b₁
+  begun = e ∙ ap (λ (x : List ℕ). P ++ x) (sym (behind i (omega arith)))
 
 -- zeros from the front
 pub cleared-more : (s b : List ℕ) (i : ℕ) → i < length b → s ≡ replicate i 0 ++ drop i b → set s i 0 ≡ replicate (i + 1) 0 ++ drop (i + 1) b
