@@ -5,7 +5,7 @@ use mathlib.Core.List.{List}
 use Rattle.wire.specs.Bits.{bitAt, digits}
 use Rattle.wire.specs.Number.{code5, code8}
 use Rattle.wire.specs.Lawful.{Stands}
-use Rattle.bit_reader.specs.Codes.{Told, wallOf, answered}
+use Rattle.bit_reader.specs.Codes.{Told, wallOf}
 use Rattle.bit_reader.specs.declared.codes.Coding.{Coding}
 use Rattle.bit_reader.specs.declared.codes.Coding.the-variants.{Fixed, Five, Eight}
 

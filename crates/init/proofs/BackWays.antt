@@ -1,13 +1,11 @@
 -- Ways through the functions that end a reading.
 use Prim.Native.Nat.{ℕ, zero, suc, _+_, _-_, _*_, _/_, _≤_, _<_, min}
-use mathlib.Core.Path.{_≡_, refl, sym, ap, _∙_}
-use mathlib.Core.Bool.{Bool, true, false, cond}
-use mathlib.Core.List.{List, [], _∷_, _++_}
+use mathlib.Core.Path.{_≡_, sym, ap, _∙_}
+use mathlib.Core.List.{List, [], _++_}
 use native.Mathlib.Omega.{arith}
 use native.Mathlib.Decide.{decLt}
 use borrow.Author.Tests.{lt-ltb, le-ltb}
 use lib.ListN.{length, set, drop, replicate, length-replicate}
-use lib.Seq.{drop-nil}
 use Rattle.buffers.specs.Bytes.{bytesOf}
 use Rattle.numbers.specs.Refusal.{accepted, leftOver}
 use Rattle.numbers.specs.Limit.{initWords, mostMessage}
@@ -15,7 +13,7 @@ use Rattle.init.specs.declared.Answer.{Answer}
 use Rattle.init.specs.declared.reading.Run.{Run}
 use Rattle.init.specs.declared.reading.Run.the-variants as run
 use Rattle.init.specs.Plan.{plan}
-use Rattle.init.specs.Read.{Reading, read, wallOf, ended, initRead}
+use Rattle.init.specs.Read.{read, wallOf, ended, initRead}
 use Rattle.init.specs.Read.Reading.{given, refused}
 use Rattle.init.specs.Reads.{Done, Stopped, Ran, whole}
 use Rattle.init.specs.Back.{Back, back, backIs, readBack, Finished, Zeros}

@@ -1,11 +1,11 @@
 -- What an item that was found says: it passed each judgement, and lies below the wall.
 use Prim.Native.Nat.{ℕ, _+_, _-_, _*_, _≤_, _<_}
-use mathlib.Core.Path.{_≡_, refl, sym, ap, _∙_}
-use mathlib.Core.Bool.{Bool, true, false, cond}
+use mathlib.Core.Path.{_≡_, refl, sym, ap}
+use mathlib.Core.Bool.{false, cond}
 use mathlib.Core.List.{List}
 use native.Mathlib.Omega.{arith}
 use native.Mathlib.Decide.{decLt, decLe, ℕ-discrete}
-use borrow.Author.Tests.{lt-ltb, le-ltb, eq-eqb, ne-eqb, lt-leb, le-leb}
+use borrow.Author.Tests.{lt-ltb, le-ltb, eq-eqb, ne-eqb, lt-leb}
 use lib.ListN.{getD}
 use lib.Dec.{ltb, eqb}
 use Rattle.numbers.specs.Refusal.{accepted, pastEnd, notShortest, tooLarge}
@@ -16,7 +16,7 @@ use Rattle.init.specs.declared.Item.the-variants as item
 use Rattle.init.specs.declared.Slot.the-variants as slot
 use Rattle.init.specs.declared.Phase.{Phase}
 use Rattle.init.specs.declared.Phase.the-variants.{Profile, UnitByte, NoFlags, Length, Flags, Schemas, Uri, Hint, Codecs, Codec, Types, OneType, Formats, NoFormats, Description, End}
-use Rattle.init.specs.Items.{Head, byteAt, secondAt, numberAt, headOf, headAt, before, body, after, pass, restAt, itemAt, two}
+use Rattle.init.specs.Items.{Head, byteAt, secondAt, numberAt, headOf, headAt, before, body, after, restAt, itemAt, two}
 use Rattle.init.specs.Items.Head.{eight, byte, nothing}
 use Rattle.init.specs.Phases.{itemOf, slotOf, reach, grown, spare, ends}
 use Rattle.init.specs.Reads.{slotIndex}

@@ -1,14 +1,14 @@
 -- Ways through the functions that read an item.
-use Prim.Native.Nat.{ℕ, zero, suc, _+_, _-_, _*_, _/_, _%_, _≤_, _<_}
-use mathlib.Core.Path.{_≡_, refl, sym, ap, _∙_}
-use mathlib.Core.Bool.{Bool, true, false, cond}
+use Prim.Native.Nat.{ℕ, _+_, _-_, _*_, _/_, _%_, _≤_, _<_}
+use mathlib.Core.Path.{_≡_, refl, sym}
+use mathlib.Core.Bool.{true, false}
 use mathlib.Core.List.{List}
 use native.Mathlib.Omega.{arith}
 use borrow.Author.Tests.{lt-ltb, le-ltb, le-leb, lt-leb, eq-eqb, ne-eqb}
 use lib.ListN.{getD}
 use Rattle.numbers.specs.Refusal.{accepted, pastEnd, notShortest, tooLarge, noSuchCode, reservedBits, noSchemas, manySchemas, advancedFlag}
 use Rattle.numbers.specs.Limit.{mostVlu8, mostSchemas, mostUnit}
-use Rattle.wire.specs.Res.{Res, got, fault, guard, atMost, _>>=_, _>>_}
+use Rattle.wire.specs.Res.{got, fault, guard, atMost, _>>=_, _>>_}
 use Rattle.init.specs.declared.Item.{Item}
 use Rattle.init.specs.declared.Item.the-variants.{Number, UnitByte, Length, Flags, Schemas, Uri, Text, Formats, NoFlags, NoFormats}
 use Rattle.init.specs.declared.items.Number.{Number as Numbers}

@@ -1,7 +1,7 @@
 -- Ways through the functions that end a writing.
-use Prim.Native.Nat.{ℕ, zero, suc, _+_, _-_, _*_, _/_, _≤_, _<_}
+use Prim.Native.Nat.{ℕ, suc, _+_, _-_, _/_, _≤_, _<_}
 use mathlib.Core.Path.{_≡_, refl, sym, ap, _∙_}
-use mathlib.Core.Bool.{Bool, true, false, cond}
+use mathlib.Core.Bool.{true, false}
 use mathlib.Core.List.{List, [], _∷_, _++_}
 use native.Mathlib.Omega.{arith}
 use native.Mathlib.Decide.{decLt, decLe}
@@ -12,13 +12,12 @@ use lib.Seq.{sets, sets-eq}
 use Rattle.buffers.specs.Bytes.{wordsOf}
 use Rattle.buffers.proofs.BytesLaws.{words-length}
 use Rattle.numbers.specs.Refusal.{accepted, noReading, payloadRoom}
-use Rattle.numbers.specs.Limit.{initWords, mostWord}
+use Rattle.numbers.specs.Limit.{initWords}
 use Rattle.init.specs.declared.Answer.{Answer}
 use Rattle.init.specs.declared.writing.Ink.{Ink}
 use Rattle.init.specs.declared.writing.Wrote.{Wrote}
 use Rattle.init.specs.declared.writing.Wrote.the-variants as all
-use Rattle.init.specs.Plan.{plan}
-use Rattle.init.specs.Write.{Writing, write, closed, initWrite}
+use Rattle.init.specs.Write.{closed, initWrite}
 use Rattle.init.specs.Write.Writing.{wrote, refused}
 use Rattle.init.specs.Writes.{Page, inkIs, page, dot, inked, Finished, Written, wholly}
 use Rattle.init.specs.Made.{Made, made, madeIs, writeBack, Closed}

@@ -1,18 +1,18 @@
 -- Ways through the functions that read item by item.
-use Prim.Native.Nat.{ℕ, _+_, _-_, _*_, _/_, _≤_, _<_}
+use Prim.Native.Nat.{ℕ, _+_, _-_, _*_, _/_, _≤_}
 use mathlib.Core.Path.{_≡_, refl, sym, ap, _∙_}
 use mathlib.Core.Bool.{Bool, true, false, cond}
-use mathlib.Core.List.{List, [], _∷_, _++_}
+use mathlib.Core.List.{List, [], _++_}
 use native.Mathlib.Omega.{arith}
 use native.Mathlib.Decide.{decLe}
 use borrow.Author.Tests.{le-leb, lt-leb}
-use lib.ListN.{length, take, drop, length-append, length-drop}
+use lib.ListN.{length, drop, length-append, length-drop}
 use lib.Seq.{sets, sets-eq, take-at, drop-at, drop-drop}
 use Rattle.buffers.specs.Bytes.{four, bytesOf, spelled}
 use Rattle.buffers.proofs.BytesLaws.{bytes-length, spelled-append}
-use Rattle.numbers.specs.Refusal.{accepted, eventRoom}
-use Rattle.numbers.specs.Limit.{initWords, mostMessage, mostVlu8}
-use Rattle.wire.specs.Res.{Res, got, fault}
+use Rattle.numbers.specs.Refusal.{eventRoom}
+use Rattle.numbers.specs.Limit.{initWords, mostMessage}
+use Rattle.wire.specs.Res.{got, fault}
 use Rattle.init.specs.declared.Item.{Item}
 use Rattle.init.specs.declared.Slot.{Slot}
 use Rattle.init.specs.declared.Slot.the-variants as slot
@@ -25,18 +25,18 @@ use Rattle.init.specs.declared.reading.Kept.the-variants as kept
 use Rattle.init.specs.declared.reading.State.{State}
 use Rattle.init.specs.declared.reading.Turn.{Turn}
 use Rattle.init.specs.declared.reading.Turn.the-variants as turn
-use Rattle.init.specs.Items.{itemAt, two, one, other, laid, words, before, headOf}
+use Rattle.init.specs.Items.{itemAt, two, one, other, words, headOf}
 use Rattle.init.specs.Found.{foundIs, told}
-use Rattle.init.specs.Plan.{Plan, plan}
+use Rattle.init.specs.Plan.{plan}
 use Rattle.init.specs.Plan.Plan.{done}
 use Rattle.init.specs.Phases.{itemOf, slotOf, restOf, ends, goes, planOf, reach, grown, rank, spare}
 use Rattle.init.specs.Contracts.{Follows}
 use Rattle.init.specs.Read.{Reading, onItem, store, read}
-use Rattle.init.specs.Read.Reading.{given, refused}
-use Rattle.init.specs.Reads.{wordsIn, widthIn, slotIndex, Store, storeIs, storeOf, Carried, Reads, Gone, Turned, Done, Stopped, start, whole}
+use Rattle.init.specs.Read.Reading.{refused}
+use Rattle.init.specs.Reads.{wordsIn, widthIn, slotIndex, storeIs, storeOf, Carried, Reads, Gone, Turned, Done, Stopped, start, whole}
 use Rattle.init.specs.Reads.Store.{stored, full}
 use Rattle.init.proofs.KeepWays.{laid-length}
-use Rattle.init.proofs.Found.{Seen, item-seen, slot-lies, grown-lies, spare-spends, spends}
+use Rattle.init.proofs.Found.{item-seen, slot-lies, grown-lies, spare-spends, spends}
 
 -- the code's own item is what the meaning has
 seen : (f : Found) (i : Item) (s : List ℕ) (wall at v p q : ℕ) → foundIs f ≡ itemAt i s wall at → f ≡ found.Item v p q → itemAt i s wall at ≡ got (v, p, q)

@@ -1,8 +1,8 @@
 -- Ways through the functions that write an item.
-use Prim.Native.Nat.{ℕ, zero, suc, _+_, _-_, _*_, _/_, _%_, _≤_, _<_}
+use Prim.Native.Nat.{ℕ, _+_, _-_, _/_, _≤_}
 use mathlib.Core.Path.{_≡_, refl, sym, ap, _∙_}
 use mathlib.Core.Bool.{Bool, true, false, cond}
-use mathlib.Core.List.{List, [], _∷_, _++_}
+use mathlib.Core.List.{List, [], _++_}
 use native.Mathlib.Omega.{arith}
 use native.Mathlib.Decide.{decLe, ℕ-discrete}
 use borrow.Author.Tests.{leb-true, le-leb, lt-leb, eq-eqb, ne-eqb}
@@ -27,17 +27,16 @@ use Rattle.init.specs.declared.writing.Step.{Step}
 use Rattle.init.specs.declared.writing.Step.the-variants as step
 use Rattle.init.specs.declared.writing.Room.{Room}
 use Rattle.init.specs.declared.writing.Room.the-variants as room
-use Rattle.init.specs.Items.{headOf, headBytes, body, two}
+use Rattle.init.specs.Items.{headOf, body, two}
 use Rattle.init.specs.Plan.{plan}
 use Rattle.init.specs.Plan.Plan.{done}
 use Rattle.init.specs.Phases.{itemOf, slotOf, restOf, ends, goes, planOf, reach, grown, rank, spare}
 use Rattle.init.specs.Contracts.{Follows}
 use Rattle.init.specs.Reads.{slotIndex}
-use Rattle.init.specs.Write.{Value, Writing, Content, valueOf, contentOf, liesOf, content, bytesFor, onValue, width, index, wordIn, thereOf, usedBy, emit, write}
+use Rattle.init.specs.Write.{Value, Writing, valueOf, contentOf, liesOf, content, bytesFor, onValue, index, wordIn, thereOf, usedBy, emit, write}
 use Rattle.init.specs.Write.Value.{value, wrong}
-use Rattle.init.specs.Write.Content.{stretch, zeros}
-use Rattle.init.specs.Write.Writing.{wrote, refused}
-use Rattle.init.specs.Writes.{valueIs, valueIn, mostOf, Page, inkIs, page, inked, UsesIs, Put, Sent, Worded, Writes, Onward, Stepped, Finished, wholly, desk}
+use Rattle.init.specs.Write.Writing.{refused}
+use Rattle.init.specs.Writes.{valueIs, valueIn, mostOf, Page, inkIs, page, inked, UsesIs, Put, Worded, Writes, Onward, Stepped, Finished, wholly, desk}
 use Rattle.init.proofs.WriteWays.{inked-append}
 use Rattle.init.proofs.Found.{slot-lies}
 

@@ -1,7 +1,6 @@
 -- The number of an item is the wire's own vluimsbf8, read and written in whole bytes: one definition stands, told twice.
 use Prim.Native.Nat.{ℕ, _+_, _-_, _*_, _/_, _%_, _<_, _≤_}
-use mathlib.Core.Path.{_≡_, refl, sym, ap, _∙_}
-use mathlib.Core.Bool.{Bool, true, false, cond}
+use mathlib.Core.Path.{_≡_, sym, ap, _∙_}
 use mathlib.Core.List.{List, _++_, flatMap, append-nil}
 use native.Mathlib.Omega.{arith}
 use native.Mathlib.Decide.{decLt, ℕ-discrete}
@@ -13,7 +12,7 @@ use Rattle.wire.specs.Number.{second8At, number8, strict, read8, code8}
 use Rattle.wire.proofs.BitLaws.{fixed-in, fixed-past}
 use Rattle.wire.proofs.WindowLaws.{byte-num}
 use Rattle.numbers.specs.Refusal.{pastEnd}
-use Rattle.init.specs.Items.{byteAt, secondAt, numberAt, bytes8}
+use Rattle.init.specs.Items.{secondAt, numberAt, bytes8}
 use Rattle.init.proofs.ItemWays.{byte-is, byte-no}
 
 -- a place in bytes, told in bits

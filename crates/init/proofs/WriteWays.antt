@@ -1,7 +1,7 @@
 -- Ways through the functions that judge an item's words, and write bytes.
-use Prim.Native.Nat.{ℕ, zero, suc, _+_, _-_, _*_, _/_, _%_, _≤_, _<_}
+use Prim.Native.Nat.{ℕ, _+_, _-_, _*_, _/_, _%_, _≤_, _<_}
 use mathlib.Core.Path.{_≡_, refl, sym, ap, _∙_}
-use mathlib.Core.Bool.{Bool, true, false, cond}
+use mathlib.Core.Bool.{Bool, true, false}
 use mathlib.Core.List.{List, [], _∷_, _++_}
 use native.Mathlib.Omega.{arith}
 use native.Mathlib.Numerals.{add-one}
@@ -26,8 +26,7 @@ use Rattle.buffers.proofs.BytesLaws.{word-at, words-length}
 use Rattle.init.specs.Items.{headOf, headBytes, bytes8, two}
 use Rattle.init.specs.Reads.{slotIndex}
 use Rattle.init.specs.Write.{Value, within, valueOf, index, width, wordIn, thereOf, usedBy}
-use Rattle.init.specs.Write.Value.{value, wrong}
-use Rattle.init.specs.Writes.{UsesIs, valueIs, valueIn, mostOf, Page, inkIs, page, dot, inked}
+use Rattle.init.specs.Writes.{UsesIs, valueIs, valueIn, mostOf, Page, inkIs, dot, inked}
 
 -- how great a number is
 pub value-small : (v n : ℕ) → v ≤ n → valueIn (code.Value v) ≤ n

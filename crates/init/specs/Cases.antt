@@ -5,9 +5,9 @@ use mathlib.Core.List.{List, [], _∷_}
 use lib.ListN.{set, replicate}
 use Rattle.init.specs.Items.{byteAt, secondAt, numberAt, headOf, headAt, before, body, after, pass, restAt, itemAt, two, one, other, laid, words, bytes8, headBytes}
 use Rattle.init.specs.Plan.{types, codecs, schemas, formats, features, plan}
-use Rattle.init.specs.Read.{Reading, onItem, store, read, ended, initRead}
+use Rattle.init.specs.Read.{onItem, store, read, ended, initRead}
 use Rattle.init.specs.Read.Reading.{given, refused}
-use Rattle.init.specs.Write.{Writing, valueOf, contentOf, liesOf, content, onValue, index, wordIn, thereOf, usedBy, emit, write, closed, initWrite}
+use Rattle.init.specs.Write.{valueOf, contentOf, liesOf, content, onValue, index, wordIn, thereOf, usedBy, emit, write, closed, initWrite}
 use Rattle.init.specs.Write.{Writing as writing}
 use Rattle.init.specs.Calls.{writeBytes}
 use Rattle.wire.specs.Res.{guard, atMost, _>>=_, _>>_}

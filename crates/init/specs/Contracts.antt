@@ -1,11 +1,9 @@
 -- What the functions promise, besides equations.
-use Prim.Native.Nat.{ℕ, _+_, _≤_, _<_}
+use Prim.Native.Nat.{ℕ, _≤_, _<_}
 use mathlib.Core.Path.{_≡_}
-use Rattle.numbers.specs.Limit.{initWords}
 use Rattle.init.specs.declared.Phase.{Phase}
-use Rattle.init.specs.declared.Left.{Left}
 use Rattle.init.specs.Plan.{Plan}
-use Rattle.init.specs.Phases.{slotOf, restOf, planOf, rest, reach, rank, spare}
+use Rattle.init.specs.Phases.{planOf, reach, rank}
 
 -- the phase r comes behind the number v of an item
 pub record Follows (p : Plan) (words ranks : ℕ) (r : Phase) : Type 0 where

@@ -1,7 +1,7 @@
 -- ITEMS of a start-up message: what stands on the wire (001:1154-1176, 3310-3374), how it is judged, and which words it is told in.
-use Prim.Native.Nat.{ℕ, zero, suc, _+_, _-_, _*_, _/_, _%_}
+use Prim.Native.Nat.{ℕ, _+_, _-_, _*_, _/_, _%_}
 use mathlib.Core.Bool.{Bool, true, false, cond}
-use mathlib.Core.List.{List, [], _∷_, _++_}
+use mathlib.Core.List.{List, [], _∷_}
 use lib.Dec.{ltb, leb, eqb}
 use lib.ListN.{getD}
 use Rattle.numbers.specs.Refusal.{accepted, pastEnd, notShortest, tooLarge, noSuchCode, reservedBits, noSchemas, manySchemas, advancedFlag}

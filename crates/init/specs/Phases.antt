@@ -9,7 +9,7 @@ use Rattle.init.specs.declared.Slot.the-variants as slot
 use Rattle.init.specs.declared.Left.{Left}
 use Rattle.init.specs.declared.Phase.{Phase}
 use Rattle.init.specs.declared.Phase.the-variants.{Profile, UnitByte, NoFlags, Length, Flags, Schemas, Uri, Hint, Codecs, Codec, Types, OneType, Formats, NoFormats, Description, End}
-use Rattle.init.specs.Plan.{Plan, types, codecs, schemas, formats, description, listed, flags, features, unit, plan}
+use Rattle.init.specs.Plan.{Plan, types, codecs, schemas, formats, description, listed, flags, features, unit}
 use Rattle.init.specs.Plan.{Plan as plans}
 
 -- the item, its slot, and what its number lets come

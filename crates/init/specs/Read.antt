@@ -1,14 +1,13 @@
 -- THE READING of a start-up message: its words, or a refusal with its place. Refusals, their order and their places are here.
-use Prim.Native.Nat.{ℕ, _+_, _*_, min}
-use mathlib.Core.Bool.{Bool, true, false, cond}
-use mathlib.Core.List.{List, [], _∷_, _++_}
+use Prim.Native.Nat.{ℕ, _+_, min}
+use mathlib.Core.Bool.{cond}
+use mathlib.Core.List.{List, [], _++_}
 use lib.Dec.{ltb, leb}
 use lib.ListN.{length, set, replicate}
 use lib.Seq.{sets}
 use Rattle.numbers.specs.Refusal.{eventRoom, leftOver}
 use Rattle.numbers.specs.Limit.{mostMessage, initWords}
 use Rattle.wire.specs.Res.{Res, got, fault}
-use Rattle.init.specs.declared.Item.{Item}
 use Rattle.init.specs.declared.Slot.{Slot}
 use Rattle.init.specs.declared.Slot.the-variants.{Init, Codecs}
 use Rattle.init.specs.Items.{itemAt, words}

@@ -1,16 +1,15 @@
 -- What the functions that read promise: words stored, and a reading that goes on from where it is.
 use Prim.Native.Nat.{ℕ, _+_, _-_, _*_, _/_, _≤_, _<_}
 use mathlib.Core.Path.{_≡_}
-use mathlib.Core.Bool.{Bool, true, false, cond}
-use mathlib.Core.List.{List, [], _∷_, _++_}
+use mathlib.Core.Bool.{cond}
+use mathlib.Core.List.{List, [], _++_}
 use lib.Dec.{leb}
-use lib.ListN.{length, drop, replicate}
+use lib.ListN.{length, drop}
 use lib.Seq.{sets}
 use Rattle.buffers.specs.Bytes.{bytesOf}
 use Rattle.numbers.specs.Limit.{initWords}
 use Rattle.init.specs.declared.Slot.{Slot}
 use Rattle.init.specs.declared.Slot.the-variants as slot
-use Rattle.init.specs.declared.Phase.{Phase}
 use Rattle.init.specs.declared.Phase.the-variants.{Profile}
 use Rattle.init.specs.declared.reading.Run.{Run}
 use Rattle.init.specs.declared.reading.Run.the-variants as run

@@ -1,8 +1,8 @@
 -- THE WRITING of a start-up message from its words and the bytes that their stretches lie in, or a refusal at a word. Refusals, their
 -- order and their places are here.
 use Prim.Native.Nat.{ℕ, _+_, _-_, _*_, _/_, _%_}
-use mathlib.Core.Bool.{Bool, true, false, cond}
-use mathlib.Core.List.{List, [], _∷_, _++_}
+use mathlib.Core.Bool.{Bool, true, cond}
+use mathlib.Core.List.{List, [], _++_}
 use lib.Dec.{ltb, leb, eqb}
 use lib.ListN.{length, getD, take, drop, replicate}
 use Rattle.numbers.specs.Refusal.{noReading, outsideRow, payloadRoom, textBytes, noSchemas, manySchemas, advancedFlag}

@@ -1,10 +1,10 @@
 -- What the functions that write promise.
-use Prim.Native.Nat.{ℕ, _+_, _-_, _*_, _/_, _≤_, _<_}
+use Prim.Native.Nat.{ℕ, _+_, _-_, _≤_, _<_}
 use mathlib.Core.Path.{_≡_}
-use mathlib.Core.Bool.{Bool, true, false, cond}
-use mathlib.Core.List.{List, [], _∷_, _++_}
+use mathlib.Core.Bool.{Bool, true, false}
+use mathlib.Core.List.{List, [], _∷_}
 use lib.Dec.{ltb}
-use lib.ListN.{length, set, drop}
+use lib.ListN.{length, set}
 use Rattle.init.specs.declared.writing.Value.{Value as Values}
 use Rattle.init.specs.declared.writing.Value.the-variants as code
 use Rattle.init.specs.declared.writing.Ink.{Ink}

@@ -15,7 +15,7 @@ use Rattle.wire.proofs.Laws5.{number-found5, any-code-read}
 use Rattle.value.specs.Code.{HasCode, bitsOf}
 use Rattle.value.proofs.CodeLaws.{code-lawful}
 use Rattle.value.proofs.SimpleLaws.{simple-found, simple-reads}
-use Rattle.model.specs.Model.{Item, Types, effectiveType}
+use Rattle.model.specs.Model.{Item, Types}
 use Rattle.model.specs.Items.{Lengths, never, optional, always, flag, Form, present, simply, formOf, FormIs, is-present, is-simple, ItemIs, Length, free, long, Measures, InGroups, HeadIs, no-head, flag-off, flag-on, head-on, formAt, itemAt, Head, lengthAt, headAt, substituteCode, typeCode, CodesAre, both, codesAt}
 
 pub record FoundItem (b : ℕ → ℕ) (i : Item) (wall at v : ℕ) (ts : List ℕ) (q : ℕ) : Type 0 where

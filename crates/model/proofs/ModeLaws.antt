@@ -6,10 +6,10 @@ use mathlib.Core.List.{List, []}
 use native.Mathlib.Omega.{arith}
 use Rattle.table.specs.First.Verdict.{right}
 use Rattle.table.specs.Valid.{verdict}
-use Rattle.table.specs.Words.{particlesIn, substitutesIn}
+use Rattle.table.specs.Words.{particlesIn}
 use Rattle.table.specs.Rows.{tableOf}
 use Rattle.table.proofs.CastLaws.{no-substitutes}
-use Rattle.model.specs.Model.{Types, only, tableIn, typesOf}
+use Rattle.model.specs.Model.{only, tableIn, typesOf}
 use Rattle.model.specs.Modes.{offers, typesBy, Choosing}
 use Rattle.model.specs.declared.Choices.{Choices}
 

@@ -19,7 +19,6 @@ use Rattle.model.specs.Model.Answer.{given, refused}
 use Rattle.model.specs.Items.{Lengths, never, optional, always, itemAt, Length, free, long, coded, Head, lengthAt, headAt, codesAt}
 use Rattle.model.specs.Grammar.{castIn}
 use Rattle.model.proofs.ItemLaws.{headOf, stopOf}
-use Rattle.model.proofs.Join.{onto-onto, onto-none, less-none}
 use Rattle.model.specs.Read.{Room, roomLess, lessOne, onto, after, code, kept, stored, met, ended, closed, Into, castAt, entered, mark, bare, sized, opened, elementAt, read}
 
 -- the codes' event by itself, before what is inside; how many slots it takes

@@ -10,7 +10,7 @@ use Rattle.numbers.specs.Refusal.{payloadSize, leftOver, noReading, payloadRoom
 use Rattle.numbers.specs.Kind as kinds
 use Rattle.numbers.specs.Limit.{mostEvents, mostName, mostPayload, parties}
 use Rattle.numbers.specs.Mode as modes
-use Rattle.numbers.specs.Mode.{alwaysByte, neverByte, optionalByte}
+use Rattle.numbers.specs.Mode.{neverByte, optionalByte}
 use Rattle.wire.specs.Res.{Res, got, fault, _>>=_, _>>_, atMost}
 use Rattle.wire.specs.Bits.{bitAt}
 use Rattle.table.specs.First.{Verdict}

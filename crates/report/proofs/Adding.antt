@@ -2,17 +2,16 @@
 use Prim.Native.Nat.{ℕ, zero, suc, _+_, _-_, _*_, _≤_, _<_}
 use mathlib.Core.Path.{_≡_, refl, sym, ap, _∙_}
 use mathlib.Core.Bool.{Bool, true, false, cond}
-use mathlib.Core.List.{List, [], _∷_}
+use mathlib.Core.List.{List, []}
 use native.Mathlib.Omega.{arith}
 use borrow.Author.Tests.{lt-ltb, le-ltb, eq-eqb, ne-eqb}
-use lib.Dec.{eqb, ltb}
-use lib.ListN.{length, getD, set, drop, length-set}
+use lib.ListN.{length, getD, set, drop}
 use lib.Seq.{sets, getD-set-same, getD-drop}
 use Rattle.model.specs.Model.{Event}
-use Rattle.report.specs.Eights.{numberFrom, eight, numbersOf, bytesOf}
+use Rattle.report.specs.Eights.{eight, numbersOf, bytesOf}
 use Rattle.report.specs.Places.{numbers, reportBytes, limit, answered, answers}
 use Rattle.report.specs.Report.{at, plus, accepts, refuses, sums, fits, settled, adds}
-use Rattle.report.specs.Sums.{Sum, within, passed, andThen, put, countsIn, acceptsIn, numbersIn, sumOf, eventIn, eventsIn, Octets}
+use Rattle.report.specs.Sums.{within, passed, andThen, put, countsIn, acceptsIn, numbersIn, sumOf, eventsIn, Octets}
 use Rattle.report.proofs.EightLaws.{put-back, whole-back, numbers-length}
 use Rattle.report.proofs.Passing.{settle, Fits, fits-true, fits-false, fits-set, Names, accepts-settle}
 

@@ -1,5 +1,5 @@
 -- Request 11's examples, computed from the definitions: adds in turn, and the numbers that are not 0 afterwards, each behind its place.
-use Prim.Native.Nat.{ℕ, zero, suc, _+_, _-_, _*_}
+use Prim.Native.Nat.{ℕ, _+_, _-_}
 use mathlib.Core.Path.{_≡_, refl}
 use mathlib.Core.Bool.{Bool, true, false}
 use mathlib.Core.List.{List, [], _∷_}

@@ -4,19 +4,17 @@ use mathlib.Core.Path.{_≡_, refl, sym, ap, _∙_}
 use mathlib.Core.Bool.{Bool, true, false, cond}
 use mathlib.Core.List.{List, [], _∷_}
 use native.Mathlib.Omega.{arith}
-use native.Mathlib.Numerals.{add-one}
-use borrow.Author.Tests.{lt-ltb, le-ltb, ltb-true, ltb-false, eq-eqb, ne-eqb, eqb-true, eqb-false}
+use borrow.Author.Tests.{ltb-true, ltb-false, eq-eqb, ne-eqb, eqb-true, eqb-false}
 use lib.Dec.{eqb, ltb}
-use lib.ListN.{length, getD, set, replicate, length-set, length-replicate, getD-replicate}
+use lib.ListN.{length, getD, set, replicate, length-set, length-replicate}
 use lib.Seq.{getD-set-same, getD-set-other}
-use Rattle.model.specs.Model.{Event, Nodes, events}
-use Rattle.model.specs.Items.{Mode}
+use Rattle.model.specs.Model.{Event, events}
 use Rattle.model.specs.Trees.{total}
-use Rattle.model.specs.Whole.{Reply, reading, outcome}
+use Rattle.model.specs.Whole.{Reply, outcome}
 use Rattle.model.specs.Whole.Reply.{accepted, declined}
 use Rattle.theorems.proofs.Reader.{bits-add-up, list-fits}
 use Rattle.theorems.proofs.NamedReading.{zero-accepts}
-use Rattle.report.specs.Places.{numbers, limit, stopped, totalBits, modeBits, paddingBits, answered, answers, other, lines, seen, own, blanked}
+use Rattle.report.specs.Places.{numbers, stopped, totalBits, modeBits, paddingBits, answered, answers, other, seen, own, blanked}
 use Rattle.report.specs.Report.{Sort, at, plus, named, sortOf, lineFor, bitsTo, met, openAfter, counted, countedThen, counts, accepts, refuses, sums, fits, settled, adds, added}
 use Rattle.report.specs.Report.Sort.{begins, blank, ends, inside}
 use Rattle.report.specs.Sums.{Line, Lines}

@@ -7,8 +7,8 @@ use mathlib.Core.Bool.{Bool, true, false}
 use native.Mathlib.Numerals.{add-one}
 use borrow.Author.Tests.{ltb-true, ltb-false}
 use lib.Dec.{ltb}
-use lib.ListN.{length, getD, set, take, drop, length-drop, List·getD-eq-default}
-use lib.Seq.{take-suc, take-suc-set, take-all, sets, getD-drop, drop-set-lt, drop-set-add, getD-set-same, getD-set-other, drop-length, length-sets}
+use lib.ListN.{length, getD, set, take, drop, List·getD-eq-default}
+use lib.Seq.{take-suc, take-suc-set, take-all, sets, getD-drop, length-sets}
 use Rattle.buffers.specs.Bytes.{wordFrom, spelled}
 use Rattle.report.specs.Eights.{number, numberFrom, eight, numbersOf, bytesOf}
 use Rattle.report.specs.Places.{numbers, reportBytes, limit}

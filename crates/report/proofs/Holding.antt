@@ -1,30 +1,29 @@
 -- Theorem (b): each line holds what its name comes to.
-use Prim.Native.Nat.{ℕ, zero, suc, _+_, _-_, _*_, _%_, _≤_, _<_}
+use Prim.Native.Nat.{ℕ, zero, suc, _+_, _-_, _*_, _%_, _≤_}
 use mathlib.Core.Path.{_≡_, refl, sym, ap, _∙_}
 use mathlib.Core.Bool.{Bool, true, false, cond}
 use mathlib.Core.List.{List, [], _∷_, map}
 use native.Mathlib.Omega.{arith}
-use borrow.Author.Tests.{ltb-true, ltb-false, eq-eqb, ne-eqb, eqb-true, eqb-false}
+use borrow.Author.Tests.{ltb-true, eq-eqb, ne-eqb, eqb-true, eqb-false}
 use lib.Dec.{eqb, ltb}
-use lib.ListN.{length, getD, set, replicate, length-set, length-replicate}
-use lib.Seq.{getD-set-same, getD-set-other}
+use lib.ListN.{length, replicate, length-set, length-replicate}
+use lib.Seq.{getD-set-other}
 use Rattle.model.specs.Model.{Event, Nodes, events}
 use Rattle.model.specs.Model.Nodes.{none, leaf, node}
 use Rattle.model.specs.Items.{Mode}
-use Rattle.model.specs.Whole.{Reply, reading, outcome}
+use Rattle.model.specs.Whole.{Reply}
 use Rattle.model.specs.Whole.Reply.{accepted, declined}
-use Rattle.model.specs.Entries.{planOf}
 use Rattle.theorems.proofs.Reader.{reading-sound}
-use Rattle.report.specs.Places.{numbers, stopped, totalBits, modeBits, paddingBits, answered, answers, other, firstLine, lines, seen, own, blanked}
-use Rattle.report.specs.Report.{Sort, at, plus, named, lineFrom, lineOf, sortOf, innermost, outer, lineFor, bitsTo, met, openAfter, counted, countedThen, counts, accepts, refuses, sums, adds, added}
+use Rattle.report.specs.Places.{numbers, stopped, totalBits, modeBits, paddingBits, answered, answers, other, firstLine, lines}
+use Rattle.report.specs.Report.{Sort, at, plus, named, lineFrom, lineOf, sortOf, innermost, outer, lineFor, bitsTo, met, openAfter, counted, countedThen, counts, accepts, refuses, sums, added}
 use Rattle.report.specs.Report.Sort.{begins, blank, ends, inside}
 use Rattle.report.specs.Sums.{Line, Lines}
-use Rattle.report.specs.Owners.{innermostIs, ownerIs, ownedBy, metOnce, metBy, blankedOnce, blankedBy, treeOwned, childBits, noted, notedIf, notes, placeFrom, placeOf}
+use Rattle.report.specs.Owners.{innermostIs, ownerIs, ownedBy, metOnce, metBy, blankedOnce, blankedBy, treeOwned, noted, notedIf, notes, placeFrom, placeOf}
 use Rattle.report.specs.Theorems.{Payload, replyTo, fresh, after, ofTree, over, notesOf, namesMet, LineHolds, LinesHold}
 use Rattle.report.proofs.Passing.{for-line}
 use Rattle.report.proofs.Columns.{counted-length, went-on, refused-sums, stopped-stays, zeros-at, refused-least}
 use Rattle.report.proofs.Owners.{is-leaves, root-all, tree-owned}
-use Rattle.report.proofs.NameLines.{Match, found, has, has-noted, Stable, stable-notes, place-is, place-lines, Kept, match-kept, Noted, match-noted, put-at, met-noted, met-at}
+use Rattle.report.proofs.NameLines.{Match, found, has-noted, Stable, stable-notes, place-is, place-lines, Kept, match-kept, match-noted, put-at, met-noted, met-at}
 
 -- whose an event is, a Blank's too
 whose : (ℕ → Bool) → Bool → Sort → ℕ → List ℕ → Bool

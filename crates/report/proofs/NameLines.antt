@@ -6,16 +6,15 @@ use mathlib.Core.List.{List, [], _∷_, map}
 use native.Mathlib.Omega.{arith}
 use borrow.Author.Tests.{eq-eqb, ne-eqb, eqb-true, eqb-false}
 use lib.Dec.{eqb}
-use lib.ListN.{length, getD, set, length-set}
+use lib.ListN.{length, set, length-set}
 use lib.Seq.{getD-set-same, getD-set-other}
 use Rattle.model.specs.Model.{Event}
-use Rattle.report.specs.Places.{numbers, other, firstLine, lines, seen, own, blanked}
-use Rattle.report.specs.Report.{Sort, at, plus, named, lineFrom, lineOf, sortOf, innermost, outer, lineFor, bitsTo, met, openAfter, counted, countedThen, counts}
+use Rattle.report.specs.Places.{numbers, other, firstLine, lines}
+use Rattle.report.specs.Report.{Sort, at, plus, named, lineFrom, sortOf}
 use Rattle.report.specs.Report.Sort.{begins, blank, ends, inside}
 use Rattle.report.specs.Sums.{Line, Lines}
-use Rattle.report.specs.Owners.{innermostIs, ownerIs, ownedBy, metOnce, metBy, blankedOnce, blankedBy, noted, notedIf, notes, placeFrom, placeOf}
-use Rattle.report.proofs.Passing.{for-line}
-use Rattle.report.proofs.Columns.{named-length, counted-length}
+use Rattle.report.specs.Owners.{noted, notedIf, notes, placeFrom, placeOf}
+use Rattle.report.proofs.Columns.{named-length}
 
 -- the names so far have the lines in use, in order, and all lines behind are free
 unfoldable pub Match : List ℕ → (n i : ℕ) → List ℕ → Type 0

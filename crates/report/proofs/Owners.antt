@@ -1,5 +1,5 @@
 -- The owner by the list and by the tree: an element's own bits are its bits less those of its child elements.
-use Prim.Native.Nat.{ℕ, zero, suc, _+_, _-_, _≤_}
+use Prim.Native.Nat.{ℕ, _+_, _-_, _≤_}
 use mathlib.Core.Path.{_≡_, refl, sym, ap, _∙_}
 use mathlib.Core.Bool.{Bool, true, false, cond}
 use mathlib.Core.List.{List, [], _∷_, _++_, append-assoc, append-nil}
@@ -14,8 +14,8 @@ use Rattle.model.specs.Model.Plan.{done, element}
 use Rattle.model.specs.Model.Nodes.{none, leaf, node}
 use Rattle.model.specs.Items.{Lengths}
 use Rattle.model.specs.Grammar.{castIn, Is, nothing, an-item, an-element, a-blank}
-use Rattle.report.specs.Report.{Sort, sortOf, openAfter, outer}
-use Rattle.report.specs.Report.Sort.{begins, blank, ends, inside}
+use Rattle.report.specs.Report.{sortOf, openAfter, outer}
+use Rattle.report.specs.Report.Sort.{blank, inside}
 use Rattle.report.specs.Owners.{innermostIs, ownerIs, ownedBy, childBits, treeOwned}
 
 -- no leaf of what is read is a Start or an End

@@ -1,17 +1,17 @@
 -- The sums made number by number are the sums, where no number passes; and where one passes in between, one has passed in the end: numbers only grow,
 -- but for names, which fit.
 use Prim.Native.Nat.{ℕ, zero, suc, _+_, _-_, _*_, _%_, _≤_, _<_}
-use mathlib.Core.Path.{_≡_, refl, sym, ap, _∙_}
+use mathlib.Core.Path.{_≡_, refl, _∙_}
 use mathlib.Core.Bool.{Bool, true, false, cond}
 use mathlib.Core.List.{List, [], _∷_}
 use native.Mathlib.Omega.{arith}
-use borrow.Author.Tests.{lt-ltb, le-ltb, ltb-true, ltb-false, eqb-true, eqb-false}
+use borrow.Author.Tests.{lt-ltb, le-ltb, ltb-true, ltb-false, eqb-false}
 use lib.Dec.{eqb, ltb}
-use lib.ListN.{length, getD, set, length-set}
+use lib.ListN.{length, set, length-set}
 use lib.Seq.{getD-set-same, getD-set-other}
 use Rattle.model.specs.Model.{Event}
-use Rattle.report.specs.Places.{numbers, limit, other, firstLine, lines, seen, own, blanked, answered, totalBits, modeBits, paddingBits}
-use Rattle.report.specs.Report.{Sort, at, plus, lineFrom, lineOf, named, sortOf, innermost, outer, lineFor, bitsTo, met, openAfter, counted, countedThen, counts, accepts, fits}
+use Rattle.report.specs.Places.{numbers, limit, other, firstLine, lines, seen, own, blanked, answered, modeBits, paddingBits}
+use Rattle.report.specs.Report.{Sort, at, plus, lineFrom, lineOf, named, sortOf, innermost, lineFor, bitsTo, met, openAfter, counted, countedThen, counts, accepts, fits}
 use Rattle.report.specs.Report.Sort.{begins, blank, ends, inside}
 use Rattle.report.specs.Sums.{Sum, within, passed, andThen, put, metIn, countedIn, countedThenIn, countsIn, acceptsIn, Line, Lines}
 use Rattle.report.proofs.Ways.{lines-after}

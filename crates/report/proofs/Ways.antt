@@ -1,22 +1,22 @@
 -- The ways through the functions: what each answers, by what it met.
-use Prim.Native.Nat.{ℕ, zero, suc, _+_, _-_, _*_, _%_, _≤_, _<_}
+use Prim.Native.Nat.{ℕ, zero, suc, _+_, _-_, _*_, _≤_, _<_}
 use mathlib.Core.Path.{_≡_, refl, sym, ap, _∙_}
 use mathlib.Core.Bool.{Bool, true, false, cond}
 use mathlib.Core.List.{List, [], _∷_}
 use native.Mathlib.Omega.{arith}
 use native.Mathlib.Numerals.{add-one}
 use borrow.Author.Tests.{lt-ltb, le-ltb, eq-eqb, ne-eqb}
-use lib.Dec.{eqb, ltb}
-use lib.ListN.{length, getD, set, length-set}
+use lib.Dec.{eqb}
+use lib.ListN.{length, getD, set}
 use lib.Seq.{getD-set-same, getD-set-other}
 use Rattle.numbers.specs.Kind as kinds
 use Rattle.model.specs.Model.{Event}
-use Rattle.report.specs.Eights.{numberFrom, eight, numbersOf, bytesOf}
-use Rattle.report.specs.Places.{numbers, reportBytes, limit, other, seen, own, blanked, answered, answers}
-use Rattle.report.specs.Report.{Sort, at, plus, lineFrom, lineOf, named, sortOf, innermost, outer, lineFor, bitsTo, openAfter}
+use Rattle.report.specs.Eights.{numberFrom}
+use Rattle.report.specs.Places.{numbers, limit, other, seen}
+use Rattle.report.specs.Report.{Sort, at, lineFrom, lineOf, named, sortOf, innermost, outer, lineFor, bitsTo, openAfter}
 use Rattle.report.specs.Report.Sort.{begins, blank, ends, inside}
-use Rattle.report.specs.Sums.{Sum, within, passed, andThen, put, metIn, countedIn, countedThenIn, countsIn, numbersIn, sumOf, eventIn, eventsIn, stackOf, Line, Lines}
-use Rattle.report.proofs.EightLaws.{number-at, number-stored}
+use Rattle.report.specs.Sums.{Sum, within, andThen, put, metIn, countedIn, countedThenIn, countsIn, numbersIn, sumOf, eventIn, eventsIn, stackOf, Line, Lines}
+use Rattle.report.proofs.EightLaws.{number-at}
 
 -- numbers of a report
 pub at-way : (s : List ℕ) (i r : ℕ) → i < numbers → r ≡ numberFrom s (8 * i) → r ≡ at (numbersIn s) i

@@ -1,7 +1,7 @@
 -- Whose bits are whose. On a list of events: an event is its own element's, where it begins one, else the innermost element's that is open; a Blank's
 -- bits are nobody's own. On the tree: an element's own bits are its bits less those of its child elements.
 use Prim.Native.Nat.{ℕ, zero, suc, _+_, _-_}
-use mathlib.Core.Bool.{Bool, true, false, cond}
+use mathlib.Core.Bool.{Bool, false, cond}
 use mathlib.Core.List.{List, [], _∷_}
 use lib.Dec.{eqb}
 use Rattle.numbers.specs.Kind as kinds

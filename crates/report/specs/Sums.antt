@@ -4,7 +4,7 @@ use mathlib.Core.Path.{_≡_}
 use mathlib.Core.Bool.{Bool, true, false, cond}
 use mathlib.Core.List.{List, [], _∷_}
 use lib.Dec.{ltb}
-use lib.ListN.{length, getD}
+use lib.ListN.{getD}
 use Rattle.model.specs.Model.{Event, event}
 use Rattle.report.specs.Eights.{numbersOf}
 use Rattle.report.specs.Places.{numbers, limit, totalBits, modeBits, paddingBits, answered, other, seen}

@@ -7,7 +7,7 @@ use borrow.Author.Tests.{lt-ltb, le-ltb}
 use mir.Syntax.{w32}
 use mir.Val.{toZ}
 use mir.Facts.{toZ-pos}
-use Rattle.signed.specs.Words.{rank, under, gapOf, up, down, signOf, magnitudeOf, wordOf, wrapped}
+use Rattle.signed.specs.Words.{rank, gapOf, up, down, signOf, magnitudeOf, wordOf, wrapped}
 use Rattle.signed.proofs.Laws.{ordered, gap-over, gap-under, gap-small, gap-down, sign-low, sign-high, magnitude-low, magnitude-high, word-plus, word-minus}
 use Rattle.signed.specs.Numbers.{gapAs, number}
 

@@ -1,13 +1,13 @@
 -- THE READER'S NUMBER: a refusal's is from 1 on, so an answer with the number 0 is an acceptance.
 use Prim.Native.Nat.{ℕ, suc, _≤_}
 use mathlib.Core.Path.{_≡_, refl}
-use mathlib.Core.Bool.{Bool, true, false, cond}
+use mathlib.Core.Bool.{Bool, true, false}
 use mathlib.Core.List.{List, [], _∷_}
 use native.Mathlib.Omega.{arith}
 use lib.Dec.{leb, eqb}
 use lib.ListN.{length, getD}
 use Rattle.numbers.specs.Refusal as refusal
-use Rattle.wire.specs.Res.{got, fault, _>>_, guard, atMost}
+use Rattle.wire.specs.Res.{guard, atMost}
 use Rattle.table.specs.Rows.{tableOf}
 use Rattle.model.specs.Model.{Plan, Path}
 use Rattle.model.specs.Items.{Lengths, Mode}

@@ -1,5 +1,5 @@
 -- THE WRITER'S NUMBER: a refusal's is from 1 on, so an answer with the number 0 is a payload that was made.
-use Prim.Native.Nat.{ℕ, zero, suc, _+_, _/_, _%_, _≤_, min}
+use Prim.Native.Nat.{ℕ, _+_, _/_, _%_, _≤_, min}
 use mathlib.Core.Path.{_≡_, refl}
 use mathlib.Core.Bool.{Bool, true, false, cond}
 use mathlib.Core.List.{List, [], _∷_}

@@ -1,6 +1,6 @@
 -- Parties: the statements of specs/Parties.antt, proved.
-use Prim.Native.Nat.{ℕ, zero, suc, _+_, _*_, _/_, _%_, _^_, _<_, _≤_}
-use mathlib.Core.Path.{_≡_, refl, sym, ap, _∙_, subst}
+use Prim.Native.Nat.{ℕ, _/_, _%_, _^_, _<_, _≤_}
+use mathlib.Core.Path.{_≡_, refl, sym, ap, _∙_}
 use mathlib.Core.Bool.{Bool, true, false, cond, not, true≢false}
 use mathlib.Core.List.{List, [], _∷_}
 use native.Mathlib.Omega.{arith}
@@ -15,10 +15,10 @@ use Rattle.table.specs.First.{Verdict}
 use Rattle.table.specs.First.Verdict.{right, wrong}
 use Rattle.table.specs.Valid.{verdict}
 use Rattle.table.specs.Words.{typeAt, wordAt, typesIn}
-use Rattle.table.specs.Rows.{Table, tableOf, heldOf}
+use Rattle.table.specs.Rows.{heldOf}
 use Rattle.table.specs.Held.{Alike, Marks}
 use Rattle.table.specs.Setting.{marked, Setting, Change, refuses, accepts, settingBy, setting, settings}
-use Rattle.table.proofs.Bits.{one, marked-own, marked-other, marked-small, marked-both}
+use Rattle.table.proofs.Bits.{marked-own, marked-other, marked-small, marked-both}
 use Rattle.table.proofs.Held.{table-same, verdict-same}
 use Rattle.table.proofs.Laws.{mark-ok, sized, rows-within}
 use Rattle.model.specs.Model.{tableIn, rooted}

@@ -5,14 +5,14 @@ use mathlib.Core.Bool.{Bool, true, false, cond}
 use mathlib.Core.List.{List, [], _∷_}
 use native.Mathlib.Omega.{arith}
 use native.Mathlib.Decide.{decLt, ℕ-discrete}
-use borrow.Author.Tests.{eq-eqb, ne-eqb, eqb-true, ltb-true, lt-ltb}
+use borrow.Author.Tests.{eq-eqb, eqb-true, ltb-true, lt-ltb}
 use lib.Dec.{eqb, ltb}
 use lib.ListN.{length, getD}
 use Rattle.numbers.specs.Refusal as refusal
 use Rattle.numbers.specs.Refusal.{payloadSize}
 use Rattle.numbers.specs.Limit.{mostPayload}
 use Rattle.wire.specs.Res.{Res, got, fault, Ensures}
-use Rattle.wire.proofs.Res.{gives, stops, under, under-then}
+use Rattle.wire.proofs.Res.{under}
 use Rattle.wire.specs.Bits.{bitAt, source}
 use Rattle.wire.proofs.BitLaws.{bit-lt}
 use Rattle.value.specs.Simple.{bytesAt, AllBytes}

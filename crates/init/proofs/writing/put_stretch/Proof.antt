@@ -1,9 +1,9 @@
-use Prim.Native.Nat.{_+_, _-_, _≤_}
+use Prim.Native.Nat.{_-_, _≤_}
 use mathlib.Core.Path.{_≡_, refl}
 use native.Mathlib.Omega.{arith}
-use lib.ListN.{length, take, drop, replicate}
+use lib.ListN.{length, take, drop}
 use Rattle.init.specs.Writes.{inkIs, inked}
-use Rattle.init.proofs.WriteWays.{none-yet, stretch-more, zeros-more}
+use Rattle.init.proofs.WriteWays.{none-yet, stretch-more}
 use borrow.Author.Needs.{needs}
 use Rattle.init.proofs.writing.put_stretch.Statement.{statement}
 use Rattle.init.proofs.writing.put_stretch.Tie as tie
