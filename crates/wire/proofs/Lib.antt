@@ -7,7 +7,7 @@ pub mod Put
 pub mod ReadWays
 pub mod Res
 mod Steps
-mod Store
+pub mod Store
 mod Whole5
 pub mod Width
 pub mod WindowLaws

@@ -59,8 +59,17 @@ num-bits b c p q at (suc w) e j h l =
       | no k ↦ let f : j ≡ at + w = omega arith in rw f (omega arith)
     ]
 
+-- a word that was stored are its 64 bits, and no other bit changed
+pub whole-put : (s t : List ℕ) (i v : ℕ) → Stored s t i 8 v → Put (bitAt s) (bitAt t) (8 * i) (digits 64 v)
+unfolding bitAt
+whole-put s t i v f = record {
+  stands = rw (f .here) at (digits-num (bitAt t) (bit-lt t) (8 * i) 64);
+  before = λ j m. rw (f .below (j / 8) (omega arith));
+  after = λ j m. let n = length-digits 64 v in rw (f .above (j / 8) (omega arith));
+}
+
 -- the w lowest bits of v are those of what is left of it by 2^w
-digits-low : (w v : ℕ) → digits w (v % 2 ^ w) ≡ digits w v
+pub digits-low : (w v : ℕ) → digits w (v % 2 ^ w) ≡ digits w v
 unfolding digits
 digits-low zero v = refl
 digits-low (suc w) v =

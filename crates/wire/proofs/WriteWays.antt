@@ -11,6 +11,8 @@ use lib.Arith.{digits-lt}
 use lib.Pow.{pow-pos, pow-add, pow-mono, shl-exact}
 use Rattle.wire.specs.Bits.{bitAt, digits}
 use Rattle.wire.proofs.BitLaws.{length-digits}
+use Rattle.wire.specs.declared.Coded.{Coded}
+use Rattle.wire.specs.Coded.{Codes}
 use Rattle.wire.specs.Number.{more, codeOf5, code5, code8}
 use Rattle.wire.proofs.Groups.{pow16-more, more-is, more-shortest}
 use Rattle.wire.proofs.WindowLaws.{mask}
@@ -96,7 +98,7 @@ pub size5-is : (n v p : ℕ) → n ≡ more 7 v → p ≡ 5 * (n + 1) → p ≡ 
 size5-is n v p e f = f ∙ sym (length-code5 n v e)
 
 -- two runs of bits are the bits of one number
-digits-split : (m k a b : ℕ) → b < 2 ^ k → digits (m + k) (a * 2 ^ k + b) ≡ digits m a ++ digits k b
+pub digits-split : (m k a b : ℕ) → b < 2 ^ k → digits (m + k) (a * 2 ^ k + b) ≡ digits m a ++ digits k b
 unfolding digits
 digits-split m zero a b h =
     let e : a * 2 ^ 0 + b ≡ a = omega arith in
@@ -126,6 +128,16 @@ module _ (n v : ℕ) (e : n ≡ more 7 v) (h : n ≤ 7) (small : v < 2 ^ 32) whe
   five-digits =
       let d : 5 * (n + 1) ≡ n + 1 + 4 * (n + 1) = omega arith in
       rw (← e, d, ones-fit, digits-split (n + 1) (4 * (n + 1)) (1 * 2 ^ (n + 1) % 2 ^ 64 - 2) v groups-hold, unary n h) (append-assoc (replicate n 1) (0 ∷ []) (digits (4 * (n + 1)) v))
+
+  pub five-low : (1 * 2 ^ (n + 1) % 2 ^ 64 - 2) * 2 ^ (4 * (n + 1)) % 2 ^ 64 + v < 2 ^ (5 * (n + 1))
+  five-low =
+      let p : 2 ^ (n + 1) * 2 ^ (4 * (n + 1)) ≡ 2 ^ (n + 1 + 4 * (n + 1)) = sym (pow-add 2 (n + 1) (4 * (n + 1))) in
+      let d : n + 1 + 4 * (n + 1) ≡ 5 * (n + 1) = omega arith in
+      let u : 1 * 2 ^ (n + 1) % 2 ^ 64 - 2 < 2 ^ (n + 1) = rw (mask (n + 1) (omega arith)) (omega (arith, pow-pos (n + 1))) in
+      rw ones-fit (rw (p, d) at (digits-lt u groups-hold))
+
+  pub five-coded : Codes (record { size = 5 * (n + 1); bits = (1 * 2 ^ (n + 1) % 2 ^ 64 - 2) * 2 ^ (4 * (n + 1)) % 2 ^ 64 + v }) (code5 v)
+  five-coded = record { is = five-digits; low = five-low }
 
 pub put5-done : (s t : List ℕ) (at n v : ℕ) → n ≡ more 7 v → n ≤ 7 → v < 2 ^ 32
     → Put (bitAt s) (bitAt t) at (digits (5 * (n + 1)) ((1 * 2 ^ (n + 1) % 2 ^ 64 - 2) * 2 ^ (4 * (n + 1)) % 2 ^ 64 + v))

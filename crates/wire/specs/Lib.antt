@@ -2,6 +2,7 @@ pub mod Res
 pub mod Bits
 pub mod Width
 pub mod Number
+pub mod Coded
 pub mod Answer
 pub mod Lawful
 pub mod Put

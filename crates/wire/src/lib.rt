@@ -10,6 +10,12 @@ pub struct Bits(pub u32);
 // A count of bytes: a text's size, room.
 pub struct Bytes(pub u32);
 
+// A code as a number: the lowest bits of it, so many of them, the highest first.
+pub struct Coded {
+    pub size: u32,
+    pub bits: u64,
+}
+
 // A code's value and the place past it, or the number of a refusal.
 pub enum Read {
     Value(u32, Bits),

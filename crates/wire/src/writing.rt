@@ -1,5 +1,6 @@
 // Codes written into a lent buffer at a place; no other bit changes.
 use super::Bits;
+use super::Coded;
 use super::Read;
 use super::window::eight;
 use super::window::store;
@@ -8,7 +9,8 @@ ghost use mathlib.Core.Path.{_≡_};
 ghost use mathlib.Core.List.{[], _∷_};
 ghost use Prim.Native.Nat.{_+_, _*_, _/_, _%_, _^_, _≤_, _<_};
 ghost use lib.ListN.{length};
-ghost use Rattle.wire.specs.Bits.{bitAt, digits};
+ghost use Rattle.wire.specs.Bits.{bitAt, num, digits};
+ghost use Rattle.wire.specs.Coded.{Codes};
 ghost use Rattle.wire.specs.Number.{code5, code8, more};
 ghost use Rattle.wire.specs.Put.{Put, Room, Wrote, Wrote8};
 
@@ -144,6 +146,18 @@ pub fn size5(v: u32) -> Bits
     Bits(5 * (n + 1))
 }
 
+// The shortest vluimsbf5 of v, as a number.
+pub fn coded5(v: u32) -> Coded
+    ensures { λ r. ⌜ Codes r (code5 v) ⌝ }
+{
+    let m = extra(v) + 1;
+    let ones = (1u64 << m) - 2;
+    Coded {
+        size: 5 * m,
+        bits: (ones << (4 * m)) + (v as u64),
+    }
+}
+
 // The shortest vluimsbf5 of v; the place past it.
 pub fn put5(buf: &mut [u8], at: Bits, v: u32) -> Bits
     requires { ⌜ Room (now buf) (at .0) (length (code5 v)) ⌝ }
@@ -170,4 +184,20 @@ pub fn put8(buf: &mut [u8], at: Bits, v: u32) -> Read
     }
     let p = put(buf, at, 16, (128 + v / 128) * 256 + v % 128);
     Read::Value(v, p)
+}
+
+// The number that the eight bytes from byte i on are.
+pub fn whole(s: &[u8], i: usize) -> u64
+    requires { ⌜ i + 8 ≤ length (now s) ⌝ }
+    ensures { λ r. ⌜ r ≡ num (bitAt (now (s .entry))) (8 * i) 64 ⌝ }
+{
+    eight(s, i)
+}
+
+// The 64 bits of v, the highest first, as the eight bytes from byte i on.
+pub fn put_whole(buf: &mut [u8], i: usize, v: u64)
+    requires { ⌜ i + 8 ≤ length (now buf) ⌝ }
+    ensures { λ _. ⌜ Put (bitAt (now (buf .entry))) (bitAt (now (buf .exit))) (8 * i) (digits 64 v) ⌝ }
+{
+    store(buf, i, v);
 }
