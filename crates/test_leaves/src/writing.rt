@@ -105,9 +105,9 @@ pub extern "C" fn probe_size_simple(kind: u32, b: u32, c: u32, v: u32, out: &mut
 }
 
 // What a walk over one event noted, put down by the pen where its bits have room.
-fn put_noted(buf: &mut [u8], at: u32, v: u32, notes: &[u32], end: Spot, out: &mut [u32; 4]) -> u32
+fn put_noted(buf: &mut [u8], at: u32, v: u32, notes: &[u64], end: Spot, out: &mut [u32; 4]) -> u32
     requires { ⌜
-        (end .bits ≡ length (spells [] (now notes) 0 (end .event))) × (4 * end .event ≤ length (now notes)) ⌝ }
+        (end .bits ≡ length (spells [] (now notes) 0 (end .event))) × (end .event ≤ length (now notes)) ⌝ }
 {
     let most = reach(buf.len());
     if most < at {
@@ -129,7 +129,7 @@ fn put_in_room(buf: &mut [u8], at: u32, c: Code, v: u32, out: &mut [u32; 4]) -> 
         used: 0,
         bits: 0,
     };
-    let mut notes = [0u32; 4];
+    let mut notes = [0u64; 1];
     match note_code(&list, b"", &mut notes, start, 3, v, 0, c, v) {
         Judgement::Refuse(e, _) => refused(e, out),
         Judgement::Go(end) => put_noted(buf, at, v, &notes, end, out),
@@ -152,7 +152,7 @@ pub extern "C" fn probe_put_date(
         used: 0,
         bits: 0,
     };
-    let mut notes = [0u32; 4];
+    let mut notes = [0u64; 1];
     let clocked = kind == numbers::simple::DATE_TIME;
     match note_date(&list, b"", &mut notes, start, clocked, p, q) {
         Judgement::Refuse(e, _) => refused(e, out),

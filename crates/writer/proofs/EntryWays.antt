@@ -78,7 +78,7 @@ finish-used L X N c r = let i = r .inside in let d = r .few in let s = r .short 
 pub finish-bits : (L X N : List ℕ) (c : Spot) → Ready L X N c → FitsIn w32 (8 + c .bits)
 finish-bits L X N c r = let i = r .inside in let d = r .few in let s = r .small in record { fits = omega arith }
 
-pub finish-room : (L X N : List ℕ) (c : Spot) → Ready L X N c → 4 * c .event ≤ length N
+pub finish-room : (L X N : List ℕ) (c : Spot) → Ready L X N c → c .event ≤ length N
 finish-room L X N c r = let i = r .inside in let d = r .sized in omega arith
 
 pub ruleset finish-ways = (finish-refused, finish-fits, finish-short, finish-done, finish-place, finish-used, finish-bits, finish-room)
@@ -93,7 +93,7 @@ pub write-fine : (t : List ℕ) (party name ty mode : ℕ) (L : List ℕ) (f : f
 write-fine t party name ty mode L f h w = rw w at (h .is)
 
 -- no event too many, so there is room for each one's note
-pub write-room : (t : List ℕ) (party name ty mode : ℕ) (L : List ℕ) → Fine t party name ty mode L → 4 * eventsIn L ≤ 8192
+pub write-room : (t : List ℕ) (party name ty mode : ℕ) (L : List ℕ) → Fine t party name ty mode L → eventsIn L ≤ 2048
 write-room t party name ty mode L h = let s = h .shape .few in omega arith
 
 -- the root has nothing to choose from
@@ -108,7 +108,7 @@ rootOut t mode name ty = element· t mode (mostOpen - 1) name (typesBy t nothing
 
 -- the walk
 module _ (t : List ℕ) (party name ty number : ℕ) (L X : List ℕ) (room : ℕ) (fine : Fine t party name ty number L) where
-  pub write-ready : (N : List ℕ) → 4 * eventsIn L ≤ length N → Ready L X N origin
+  pub write-ready : (N : List ℕ) → eventsIn L ≤ length N → Ready L X N origin
   write-ready N e = let s = fine .shape in record { sized = e; few = s .few; inside = omega arith; used = omega arith; short = omega arith; small = omega arith }
 
   pub write-type : ty < typesIn t

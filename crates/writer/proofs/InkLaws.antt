@@ -26,8 +26,8 @@ use Rattle.model.specs.declared.Mode as modeT
 use Rattle.model.specs.Pack.{pack}
 use Rattle.model.proofs.PackLaws.{bit-next, bytes-bit, source-bit, source-past, each-has, pack-length}
 use Rattle.model.specs.Whole.{mode, lengthsNumber, modeByte, filled}
-use Rattle.writer_parts.specs.Notes.{piece, noteAt, spells}
-use Rattle.writer_parts.proofs.NoteLaws.{piece-fixed, piece-five, piece-bytes}
+use Rattle.writer_parts.specs.Notes.{textsFrom, datesFrom, codeBits, textBits, dateBits, noteBits, noteAt, spells}
+use Rattle.writer_parts.proofs.NoteLaws.{note-code, note-text, note-date}
 use Rattle.writer.specs.Cleared.{Zeros}
 
 -- what notes spell are bits
@@ -51,24 +51,24 @@ unfolding bytes
 bytes-bits [] = tt
 bytes-bits (x ∷ l) = bits-append (digits 8 x) (bytes l) (digits-bits 8 x) (bytes-bits l)
 
-piece-bits : (X : List ℕ) (w x : ℕ) → Bits (piece X w x)
-piece-bits X w x = elim (decLt w 33) [
-  | yes h ↦ rw (piece-fixed X w x (omega arith)) (digits-bits w x)
-  | no h ↦ elim (decLt 33 w) [
-    | yes k ↦ rw (piece-bytes X w x k) (bytes-bits (take (w - 34) (drop x X)))
-    | no k ↦ rw (piece-five X w x (omega arith)) (five-bits x)
+note-bits : (X : List ℕ) (x : ℕ) → Bits (noteBits X x)
+unfolding codeBits textBits dateBits
+note-bits X x = elim (decLt x textsFrom) [
+  | yes h ↦ rw (note-code X x h) (digits-bits (x / 2 ^ 41) x)
+  | no h ↦ elim (decLt x datesFrom) [
+    | yes k ↦
+        let n = (x - textsFrom) % 4096 in
+        rw (note-text X x (omega arith) k) (bits-append (code5 n) (bytes (take n (drop ((x - textsFrom) / 4096) X))) (five-bits n) (bytes-bits (take n (drop ((x - textsFrom) / 4096) X))))
+    | no k ↦
+        let y = x - datesFrom in
+        rw (note-date X x (omega arith) (omega arith)) (bits-append (digits 32 (y / 2 ^ 27)) (digits 32 (y % 2 ^ 27)) (digits-bits 32 (y / 2 ^ 27)) (digits-bits 32 (y % 2 ^ 27)))
   ]
 ]
 
 pub spells-bits : (X N : List ℕ) (i n : ℕ) → Bits (spells X N i n)
 unfolding spells noteAt
 spells-bits X N i zero = tt
-spells-bits X N i (suc n) =
-    let a : List ℕ = piece X (getD N (4 * i) 0) (getD N (4 * i + 1) 0) in
-    let b : List ℕ = piece X (getD N (4 * i + 2) 0) (getD N (4 * i + 3) 0) in
-    bits-append (a ++ b) (spells X N (i + 1) n)
-    (bits-append a b (piece-bits X (getD N (4 * i) 0) (getD N (4 * i + 1) 0)) (piece-bits X (getD N (4 * i + 2) 0) (getD N (4 * i + 3) 0)))
-    (spells-bits X N (i + 1) n)
+spells-bits X N i (suc n) = bits-append (noteBits X (getD N i 0)) (spells X N (i + 1) n) (note-bits X (getD N i 0)) (spells-bits X N (i + 1) n)
 
 zero-in : (n j : ℕ) → _≡_ {A = ℕ} (getD (replicate n 0) j 0) 0
 zero-in zero j = refl

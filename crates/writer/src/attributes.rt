@@ -19,7 +19,7 @@ ghost use Rattle.writer.specs.Meaning.{required·, optional·, attribute
 pub fn required(
     events: &[u32],
     texts: &[u8],
-    notes: &mut [u32],
+    notes: &mut [u64],
     c: Spot,
     name: u32,
     simple: u32,
@@ -48,7 +48,7 @@ fn flag(q: u32) -> u32
 pub fn optional(
     events: &[u32],
     texts: &[u8],
-    notes: &mut [u32],
+    notes: &mut [u64],
     c: Spot,
     name: u32,
     simple: u32,
@@ -78,7 +78,7 @@ pub fn one(
     table: &[u32],
     events: &[u32],
     texts: &[u8],
-    notes: &mut [u32],
+    notes: &mut [u64],
     c: Spot,
     i: u32,
 ) -> Judgement
@@ -103,7 +103,7 @@ pub fn all(
     table: &[u32],
     events: &[u32],
     texts: &[u8],
-    notes: &mut [u32],
+    notes: &mut [u64],
     c: Spot,
     first: u32,
     n: u32,

@@ -37,12 +37,12 @@ fn first(mode: Mode) -> u8
     byte
 }
 
-pub fn draw(payload: &mut [u8], mode: Mode, texts: &[u8], notes: &[u32], n: usize)
+pub fn draw(payload: &mut [u8], mode: Mode, texts: &[u8], notes: &[u64], n: usize)
     requires { ⌜
         (Zeros (now payload))
         × (1 + (length (spells (now texts) (now notes) 0 n) + 7) / 8 ≤ length (now payload))
         × (length (spells (now texts) (now notes) 0 n) ≤ 100000000)
-        × (4 * n ≤ length (now notes)) ⌝ }
+        × (n ≤ length (now notes)) ⌝ }
     ensures { λ _. ⌜
         now (payload .exit)
         ≡ filled (length (now (payload .entry)))

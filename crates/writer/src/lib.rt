@@ -72,7 +72,7 @@ fn accepted(mode: u32, events: u32, text: u32, bits: u32) -> Answer
 fn finish(
     events: &[u32],
     texts: &[u8],
-    notes: &[u32],
+    notes: &[u64],
     number: u32,
     mode: Mode,
     c: Spot,
@@ -102,8 +102,10 @@ fn finish(
 // Rows that may still be opened below the root.
 const BELOW_ROOT: u32 = limit::MOST_OPEN - 1;
 
-// Words of a list that is short: its notes are lent less room, as room is zeroed whole before it is used.
-const FEW_WORDS: usize = 512;
+// Events of a list that is short, and their words: its notes are lent less room, as room is zeroed whole before it is used.
+const FEW_EVENTS: usize = 128;
+
+const FEW_WORDS: usize = 4 * FEW_EVENTS;
 
 // The walk from the root, which has no choice, with room for every event's note, then what it came to, into a payload that is zero.
 fn write_with_notes(
@@ -114,13 +116,13 @@ fn write_with_notes(
     mode: u32,
     events: &[u32],
     texts: &[u8],
-    notes: &mut [u32],
+    notes: &mut [u64],
     payload: &mut [u8],
 ) -> Answer
     requires { ⌜
         (Fine (now table) party «root_name» «root_type» mode (now events))
         × (Zeros (now payload))
-        × (4 * eventsIn (now events) ≤ length (now notes)) ⌝ }
+        × (eventsIn (now events) ≤ length (now notes)) ⌝ }
     ensures { λ r. ⌜
         Writes
         (writing (now (table .entry)) party «root_name» «root_type» mode (now (events .entry)) (now (texts .entry))
@@ -182,7 +184,7 @@ pub fn write(
         return refused(n, p);
     }
     if events.len() <= FEW_WORDS {
-        let mut few = [0u32; FEW_WORDS];
+        let mut few = [0u64; FEW_EVENTS];
         return write_with_notes(
             table,
             party,
@@ -195,7 +197,7 @@ pub fn write(
             payload,
         );
     }
-    let mut all = [0u32; limit::MOST_EVENT_WORDS];
+    let mut all = [0u64; limit::MOST_EVENTS];
     write_with_notes(
         table,
         party,

@@ -20,7 +20,7 @@ ghost use Rattle.writer_parts.specs.Walk.{Ready, Walks, alone};
 pub fn value(
     events: &[u32],
     texts: &[u8],
-    notes: &mut [u32],
+    notes: &mut [u64],
     c: Spot,
     simple: u32,
     x: u32,
@@ -44,7 +44,7 @@ pub fn value(
 }
 
 // A branch v of a choice.
-pub fn pick(events: &[u32], texts: &[u8], notes: &mut [u32], c: Spot, n: u32, v: u32) -> Judgement
+pub fn pick(events: &[u32], texts: &[u8], notes: &mut [u64], c: Spot, n: u32, v: u32) -> Judgement
     requires { ⌜ (Ready (now events) (now texts) (now notes) c) × (v ≡ getD (now events) (4 * c .event + 1) 0) ⌝ }
     ensures { λ r. ⌜
         Walks (now (events .entry)) (now (texts .entry)) (alone (picked n)) c (now (notes .entry)) r (now (notes .exit)) ⌝ }
@@ -57,7 +57,7 @@ pub fn pick(events: &[u32], texts: &[u8], notes: &mut [u32], c: Spot, n: u32, v:
 pub fn count(
     events: &[u32],
     texts: &[u8],
-    notes: &mut [u32],
+    notes: &mut [u64],
     c: Spot,
     least: u32,
     most: u32,

@@ -12,6 +12,8 @@ use lib.ListN.{length, getD, drop, length-append}
 use lib.Seq.{drop-cons}
 use Rattle.numbers.specs.Refusal.{outsideRow}
 use Rattle.numbers.specs.Kind as kinds
+use Rattle.wire.specs.Bits.{digits}
+use Rattle.wire.specs.declared.Coded.{Coded}
 use Rattle.wire.specs.Res.{got, fault}
 use Rattle.wire.proofs.Res.{then, then-fault, tested-then, tested-fault}
 use Rattle.table.specs.First.Verdict.{right}
@@ -31,18 +33,15 @@ use Rattle.model.specs.Write.{Bare, Out, coded, asCast, placeIn, standing, code
 use Rattle.model.proofs.OutLaws.{casts-none}
 use Rattle.model.specs.Whole.{eventAt}
 use Rattle.model.specs.declared.Choices.{Choices}
-use Rattle.writer_parts.specs.declared.Note.{Note}
-use Rattle.writer_parts.specs.declared.SizedPiece.{SizedPiece}
-use Rattle.writer_parts.specs.declared.SizedNote.{SizedNote}
 use Rattle.writer_parts.specs.declared.Spot.{Spot}
 use Rattle.writer_parts.specs.declared.Spelling as spellingT
 use Rattle.writer_parts.specs.declared.Spelling.the-variants as sv
 use Rattle.writer_parts.specs.declared.Cast.the-variants as cv
-use Rattle.writer_parts.specs.Notes.{both, keeps, PieceNote, mostChoices}
+use Rattle.writer_parts.specs.Notes.{noteBits, keeps, Noted, Short, mostChoices}
 use Rattle.writer_parts.specs.Walk.{eventsIn, eventsAt, textsAt, between, Ready, wanted, judged}
 use Rattle.writer_parts.specs.Codes.{Rowed, Lists, Chosen, Placed, Stands, Spelled, Spells, Casts}
 use Rattle.writer_parts.proofs.NoteLaws.{spells-none}
-use Rattle.writer_parts.proofs.NoteWays.{noted-both}
+use Rattle.writer_parts.proofs.NoteWays.{coded-long}
 use Rattle.writer_parts.proofs.WalkLaws.{went, events-count, judged-in, taken-like, taken-unlike}
 use Rattle.writer_parts.proofs.LeafWays.{judged-few, judged-room, noted-spelt, noted-got}
 
@@ -272,30 +271,28 @@ module _ (l : List ℕ) (valid : verdict l ≡ right) (c : Choices) (t row p q :
                 let j = place-some p (y .derived own) in
                 rw (← i) (types-ok .known (placeIn p (y .derived own) - 1) (omega arith))
 
-        pub spell-bits : (a b : SizedPiece) → PieceNote a (bitsOf (oneOf (s .count)) q) → PieceNote b (bitsOf (oneOf (d .count)) k) → FitsIn w32 (a .bits + b .bits)
-        spell-bits a b A B = let i = A .short in let j = B .short in record { fits = omega arith }
+        module _ (a b : Coded) (A : Short 11 a (bitsOf (oneOf (s .count)) q)) (B : Short 11 b (bitsOf (oneOf (d .count)) k)) where
+          pub spell-pair : (a .size ≤ 11) × (b .size ≤ 11) × (a .bits < 2 ^ a .size) × (b .bits < 2 ^ b .size)
+          spell-pair = (A .few, B .few, A .code .low, B .code .low)
 
-        pub spell-note : (a b : SizedPiece) → PieceNote a (bitsOf (oneOf (s .count)) q) → PieceNote b (bitsOf (oneOf (d .count)) k) → (n : Note) → n ≡ both (a .piece) (b .piece)
-            → Spells l y p q (sv.Note (record { note = n; bits = a .bits + b .bits }))
-        unfolding codesOut substituteCode typeCode
-        spell-note a b A B n e =
-            let u = h .listed .count-is in
-            let v = g .listed .count-is in
-            let i = A .short in
-            let j = B .short in
-            record {
-              is = record {
-                bits = bitsOf (oneOf (s .count)) q ++ bitsOf (oneOf (d .count)) k;
-                out = then _ (one-of-fits (length (y .substitutes)) q (omega arith) (swaps-ok .few))
-                    (rw (← own-is, stands, u, v) (then _ (one-of-fits (length (y .derived own)) k (omega arith) (types-ok .few)) refl));
-                note = noted-both n (a .piece) (b .piece) _ _ e (A .piece) (B .piece);
-                long = omega (arith, length-append (bitsOf (oneOf (s .count)) q) (bitsOf (oneOf (d .count)) k), A .long, B .long);
-                short = omega arith;
-                known = effective-known;
-              };
-            }
+          pub spell-note : (n : Coded) → Short 22 n (digits (a .size) (a .bits) ++ digits (b .size) (b .bits)) → Spells l y p q (sv.Code n)
+          unfolding codesOut substituteCode typeCode
+          spell-note n e =
+              let u = h .listed .count-is in
+              let v = g .listed .count-is in
+              record {
+                is = record {
+                  gives = record {
+                    bits = bitsOf (oneOf (s .count)) q ++ bitsOf (oneOf (d .count)) k;
+                    out = then _ (one-of-fits (length (y .substitutes)) q (omega arith) (swaps-ok .few))
+                        (rw (← own-is, stands, u, v) (then _ (one-of-fits (length (y .derived own)) k (omega arith) (types-ok .few)) refl));
+                    code = rw (A .code .is, B .code .is) at e;
+                  };
+                  known = effective-known;
+                };
+              }
 
-pub ruleset spell-ways = (spell-swaps, spell-over, own-known, spell-types, spell-far, spell-bits, spell-note)
+pub ruleset spell-ways = (spell-swaps, spell-over, own-known, spell-types, spell-far, spell-pair, spell-note)
 
 -- note_due
 module _ (l L X : List ℕ) (c : Spot) (N : List ℕ) (r : Ready L X N c) (y : Types) (due : codes y ≡ true) (p q b : ℕ) (first : p ≡ getD L (4 * c .event + 1) 0)
@@ -324,23 +321,30 @@ module _ (l L X : List ℕ) (c : Spot) (N : List ℕ) (r : Ready L X N c) (y : T
         let m : suc (length (eventsAt L (c .event + 1))) ≡ eventsIn L - c .event = omega (arith, events-count L (c .event + 1)) in
         record { is = record { out = λ k. coded-is k ∙ rw (f, m); inside = r .inside } }
 
-    module _ (n : SizedNote) (w : s ≡ sv.Note n) where
+    module _ (n : Coded) (w : s ≡ sv.Code n) where
       spelled : Spelled l y p q n
       spelled = rw w at (h .is)
 
-      pub due-noted : (M : List ℕ) → M ≡ keeps N (c .event) (n .note) → Casts l L X y c N (cv.To p (record { event = c .event + 1; used = c .used; bits = c .bits + n .bits })) M
+      pub due-few : n .size ≤ 41
+      due-few = let f = spelled .gives .code .few in omega arith
+
+      pub due-low : n .bits < 2 ^ n .size
+      due-low = spelled .gives .code .code .low
+
+      pub due-noted : (x : ℕ) → Noted x (digits (n .size) (n .bits)) → (M : List ℕ) → M ≡ keeps N (c .event) x → Casts l L X y c N (cv.To p (record { event = c .event + 1; used = c .used; bits = c .bits + n .size })) M
       unfolding coded
-      due-noted M m =
-          let g = spelled in
-          let e : Spot = record { event = c .event + 1; used = c .used; bits = c .bits + n .bits } in
-          let few = g .short in
-          let long = g .long in
-          let step = went (noted-got L X c N (wanted kinds.cast p q) (got (g .bits, textsAt X (c .used))) r b j z (g .bits) (n .note) M e refl (g .note .is X) m refl (omega arith) (omega arith) (r .used) (omega arith)) e refl in
-          let spelt : between X M c e ≡ g .bits = noted-spelt L X c N (wanted kinds.cast p q) (got (g .bits, textsAt X (c .used))) r b j z (g .bits) (n .note) M e (g .note .is X) m refl in
+      due-noted x o M m =
+          let g = spelled .gives in
+          let e : Spot = record { event = c .event + 1; used = c .used; bits = c .bits + n .size } in
+          let few = g .code .few in
+          let long = coded-long n (g .bits) (g .code .code) in
+          let is : noteBits X x ≡ g .bits = o .is X ∙ g .code .code .is in
+          let step = went (noted-got L X c N (wanted kinds.cast p q) (got (g .bits, textsAt X (c .used))) r b j z (g .bits) x M e refl is m refl (omega arith) (omega arith) (r .used) (omega arith)) e refl in
+          let spelt : between X M c e ≡ g .bits = noted-spelt L X c N (wanted kinds.cast p q) (got (g .bits, textsAt X (c .used))) r b j z (g .bits) x M e is m refl in
           record {
             is = record {
               out = λ k. coded-is k ∙ rw (g .out, spelt);
-              known = g .known;
+              known = spelled .known;
               counts = step .counts;
               onward = step .onward;
               texts = refl;
@@ -350,10 +354,10 @@ module _ (l L X : List ℕ) (c : Spot) (N : List ℕ) (r : Ready L X N c) (y : T
           }
 
 module _ (L X : List ℕ) (c : Spot) (N : List ℕ) (r : Ready L X N c) where
-  pub due-fits : (l : List ℕ) (y : Types) (p q : ℕ) (s : spellingT.Spelling) → Spells l y p q s → (n : SizedNote) → s ≡ sv.Note n → FitsIn w32 (c .bits + n .bits)
+  pub due-fits : (l : List ℕ) (y : Types) (p q : ℕ) (s : spellingT.Spelling) → Spells l y p q s → (n : Coded) → s ≡ sv.Code n → FitsIn w32 (c .bits + n .size)
   due-fits l y p q s h n w =
       let k : Spelled l y p q n = rw w at (h .is) in
-      let f = k .short in
+      let f = k .gives .code .few in
       let a = r .small in
       let d = r .few in
       let i = r .inside in
@@ -362,7 +366,7 @@ module _ (L X : List ℕ) (c : Spot) (N : List ℕ) (r : Ready L X N c) where
   pub due-next : (f : Bare) (b : ℕ) → b ≡ judged L (c .event) f → b ≤ 0 → FitsIn w64 (c .event + 1)
   due-next f b e z = let k = judged-few L X N c f b r e z in record { fits = omega arith }
 
-pub ruleset note-due-ways = (due-unlike, judged-few, judged-room, due-refused, due-noted)
+pub ruleset note-due-ways = (due-unlike, judged-few, judged-room, due-refused, due-few, due-low, due-noted)
 
 -- note_codes
 module _ (l L X : List ℕ) (c : Choices) (t row : ℕ) (a : Spot) (N : List ℕ) (d : Bool) (e : d ≡ codes (typesBy l c t row)) where

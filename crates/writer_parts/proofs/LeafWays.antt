@@ -1,8 +1,7 @@
 -- Each way through the leaves of the walk.
-use Prim.Native.Nat.{ℕ, zero, suc, _+_, _-_, _*_, _^_, _<_, _≤_, min}
+use Prim.Native.Nat.{ℕ, zero, suc, _+_, _-_, _*_, _%_, _^_, _<_, _≤_, min}
 use mathlib.Core.Path.{_≡_, refl, sym, ap, ap₂, _∙_}
-use mathlib.Core.Logic.{inl, inr}
-use mathlib.Core.Bool.{Bool, true, false, cond}
+use mathlib.Core.Bool.{Bool, true, false, cond, true≢false}
 use mathlib.Core.List.{List, [], _∷_, _++_, append-nil}
 use native.Mathlib.Omega.{arith}
 use native.Mathlib.Decide.{decLe}
@@ -19,29 +18,34 @@ use Rattle.numbers.specs.Limit.{mostEvents, mostText}
 use Rattle.wire.specs.declared.Bits.{Bits}
 use Rattle.wire.specs.Res.{Res, got, fault, _>>_, guard}
 use Rattle.wire.proofs.Res.{tested-then, tested-fault, then, then-fault, under-then, under-fault}
+use Rattle.wire.specs.Bits.{digits}
+use Rattle.wire.proofs.BitLaws.{length-digits}
+use Rattle.wire.specs.declared.Coded.{Coded}
 use Rattle.wire.specs.Number.{code5}
 use Rattle.utf8.specs.Text.{textFault}
-use Rattle.value.specs.Code.{Code, stamp, bitsOf, fits, codeOut, sizeOut}
-use Rattle.value.specs.Dates.{joined, stampBits}
+use Rattle.value.specs.Code.{stamp, bitsOf, fits, codeOut}
+use Rattle.value.specs.Dates.{joined, stampBits, dayIn, clockIn, dayBits, dayFits}
+use Rattle.calendar.specs.declared.Day.{Day}
+use Rattle.calendar.specs.declared.Day.the-variants.{Number, Nothing}
 use Rattle.value.specs.Simple.{plain, text, dated, bytes}
 use Rattle.value.proofs.SimpleLaws.{length-bytes, passes-then, passes-fault}
-use Rattle.value.specs.Answer.{codeIs, sizeIs, stampIs, Under}
-use Rattle.value.proofs.WriteWays.{size-small, code5-short}
+use Rattle.value.specs.Answer.{codeIs, stampIs}
+use Rattle.value.proofs.WriteWays.{code5-short}
 use Rattle.value.specs.declared.Code as codeT
 use Rattle.value.specs.declared.Stamp as stampT
 use Rattle.value.specs.declared.Stamp.the-variants as tv
-use Rattle.value.specs.declared.Size as sizeT
-use Rattle.value.specs.declared.Size.the-variants as sv
 use Rattle.model.specs.Write.{Bare, wrote, unlike, coded, simpleOut, asEnd, headOut, lengthOf, sealed}
 use Rattle.model.specs.Model.{end}
 use Rattle.model.specs.Modes.{lengthsIs}
 use Rattle.model.specs.declared.Lengths as lengthsT
-use Rattle.writer_parts.specs.declared.Note.{Note}
 use Rattle.writer_parts.specs.declared.SizedNote.{SizedNote}
+use Rattle.writer_parts.specs.declared.Spelling as spellingT
+use Rattle.writer_parts.specs.declared.Spelling.the-variants as sv
 use Rattle.writer_parts.specs.declared.Spot.{Spot}
 use Rattle.writer_parts.specs.declared.Judgement.the-variants.{Go, Refuse}
-use Rattle.writer_parts.specs.Notes.{noteBits, noteAt, spells, keeps, fixedPiece, only, textNote, Noted, HeadNote, DateNote}
-use Rattle.writer_parts.proofs.NoteLaws.{piece-five, piece-bytes, piece-none, spells-one, spells-by, spells-same, kept-other, kept-note, kept-length}
+use Rattle.writer_parts.specs.Notes.{noteBits, noteAt, spells, keeps, textNote, Noted, Short, Gives, Spelt, DateNote}
+use Rattle.writer_parts.proofs.NoteLaws.{note-none, note-counted, spells-one, spells-by, spells-same, kept-other, kept-note, kept-length}
+use Rattle.writer_parts.proofs.NoteWays.{coded-long, spelt-code, spelt-refuse, got-fits}
 use Rattle.writer_parts.specs.Walk.{eventsIn, eventsAt, textsAt, Ready, between, past, Sealing, Walked, wanted, judged, noted, textWrong}
 use Rattle.writer_parts.proofs.WalkLaws.{events-count, judged-in, taken-like, taken-unlike}
 
@@ -88,7 +92,7 @@ pub judged-few : (L X N : List ℕ) (c : Spot) (f : Bare) (b : ℕ) → Ready L 
 judged-few L X N c f b r e z = let h = judged-in L (c .event) f (sym e ∙ none z) in let g = r .few in omega arith
 
 -- and has room for its note
-pub judged-room : (L X N : List ℕ) (c : Spot) (f : Bare) (b : ℕ) → Ready L X N c → b ≡ judged L (c .event) f → b ≤ 0 → 4 * c .event + 4 ≤ length N
+pub judged-room : (L X N : List ℕ) (c : Spot) (f : Bare) (b : ℕ) → Ready L X N c → b ≡ judged L (c .event) f → b ≤ 0 → c .event < length N
 judged-room L X N c f b r e z = let h = judged-in L (c .event) f (sym e ∙ none z) in let g = r .sized in omega arith
 
 -- one event noted
@@ -112,14 +116,14 @@ module _ (L X : List ℕ) (c : Spot) (N : List ℕ) (f : Bare) (m : Res (List �
         let k : suc (length (eventsAt L (c .event + 1))) ≡ eventsIn L - c .event = omega (arith, events-count L (c .event + 1)) in
         record { is = record { out = rw (noted-like, e, k); inside = r .inside } }
 
-    pub noted-spelt : (w : List ℕ) (n : Note) (M : List ℕ) (e : Spot) → noteBits X n ≡ w → M ≡ keeps N (c .event) n → e .event ≡ c .event + 1 → between X M c e ≡ w
+    pub noted-spelt : (w : List ℕ) (n : ℕ) (M : List ℕ) (e : Spot) → noteBits X n ≡ w → M ≡ keeps N (c .event) n → e .event ≡ c .event + 1 → between X M c e ≡ w
     noted-spelt w n M e is k next =
         let i = within in
         let len = r .sized in
         let one : e .event - c .event ≡ 1 = omega arith in
         rw (one, k) (spells-one X (keeps N (c .event) n) (c .event) ∙ kept-note N (c .event) n X (omega arith) ∙ is)
 
-    pub noted-got : (w : List ℕ) (n : Note) (M : List ℕ) (e : Spot) → m ≡ got (w, textsAt X (e .used)) → noteBits X n ≡ w → M ≡ keeps N (c .event) n
+    pub noted-got : (w : List ℕ) (n : ℕ) (M : List ℕ) (e : Spot) → m ≡ got (w, textsAt X (e .used)) → noteBits X n ≡ w → M ≡ keeps N (c .event) n
         → e .event ≡ c .event + 1 → e .bits ≡ c .bits + length w → length w ≤ 40000 → e .used ≤ length X → e .used ≤ c .used + mostText → Walked L X (noted f m (eventsAt L (c .event))) c N (Go e) M
     unfolding coded
     noted-got w n M e g is k next bits small used short =
@@ -133,67 +137,47 @@ module _ (L X : List ℕ) (c : Spot) (N : List ℕ) (f : Bare) (m : Res (List �
             counts = rw spelt bits;
             onward = omega arith;
             ready = record { sized = omega (arith, ap length k, kept-length N (c .event) n); few = few; inside = omega arith; used = used; short = omega (arith, r .short); small = omega (arith, r .small) };
-            before = λ x h. ap (λ (l : List ℕ). getD l x 0) k ∙ kept-other N (c .event) n x (inl h);
+            before = λ x h. ap (λ (l : List ℕ). getD l x 0) k ∙ kept-other N (c .event) n x (λ y. omega arith);
           };
         }
 
 -- mark
-pub mark-go : (L X : List ℕ) (c : Spot) (N : List ℕ) (f : Bare) → Ready L X N c → (b : ℕ) → b ≡ judged L (c .event) f → b ≤ 0 → (n : Note) → n ≡ only (fixedPiece 0 0) → (M : List ℕ) → M ≡ keeps N (c .event) n
+pub mark-go : (L X : List ℕ) (c : Spot) (N : List ℕ) (f : Bare) → Ready L X N c → (b : ℕ) → b ≡ judged L (c .event) f → b ≤ 0 → (M : List ℕ) → M ≡ keeps N (c .event) 0
     → Walked L X (noted f (got ([], textsAt X (c .used))) (eventsAt L (c .event))) c N (Go (past c)) M
-mark-go L X c N f r b j z n e M k =
-    noted-got L X c N f _ r b j z [] n M (past c) refl (rw e (empty X)) k refl (omega arith) (omega arith) (r .used) (omega arith)
-  where
-    empty : (X : List ℕ) → noteBits X (only (fixedPiece 0 0)) ≡ []
-    empty X = rw (piece-none X)
+mark-go L X c N f r b j z M k = noted-got L X c N f _ r b j z [] 0 M (past c) refl (note-none X) k refl (omega arith) (omega arith) (r .used) (omega arith)
 
 pub ruleset mark-ways = (noted-unlike, judged-few, judged-room, mark-go)
 
--- coded: what is sized is coded so
-module _ (c : Code) (v : ℕ) where
-  size-got : (n : ℕ) → sizeOut c v ≡ got n → (codeOut c v ≡ got (bitsOf c v)) × (n ≡ length (bitsOf c v))
-  unfolding sizeOut codeOut
-  size-got n e = go (fits c v) refl e
-    where
-      go : (t : Bool) → fits c v ≡ t → (guard t outsideRow >> got (length (bitsOf c v))) ≡ got n → ((guard (fits c v) outsideRow >> got (bitsOf c v)) ≡ got (bitsOf c v)) × (n ≡ length (bitsOf c v))
-      go true f g = (tested-then outsideRow f refl, let h = tested-then {t = true} outsideRow {m = got (length (bitsOf c v))} refl refl in cc)
-      go false f g = absurd (let h = tested-fault {t = false} outsideRow (got (length (bitsOf c v))) refl in let z : _≡_ {A = ℕ} 0 1 = cc in omega arith)
-
-  size-fault : (n : ℕ) → sizeOut c v ≡ fault n → codeOut c v ≡ fault n
-  unfolding sizeOut codeOut
-  size-fault n e = go (fits c v) refl e
-    where
-      go : (t : Bool) → fits c v ≡ t → (guard t outsideRow >> got (length (bitsOf c v))) ≡ fault n → (guard (fits c v) outsideRow >> got (bitsOf c v)) ≡ fault n
-      go true f g = absurd (let h = tested-then {t = true} outsideRow {m = got (length (bitsOf c v))} refl refl in let z : _≡_ {A = ℕ} 0 1 = cc in omega arith)
-      go false f g = let h = tested-fault {t = false} outsideRow (got (length (bitsOf c v))) refl in tested-fault outsideRow (got (bitsOf c v)) f ∙ cc
-
-module _ (k : codeT.Code) (v : ℕ) (s : sizeT.Size) (e : sizeIs s ≡ sizeOut (codeIs k) v) where
-  sized : (n : Bits) → s ≡ sv.Takes n → sizeOut (codeIs k) v ≡ got (n .0)
-  unfolding sizeIs
-  sized n w = sym e ∙ rw w
-
-  unsized : (n : ℕ) → s ≡ sv.Refuse n → sizeOut (codeIs k) v ≡ fault n
-  unfolding sizeIs
-  unsized n w = sym e ∙ rw w
-
+-- coded: a value as a number, noted
 module _ (L X : List ℕ) (c : Spot) (N : List ℕ) (f : Bare) (r : Ready L X N c) (b : ℕ) (j : b ≡ judged L (c .event) f) (z : b ≤ 0)
-    (k : codeT.Code) (v : ℕ) (s : sizeT.Size) (e : sizeIs s ≡ sizeOut (codeIs k) v) where
+    (k : codeT.Code) (v : ℕ) (s : spellingT.Spelling) (e : Spelt 41 (codeOut (codeIs k) v) s) where
   pub coded-fault : (n : ℕ) → s ≡ sv.Refuse n → Walked L X (noted f (simpleOut (plain (codeIs k)) v (textsAt X (c .used))) (eventsAt L (c .event))) c N (Refuse n (c .event)) N
   unfolding simpleOut
-  coded-fault n w = noted-fault L X c N f _ r b j z n (then-fault _ (size-fault (codeIs k) v n (unsized k v s e n w)))
+  coded-fault n w = noted-fault L X c N f _ r b j z n (then-fault _ (spelt-refuse e n w))
 
-  pub coded-go : (n : Bits) → s ≡ sv.Takes n → Under 41 s → (m : Note) → Noted m (bitsOf (codeIs k) v) → (M : List ℕ) → M ≡ keeps N (c .event) m
-      → Walked L X (noted f (simpleOut (plain (codeIs k)) v (textsAt X (c .used))) (eventsAt L (c .event))) c N (Go (record { event = c .event + 1; used = c .used; bits = c .bits + n .0 })) M
-  unfolding simpleOut
-  coded-go n w u m i M g =
-      let y = size-got (codeIs k) v (n .0) (sized k v s e n w) in
-      let long = y .1 in
-      let few = size-small s u n w in
-      noted-got L X c N f _ r b j z (bitsOf (codeIs k) v) m M (record { event = c .event + 1; used = c .used; bits = c .bits + n .0 }) (then _ (y .0) refl) (i .is X) g refl (omega arith) (omega arith) (r .used) (omega arith)
+  module _ (n : Coded) (w : s ≡ sv.Code n) where
+    given : Gives 41 (codeOut (codeIs k) v) n
+    given = spelt-code e n w
 
-  pub coded-fits : (n : Bits) → s ≡ sv.Takes n → Under 41 s → FitsIn w32 (c .bits + n .0)
-  coded-fits n w u = let few = size-small s u n w in let a = r .small in let d = r .few in let i = r .inside in record { fits = omega arith }
+    pub coded-few : n .size ≤ 41
+    coded-few = given .code .few
 
-pub ruleset coded-ways = (noted-unlike, judged-few, judged-room, coded-fault, coded-go, coded-fits)
+    pub coded-low : n .bits < 2 ^ n .size
+    coded-low = given .code .code .low
+
+    pub coded-fits : FitsIn w32 (c .bits + n .size)
+    coded-fits = let few = coded-few in let a = r .small in let d = r .few in let i = r .inside in record { fits = omega arith }
+
+    pub coded-go : (m : ℕ) → Noted m (digits (n .size) (n .bits)) → (M : List ℕ) → M ≡ keeps N (c .event) m
+        → Walked L X (noted f (simpleOut (plain (codeIs k)) v (textsAt X (c .used))) (eventsAt L (c .event))) c N (Go (record { event = c .event + 1; used = c .used; bits = c .bits + n .size })) M
+    unfolding simpleOut
+    coded-go m i M g =
+        let y = given in
+        let long = coded-long n (y .bits) (y .code .code) in
+        let few = coded-few in
+        noted-got L X c N f _ r b j z (y .bits) m M (record { event = c .event + 1; used = c .used; bits = c .bits + n .size }) (then _ (y .out) refl) (i .is X ∙ y .code .code .is) g refl (omega arith) (omega arith) (r .used) (omega arith)
+
+pub ruleset coded-ways = (noted-unlike, judged-few, judged-room, coded-fault, coded-few, coded-low, coded-go, coded-fits)
 
 -- text_fault
 module _ (X : List ℕ) (used v : ℕ) where
@@ -260,8 +244,8 @@ module _ (L X : List ℕ) (c : Spot) (N : List ℕ) (v : ℕ) (r : Ready L X N c
     pub text-small : v ≤ mostText
     text-small = fine .0
 
-    pub text-place : FitsIn w32 (c .used)
-    text-place = let a = r .short in let d = r .few in let i = r .inside in record { fits = omega arith }
+    pub text-place : c .used < 2 ^ 32
+    text-place = let a = r .short in let d = r .few in let i = r .inside in omega arith
 
     pub text-end : FitsIn w64 (c .used + v)
     text-end = let a = r .short in let d = r .few in let i = r .inside in let f = fine .0 in record { fits = omega arith }
@@ -279,10 +263,10 @@ module _ (L X : List ℕ) (c : Spot) (N : List ℕ) (v : ℕ) (r : Ready L X N c
       pub text-bits : FitsIn w32 (c .bits + k .0 + 8 * v)
       text-bits = let t = text-sum in record { fits = omega arith }
 
-      pub text-go : (n : Note) (from : ℕ) (M : List ℕ) → n ≡ textNote v from → from ≡ c .used → M ≡ keeps N (c .event) n
+      pub text-go : (n : ℕ) (M : List ℕ) → n ≡ textNote v (c .used) → M ≡ keeps N (c .event) n
           → Walked L X (noted (wanted kinds.value v 0) (simpleOut text v (textsAt X (c .used))) (eventsAt L (c .event))) c N (Go (record { event = c .event + 1; used = c .used + v; bits = c .bits + k .0 + 8 * v })) M
       unfolding textsAt
-      text-go n from M m g p =
+      text-go n M m p =
           let t = tested .1 (none y) in
           let f = fine in
           let few = t .1 in
@@ -292,12 +276,32 @@ module _ (L X : List ℕ) (c : Spot) (N : List ℕ) (v : ℕ) (r : Ready L X N c
           let five5 = code5-short v s in
           noted-got L X c N (wanted kinds.value v 0) _ r b j z (code5 v ++ bytes (take v (drop (c .used) X))) n M (record { event = c .event + 1; used = c .used + v; bits = c .bits + k .0 + 8 * v })
           (t .0 ∙ ap (λ (u : List ℕ). got (code5 v ++ bytes (take v (drop (c .used) X)), u)) (drop-drop (c .used) v X))
-          (rw (m, g, piece-five X 33 v refl, piece-bytes X (34 + v) (c .used) (omega arith)) (let off : 34 + v - 34 ≡ v = omega arith in rw off))
+          (rw m (note-counted X v (c .used) few text-place))
           p refl (omega arith) (omega arith) (f .1) (omega arith)
 
 pub ruleset text-ways = (noted-unlike, judged-few, judged-room, text-refused, text-small, text-place, text-end, text-eight, text-part, text-bits, text-go)
 
--- note_date
+-- note_date: the milliseconds are those of the event's second word
+cut-off : (l m a b : List ℕ) → length l ≡ length m → l ++ a ≡ m ++ b → a ≡ b
+cut-off [] [] a b h e = e
+cut-off [] (y ∷ m) a b h e = absurd (omega arith)
+cut-off (x ∷ l) [] a b h e = absurd (omega arith)
+cut-off (x ∷ l) (y ∷ m) a b h e = cut-off l m a b (omega arith) (ap (drop 1) e)
+
+same-clock : (clock : Bool) (days ms p q : ℕ) → q < 2 ^ 32 → got (stampBits clock days ms) ≡ codeOut (stamp clock) (joined p q) → stampBits clock days (q % 134217728) ≡ stampBits clock days ms
+unfolding stampBits bitsOf fits dayBits dayFits
+same-clock false days ms p q s e = refl
+same-clock true days ms p q s e =
+    let g = got-fits (stamp true) (joined p q) (digits 32 days ++ digits 32 ms) (sym e) in
+    go (dayIn (joined p q)) refl (g .0) (g .1)
+  where
+    go : (d : Day) → dayIn (joined p q) ≡ d → fits (stamp true) (joined p q) ≡ true → digits 32 days ++ digits 32 ms ≡ bitsOf (stamp true) (joined p q) → digits 32 days ++ digits 32 (q % 134217728) ≡ digits 32 days ++ digits 32 ms
+    go (Number n) w f g =
+        let k : clockIn (joined p q) ≡ q % 134217728 = omega arith in
+        let h : digits 32 days ++ digits 32 ms ≡ digits 32 n ++ digits 32 (q % 134217728) = g ∙ rw (w, k) in
+        ap (λ (l : List ℕ). digits 32 days ++ l) (sym (cut-off (digits 32 days) (digits 32 n) (digits 32 ms) (digits 32 (q % 134217728)) (length-digits 32 days ∙ sym (length-digits 32 n)) h))
+    go Nothing w f g = absurd (let z : false ≡ true = sym (rw w) ∙ f in true≢false (sym z))
+
 module _ (L X : List ℕ) (c : Spot) (N : List ℕ) (clock : Bool) (p q : ℕ) (r : Ready L X N c) (b : ℕ) (j : b ≡ judged L (c .event) (wanted kinds.value p q)) (z : b ≤ 0)
     (s : stampT.Stamp) (e : stampIs clock s ≡ codeOut (stamp clock) (joined p q)) where
   pub date-refused : (n : ℕ) → s ≡ tv.Refuse n
@@ -305,19 +309,21 @@ module _ (L X : List ℕ) (c : Spot) (N : List ℕ) (clock : Bool) (p q : ℕ) (
   unfolding simpleOut stampIs
   date-refused n w = noted-fault L X c N (wanted kinds.value p q) _ r b j z n (then-fault _ (sym e ∙ rw w))
 
-  module _ (days ms : ℕ) (w : s ≡ tv.Takes days ms) (h : SizedNote) (g : DateNote h (stampBits clock days ms)) where
+  module _ (days ms : ℕ) (w : s ≡ tv.Takes days ms) (h : SizedNote) (g : DateNote h (stampBits clock days (q % 134217728))) where
     pub date-fits : FitsIn w32 (c .bits + h .bits)
     date-fits = let k = g .short in let a = r .small in let d = r .few in let i = r .inside in record { fits = omega arith }
 
-    pub date-go : (n : Note) (M : List ℕ) → n ≡ h .note → M ≡ keeps N (c .event) n
+    pub date-go : (n : ℕ) (M : List ℕ) → q < 2 ^ 32 → n ≡ h .note → M ≡ keeps N (c .event) n
         → Walked L X (noted (wanted kinds.value p q) (simpleOut (dated (stamp clock)) (joined p q) (textsAt X (c .used))) (eventsAt L (c .event))) c N
         (Go (record { event = c .event + 1; used = c .used; bits = c .bits + h .bits })) M
     unfolding simpleOut stampIs
-    date-go n M m k =
-        let long = g .long in
+    date-go n M small m k =
+        let out : codeOut (stamp clock) (joined p q) ≡ got (stampBits clock days ms) = sym e ∙ rw w in
+        let same = same-clock clock days ms p q small (sym out) in
+        let long : h .bits ≡ length (stampBits clock days ms) = g .long ∙ ap length same in
         let few = g .short in
         noted-got L X c N (wanted kinds.value p q) _ r b j z (stampBits clock days ms) n M (record { event = c .event + 1; used = c .used; bits = c .bits + h .bits })
-        (then _ (sym e ∙ rw w) refl) (rw m (g .note .is X)) k refl (omega arith) (omega arith) (r .used) (omega arith)
+        (then _ out refl) (rw m (g .note .is X ∙ same)) k refl (omega arith) (omega arith) (r .used) (omega arith)
 
 pub ruleset date-ways = (noted-unlike, judged-few, judged-room, date-refused, date-fits, date-go)
 
@@ -334,10 +340,10 @@ module _ (L X : List ℕ) (c e : Spot) (N : List ℕ) (lengths : lengthsT.Length
     pub close-in : e .event < mostEvents
     close-in = let h = judged-in L (e .event) (wanted kinds.end 0 0) (sym j ∙ none z) in let g = r .few in omega arith
 
-    pub close-room : 4 * e .event + 4 ≤ length N
+    pub close-room : e .event < length N
     close-room = let h = judged-in L (e .event) (wanted kinds.end 0 0) (sym j ∙ none z) in let g = r .sized in omega arith
 
-    pub close-start : (M : List ℕ) → length M ≡ length N → 4 * c .event + 4 ≤ length M
+    pub close-start : (M : List ℕ) → length M ≡ length N → c .event < length M
     close-start M k = let h = close-room in let g = s .started in omega arith
 
     pub close-less : c .bits ≤ e .bits
@@ -346,28 +352,28 @@ module _ (L X : List ℕ) (c e : Spot) (N : List ℕ) (lengths : lengthsT.Length
     pub close-next : FitsIn w64 (e .event + 1)
     close-next = let h = close-in in record { fits = omega arith }
 
-    pub close-fits : (h : SizedNote) (w : List ℕ) → HeadNote h w → FitsIn w32 (e .bits + h .bits)
-    close-fits h w g = let a = s .ready .small in let d = s .ready .few in let i = s .ready .inside in let k = g .short in record { fits = omega arith }
+    pub close-fits : (h : Coded) (w : List ℕ) → Short 41 h w → FitsIn w32 (e .bits + h .size)
+    close-fits h w g = let a = s .ready .small in let d = s .ready .few in let i = s .ready .inside in let k = g .few in record { fits = omega arith }
 
-    pub close-go : (n : Note) (M : List ℕ) → n ≡ only (fixedPiece 0 0) → M ≡ keeps N (e .event) n → (h : SizedNote) → HeadNote h (headOut (lengthsIs lengths) (lengthOf q (e .bits - c .bits))) → (K : List ℕ) → K ≡ keeps M (c .event) (h .note)
-        → Walked L X (sealed (lengthsIs lengths) q [] (wrote inner (eventsAt L (e .event)) (textsAt X (e .used)))) c N (Go (record { event = e .event + 1; used = e .used; bits = e .bits + h .bits })) K
+    pub close-go : (M : List ℕ) → M ≡ keeps N (e .event) 0 → (h : Coded) → Short 41 h (headOut (lengthsIs lengths) (lengthOf q (e .bits - c .bits))) → (m : ℕ) → Noted m (digits (h .size) (h .bits)) → (K : List ℕ) → K ≡ keeps M (c .event) m
+        → Walked L X (sealed (lengthsIs lengths) q [] (wrote inner (eventsAt L (e .event)) (textsAt X (e .used)))) c N (Go (record { event = e .event + 1; used = e .used; bits = e .bits + h .size })) K
     unfolding sealed
-    close-go n M nothing k h g K y =
+    close-go M k h g m o K y =
         let i = judged-in L (e .event) (wanted kinds.end 0 0) (sym j ∙ none z) in
         let few = r .few in
         let len = r .sized in
         let st = s .started in
         let cn = s .counts in
         let bound : e .bits - c .bits ≡ length inner = omega arith in
-        let lenM : length M ≡ length N = ap length k ∙ kept-length N (e .event) n in
-        let f : Spot = record { event = e .event + 1; used = e .used; bits = e .bits + h .bits } in
+        let lenM : length M ≡ length N = ap length k ∙ kept-length N (e .event) 0 in
+        let f : Spot = record { event = e .event + 1; used = e .used; bits = e .bits + h .size } in
         let head : noteAt X K (c .event) ≡ headOut (lengthsIs lengths) (lengthOf q (e .bits - c .bits)) =
-        ap (λ (l : List ℕ). noteAt X l (c .event)) y ∙ kept-note M (c .event) (h .note) X (omega arith) ∙ g .note .is X in
+        ap (λ (l : List ℕ). noteAt X l (c .event)) y ∙ kept-note M (c .event) m X (omega arith) ∙ o .is X ∙ g .code .is in
         let mid : spells X K (c .event + 1) (e .event - (c .event + 1)) ≡ inner =
-        spells-same X N K (c .event + 1) (e .event - (c .event + 1)) (λ x u v. ap (λ (l : List ℕ). getD l x 0) y ∙ kept-other M (c .event) (h .note) x (inr (omega arith)) ∙ ap (λ (l : List ℕ). getD l x 0) k ∙ kept-other N (e .event) n x (inl (omega arith))) in
+        spells-same X N K (c .event + 1) (e .event - (c .event + 1)) (λ x u v. ap (λ (l : List ℕ). getD l x 0) y ∙ kept-other M (c .event) m x (λ a. omega arith) ∙ ap (λ (l : List ℕ). getD l x 0) k ∙ kept-other N (e .event) 0 x (λ a. omega arith)) in
         let last : spells X K (e .event) 1 ≡ [] =
-        spells-same X M K (e .event) 1 (λ x u v. ap (λ (l : List ℕ). getD l x 0) y ∙ kept-other M (c .event) (h .note) x (inr (omega arith)))
-        ∙ spells-one X M (e .event) ∙ ap (λ (l : List ℕ). noteAt X l (e .event)) k ∙ kept-note N (e .event) n X (omega arith) ∙ rw (nothing, piece-none X) in
+        spells-same X M K (e .event) 1 (λ x u v. ap (λ (l : List ℕ). getD l x 0) y ∙ kept-other M (c .event) m x (λ a. omega arith))
+        ∙ spells-one X M (e .event) ∙ ap (λ (l : List ℕ). noteAt X l (e .event)) k ∙ kept-note N (e .event) 0 X (omega arith) ∙ note-none X in
         let one : c .event + 1 - c .event ≡ 1 = omega arith in
         let end1 : e .event + 1 - e .event ≡ 1 = omega arith in
         let first : spells X K (c .event) (c .event + 1 - c .event) ≡ headOut (lengthsIs lengths) (lengthOf q (e .bits - c .bits)) = rw one (spells-one X K (c .event) ∙ head) in
@@ -376,15 +382,15 @@ module _ (L X : List ℕ) (c e : Spot) (N : List ℕ) (lengths : lengthsT.Length
         let whole : between X K c f ≡ headOut (lengthsIs lengths) (lengthOf q (e .bits - c .bits)) ++ inner =
         spells-by X K (c .event) (c .event + 1) (e .event + 1) (omega arith) (omega arith) ∙ ap₂ _++_ first tail in
         let long = length-append (headOut (lengthsIs lengths) (lengthOf q (e .bits - c .bits))) inner in
-        let hl = g .long in
-        let hs = g .short in
+        let hl = coded-long h (headOut (lengthsIs lengths) (lengthOf q (e .bits - c .bits))) (g .code) in
+        let hs = g .few in
         record {
           is = record {
             out = taken-like L (e .event) (wanted kinds.end 0 0) asEnd _ refl (sym j ∙ none z) ∙ rw (← bound, whole);
             counts = rw whole (omega arith);
             onward = omega arith;
-            ready = record { sized = omega (arith, ap length y, kept-length M (c .event) (h .note)); few = few; inside = omega arith; used = s .ready .used; short = omega (arith, s .ready .short); small = omega (arith, s .ready .small) };
-            before = λ x v. ap (λ (l : List ℕ). getD l x 0) y ∙ kept-other M (c .event) (h .note) x (inl v) ∙ ap (λ (l : List ℕ). getD l x 0) k ∙ kept-other N (e .event) n x (inl (omega arith));
+            ready = record { sized = omega (arith, ap length y, kept-length M (c .event) m); few = few; inside = omega arith; used = s .ready .used; short = omega (arith, s .ready .short); small = omega (arith, s .ready .small) };
+            before = λ x v. ap (λ (l : List ℕ). getD l x 0) y ∙ kept-other M (c .event) m x (λ a. omega arith) ∙ ap (λ (l : List ℕ). getD l x 0) k ∙ kept-other N (e .event) 0 x (λ a. omega arith);
           };
         }
 

@@ -3,4 +3,5 @@ mod LeafWays
 pub mod NoteLaws
 mod NoteWays
 pub mod WalkLaws
+mod PenLaws
 mod PenWays

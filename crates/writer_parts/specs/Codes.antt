@@ -4,20 +4,20 @@ use mathlib.Core.Path.{_≡_}
 use mathlib.Core.Bool.{true, false}
 use mathlib.Core.List.{List}
 use lib.ListN.{length, getD}
-use Rattle.wire.specs.Res.{got, fault}
+use Rattle.wire.specs.Res.{fault}
+use Rattle.wire.specs.declared.Coded.{Coded}
 use Rattle.table.specs.Words.{typesIn, particlesIn}
 use Rattle.table.specs.Views.{Listed}
 use Rattle.table.specs.declared.answers.TypeList.{TypeList}
 use Rattle.model.specs.Model.{Types, chosen, codes}
 use Rattle.model.specs.Write.{Bare, Out, refused, placeIn, standing, codesOut, casts}
 use Rattle.model.specs.declared.Choices.{Choices}
-use Rattle.writer_parts.specs.declared.SizedNote.{SizedNote}
 use Rattle.writer_parts.specs.declared.Spot.{Spot}
 use Rattle.writer_parts.specs.declared.Spelling as spellingT
 use Rattle.writer_parts.specs.declared.Spelling.the-variants as sv
 use Rattle.writer_parts.specs.declared.Cast as castT
 use Rattle.writer_parts.specs.declared.Cast.the-variants as cv
-use Rattle.writer_parts.specs.Notes.{Noted}
+use Rattle.writer_parts.specs.Notes.{Gives}
 use Rattle.writer_parts.specs.Walk.{eventsIn, eventsAt, between, Ready}
 
 -- who looks for a row's substitutes has a row of the table; who looks for nothing, for neither
@@ -40,18 +40,14 @@ pub record Placed (l : List ℕ) (s : TypeList) (p r : ℕ) : Type 0 where
 pub record Stands (l : List ℕ) (s : TypeList) (t p r : ℕ) : Type 0 where
   pub is : (types : List ℕ) → Listed l types s → r ≡ standing p t types
 
--- the note of both codes, of few bits, for an effective type of the table
-pub record Spelled (l : List ℕ) (y : Types) (type k : ℕ) (h : SizedNote) : Type 0 where
-  pub bits : List ℕ
-  pub out : codesOut y type k ≡ got bits
-  pub note : Noted (h .note) bits
-  pub long : h .bits ≡ length bits
-  pub short : h .bits ≤ 22
+-- both codes, of few bits, for an effective type of the table
+pub record Spelled (l : List ℕ) (y : Types) (type k : ℕ) (c : Coded) : Type 0 where
+  pub gives : Gives 22 (codesOut y type k) c
   pub known : type < typesIn l
 
 abbrev pub SpellsIs : List ℕ → Types → (type k : ℕ) → spellingT.Spelling → Type 0
 SpellsIs l y type k (sv.Refuse n) = codesOut y type k ≡ fault n
-SpellsIs l y type k (sv.Note h) = Spelled l y type k h
+SpellsIs l y type k (sv.Code c) = Spelled l y type k c
 
 pub record Spells (l : List ℕ) (y : Types) (type k : ℕ) (r : spellingT.Spelling) : Type 0 where
   pub is : SpellsIs l y type k r
@@ -64,7 +60,7 @@ pub record Went (l L X : List ℕ) (y : Types) (c : Spot) (N : List ℕ) (type :
   pub onward : c .event ≤ e .event
   pub texts : e .used ≡ c .used
   pub ready : Ready L X M e
-  pub before : (j : ℕ) → j < 4 * c .event → getD M j 0 ≡ getD N j 0
+  pub before : (j : ℕ) → j < c .event → getD M j 0 ≡ getD N j 0
 
 -- or a refusal, whatever would have come
 pub record Stopped (L : List ℕ) (y : Types) (c : Spot) (number at : ℕ) : Type 0 where

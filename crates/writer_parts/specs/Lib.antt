@@ -1,3 +1,4 @@
 pub mod Notes
+pub mod Pen
 pub mod Walk
 pub mod Codes

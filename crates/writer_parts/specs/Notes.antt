@@ -1,86 +1,90 @@
--- What notes spell: the bits of a piece, of an event's note, of the notes of n events from event i on. X are all the texts.
-use Prim.Native.Nat.{ℕ, zero, suc, _+_, _-_, _*_, _≤_}
+-- What notes spell: the bits of a note, and of the notes of n events from event i on. X are all the texts.
+use Prim.Native.Nat.{ℕ, zero, suc, _+_, _-_, _*_, _/_, _%_, _^_, _≤_}
 use mathlib.Core.Path.{_≡_}
 use mathlib.Core.Bool.{cond}
 use mathlib.Core.List.{List, [], _++_}
-use lib.Dec.{ltb, eqb}
+use lib.Dec.{ltb}
 use lib.ListN.{length, getD, set, take, drop}
+use Rattle.wire.specs.Res.{Res, got, fault}
 use Rattle.wire.specs.Bits.{digits}
 use Rattle.wire.specs.Number.{code5}
+use Rattle.wire.specs.Coded.{Codes}
+use Rattle.wire.specs.declared.Coded.{Coded}
 use Rattle.value.specs.Simple.{bytes}
 use Rattle.numbers.specs.Limit.{mostDerivations}
-use Rattle.writer_parts.specs.declared.Piece.{Piece}
-use Rattle.writer_parts.specs.declared.Note.{Note}
-use Rattle.writer_parts.specs.declared.SizedPiece.{SizedPiece}
 use Rattle.writer_parts.specs.declared.SizedNote.{SizedNote}
+use Rattle.writer_parts.specs.declared.Spelling as spellingT
+use Rattle.writer_parts.specs.declared.Spelling.the-variants as sv
 
--- up to 32 bits of x; 33: the vluimsbf5 of x; 34 + n: n bytes of the texts from byte x on
-unfoldable pub piece : List ℕ → ℕ → ℕ → List ℕ
-piece X w x = cond (ltb w 33) (digits w x) (cond (eqb w 33) (code5 x) (bytes (take (w - 34) (drop x X))))
+-- where the notes of texts begin, and those of dates with a clock
+abbrev pub textsFrom : ℕ
+textsFrom = 140737488355328
 
-abbrev pub pieceBits : List ℕ → Piece → List ℕ
-pieceBits X p = piece X (p .width) (p .x)
+abbrev pub datesFrom : ℕ
+datesFrom = 9223372036854775808
 
-abbrev pub noteBits : List ℕ → Note → List ℕ
-noteBits X n = pieceBits X (n .one) ++ pieceBits X (n .two)
+-- how many bits, and the bits, in the 41 lowest places
+unfoldable pub codeBits : ℕ → List ℕ
+codeBits x = digits (x / 2 ^ 41) x
 
--- an event's note is four words
+-- a text: where it begins in the texts, and how many bytes it is, at most 4095
+unfoldable pub textBits : List ℕ → ℕ → List ℕ
+textBits X y = code5 (y % 4096) ++ bytes (take (y % 4096) (drop (y / 4096) X))
+
+-- a date with a clock: the days, and the milliseconds in the 27 lowest places
+unfoldable pub dateBits : ℕ → List ℕ
+dateBits y = digits 32 (y / 2 ^ 27) ++ digits 32 (y % 2 ^ 27)
+
+-- a note is one number
+unfoldable pub noteBits : List ℕ → ℕ → List ℕ
+noteBits X x = cond (ltb x textsFrom) (codeBits x) (cond (ltb x datesFrom) (textBits X (x - textsFrom)) (dateBits (x - datesFrom)))
+
+-- of event i
 unfoldable pub noteAt : List ℕ → List ℕ → ℕ → List ℕ
-noteAt X N i = piece X (getD N (4 * i) 0) (getD N (4 * i + 1) 0) ++ piece X (getD N (4 * i + 2) 0) (getD N (4 * i + 3) 0)
+noteAt X N i = noteBits X (getD N i 0)
 
 unfoldable pub spells : List ℕ → List ℕ → ℕ → ℕ → List ℕ
 spells X N i zero = []
 spells X N i (suc n) = noteAt X N i ++ spells X N (i + 1) n
 
 -- the notes N with n at event i
-abbrev pub keeps : List ℕ → ℕ → Note → List ℕ
-keeps N i n = set (set (set (set N (4 * i) (n .one .width)) (4 * i + 1) (n .one .x)) (4 * i + 2) (n .two .width)) (4 * i + 3) (n .two .x)
+abbrev pub keeps : List ℕ → ℕ → ℕ → List ℕ
+keeps N i n = set N i n
 
-abbrev pub fixedPiece : ℕ → ℕ → Piece
-fixedPiece w x = record { width = w; x = x }
-
-abbrev pub fivePiece : ℕ → Piece
-fivePiece x = record { width = 33; x = x }
-
-abbrev pub bytesPiece : ℕ → ℕ → Piece
-bytesPiece n x = record { width = 34 + n; x = x }
-
-abbrev pub both : Piece → Piece → Note
-both p q = record { one = p; two = q }
-
-abbrev pub only : Piece → Note
-only p = both p (fixedPiece 0 0)
-
--- a text's count, and its bytes from a place of the texts on
-abbrev pub textNote : ℕ → ℕ → Note
-textNote n from = both (fivePiece n) (bytesPiece n from)
-
--- the note at event i
-abbrev pub noteIn : List ℕ → ℕ → Note
-noteIn N i = both (fixedPiece (getD N (4 * i) 0) (getD N (4 * i + 1) 0)) (fixedPiece (getD N (4 * i + 2) 0) (getD N (4 * i + 3) 0))
-
--- a piece, a note that is these bits, whatever the texts
-pub record Spelt (p : Piece) (w : List ℕ) : Type 0 where
-  pub is : (X : List ℕ) → pieceBits X p ≡ w
-
-pub record Noted (n : Note) (w : List ℕ) : Type 0 where
+-- a note that is these bits, whatever the texts
+pub record Noted (n : ℕ) (w : List ℕ) : Type 0 where
   pub is : (X : List ℕ) → noteBits X n ≡ w
+
+-- a code that is these bits, so many at most
+pub record Short (most : ℕ) (c : Coded) (w : List ℕ) : Type 0 where
+  pub code : Codes c w
+  pub few : c .size ≤ most
+
+-- a flag before a code, whatever that is
+pub record Flagged (flag : ℕ) (c r : Coded) : Type 0 where
+  pub long : r .size ≡ c .size + 1
+  pub is : (w : List ℕ) → Codes c w → Codes r (digits 1 flag ++ w)
 
 -- the most that there is to choose from
 abbrev pub mostChoices : ℕ
 mostChoices = mostDerivations
 
--- a code of a choice that is these bits, few of them
-pub record PieceNote (p : SizedPiece) (w : List ℕ) : Type 0 where
-  pub piece : Spelt (p .piece) w
-  pub long : p .bits ≡ length w
-  pub short : p .bits ≤ 11
+-- what was worked out as a code, or refused
+pub record Gives (most : ℕ) (m : Res (List ℕ)) (c : Coded) : Type 0 where
+  pub bits : List ℕ
+  pub out : m ≡ got bits
+  pub code : Short most c bits
 
--- a head that is these bits, few of them
-pub record HeadNote (h : SizedNote) (w : List ℕ) : Type 0 where
-  pub note : Noted (h .note) w
-  pub long : h .bits ≡ length w
-  pub short : h .bits ≤ 41
+abbrev pub SpeltIs : ℕ → Res (List ℕ) → spellingT.Spelling → Type 0
+SpeltIs most m (sv.Refuse n) = m ≡ fault n
+SpeltIs most m (sv.Code c) = Gives most m c
+
+pub record Spelt (most : ℕ) (m : Res (List ℕ)) (r : spellingT.Spelling) : Type 0 where
+  pub is : SpeltIs most m r
+
+-- a text's note
+abbrev pub textNote : ℕ → ℕ → ℕ
+textNote n from = textsFrom + from * 4096 + n
 
 -- a date that is these bits, few of them
 pub record DateNote (h : SizedNote) (w : List ℕ) : Type 0 where

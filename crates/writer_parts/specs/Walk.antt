@@ -31,7 +31,7 @@ textsAt X used = drop used X
 
 -- room for every event's note; a cursor within the list, its counts small
 pub record Ready (L X N : List ℕ) (c : Spot) : Type 0 where
-  pub sized : 4 * eventsIn L ≤ length N
+  pub sized : eventsIn L ≤ length N
   pub few : eventsIn L ≤ mostEvents
   pub inside : c .event ≤ eventsIn L
   pub used : c .used ≤ length X
@@ -47,7 +47,7 @@ pub record Went (L X : List ℕ) (o : Out) (c : Spot) (N : List ℕ) (e : Spot) 
   pub counts : e .bits ≡ c .bits + length (between X M c e)
   pub onward : c .event ≤ e .event
   pub ready : Ready L X M e
-  pub before : (j : ℕ) → j < 4 * c .event → getD M j 0 ≡ getD N j 0
+  pub before : (j : ℕ) → j < c .event → getD M j 0 ≡ getD N j 0
 
 pub record Stopped (L : List ℕ) (o : Out) (number at : ℕ) : Type 0 where
   pub out : o ≡ refused number (eventsIn L - at)

@@ -1,10 +1,10 @@
 // An element's codes: which substitute it is and which derived type it has. Their event stands behind Start, where there is something to choose from.
 use crate::Cast;
-use crate::SizedNote;
 use crate::Spelling;
 use crate::Spot;
 use crate::leaves::keep;
 use crate::leaves::unlike;
+use crate::notes::note_of;
 use crate::notes::one_of;
 use crate::notes::pair;
 use model::Choices;
@@ -134,12 +134,8 @@ fn spell(table: &[u32], choices: Choices, t: u32, row: u32, p: u32, q: u32) -> S
     }
     let one = one_of(n, q);
     let two = one_of(m, k);
-    let first = one.piece;
-    let second = two.piece;
-    let note = pair(first, second);
-    let bits = one.bits + two.bits;
-    let both = SizedNote { note, bits };
-    Spelling::Note(both)
+    let both = pair(one, two);
+    Spelling::Code(both)
 }
 
 // The codes' event, where it is due: judged and noted.
@@ -147,7 +143,7 @@ fn note_due(
     table: &[u32],
     events: &[u32],
     texts: &[u8],
-    notes: &mut [u32],
+    notes: &mut [u64],
     choices: Choices,
     c: Spot,
     t: u32,
@@ -172,11 +168,11 @@ fn note_due(
     }
     match spell(table, choices, t, row, p, q) {
         Spelling::Refuse(e) => Cast::Refuse(e, at),
-        Spelling::Note(both) => {
-            let note = both.note;
+        Spelling::Code(both) => {
+            let note = note_of(both);
             keep(notes, at, note);
             let past = at + 1;
-            let bits = c.bits + both.bits;
+            let bits = c.bits + both.size;
             let next = Spot {
                 event: past,
                 used: c.used,
@@ -192,7 +188,7 @@ pub fn note_codes(
     table: &[u32],
     events: &[u32],
     texts: &[u8],
-    notes: &mut [u32],
+    notes: &mut [u64],
     choices: Choices,
     c: Spot,
     t: u32,

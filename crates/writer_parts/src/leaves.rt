@@ -1,11 +1,10 @@
 // One event judged against what is wanted, and its note kept.
 use crate::Judgement;
-use crate::Note;
-use crate::Piece;
+use crate::Spelling;
 use crate::Spot;
 use crate::notes::date;
 use crate::notes::head;
-use crate::notes::just;
+use crate::notes::note_of;
 use crate::notes::number;
 use model::Lengths;
 use numbers::kind;
@@ -14,14 +13,12 @@ use numbers::refusal;
 use table::rows::word;
 use utf8::check;
 use value::Code;
-use value::Size;
 use value::Stamp;
 use value::dates::stamp_of;
-use value::writing::size;
 use wire::writing::size5;
 ghost use mathlib.Core.Path.{_≡_};
 ghost use mathlib.Core.List.{[]};
-ghost use Prim.Native.Nat.{_+_, _*_, _≤_};
+ghost use Prim.Native.Nat.{_+_, _*_, _^_, _≤_, _<_};
 ghost use lib.ListN.{length, getD};
 ghost use Rattle.numbers.specs.Kind as kinds;
 ghost use Rattle.numbers.specs.Limit.{mostText};
@@ -32,7 +29,7 @@ ghost use Rattle.value.specs.Simple.{plain, text, dated};
 ghost use Rattle.value.specs.Answer.{codeIs};
 ghost use Rattle.model.specs.Modes.{lengthsIs};
 ghost use Rattle.model.specs.Write.{wrote, simpleOut, sealed};
-ghost use Rattle.writer_parts.specs.Notes.{keeps, fixedPiece, only, textNote};
+ghost use Rattle.writer_parts.specs.Notes.{keeps, textNote};
 ghost use Rattle.writer_parts.specs.Walk.{eventsAt, textsAt, between, Ready, Walked, Sealing, wanted, judged, noted, textWrong};
 
 // What is wrong with event at where one of these words is wanted; NO_READING where there is none.
@@ -62,28 +59,18 @@ pub fn unlike(events: &[u32], at: usize, kind: u32, p: u32, q: u32) -> u32
 }
 
 // The note of event at.
-pub fn keep(notes: &mut [u32], at: usize, n: Note)
-    requires { ⌜ 4 * at + 4 ≤ length (now notes) ⌝ }
+pub fn keep(notes: &mut [u64], at: usize, n: u64)
+    requires { ⌜ at < length (now notes) ⌝ }
     ensures { λ _. ⌜ now (notes .exit) ≡ keeps (now (notes .entry)) at n ⌝ }
 {
-    let one = n.one;
-    let two = n.two;
-    let a = one.width;
-    let x = one.x;
-    let b = two.width;
-    let y = two.x;
-    let i = 4 * at;
-    notes[i] = a;
-    notes[i + 1] = x;
-    notes[i + 2] = b;
-    notes[i + 3] = y;
+    notes[at] = n;
 }
 
 // An event that takes no bits.
 pub fn mark(
     events: &[u32],
     texts: &[u8],
-    notes: &mut [u32],
+    notes: &mut [u64],
     c: Spot,
     kind: u32,
     p: u32,
@@ -101,9 +88,7 @@ pub fn mark(
     if 0 < bad {
         return Judgement::Refuse(bad, at);
     }
-    let nothing = Piece { width: 0, x: 0 };
-    let note = just(nothing);
-    keep(notes, at, note);
+    keep(notes, at, 0);
     let next = Spot {
         event: at + 1,
         used: c.used,
@@ -116,7 +101,7 @@ pub fn mark(
 pub fn note_code(
     events: &[u32],
     texts: &[u8],
-    notes: &mut [u32],
+    notes: &mut [u64],
     c: Spot,
     kind: u32,
     p: u32,
@@ -136,12 +121,12 @@ pub fn note_code(
     if 0 < bad {
         return Judgement::Refuse(bad, at);
     }
-    match size(code, v) {
-        Size::Refuse(e) => Judgement::Refuse(e, at),
-        Size::Takes(n) => {
-            let note = number(code, v);
+    match number(code, v) {
+        Spelling::Refuse(e) => Judgement::Refuse(e, at),
+        Spelling::Code(n) => {
+            let note = note_of(n);
             keep(notes, at, note);
-            let bits = c.bits + n.0;
+            let bits = c.bits + n.size;
             let next = Spot {
                 event: at + 1,
                 used: c.used,
@@ -169,20 +154,15 @@ fn text_fault(texts: &[u8], used: usize, v: u32) -> u32
 }
 
 // The note of a text.
-fn text_note(v: u32, from: u32) -> Note
-    requires { ⌜ v ≤ mostText ⌝ }
+fn text_note(v: u32, from: usize) -> u64
+    requires { ⌜ (v ≤ mostText) × (from < 2 ^ 32) ⌝ }
     ensures { λ r. ⌜ r ≡ textNote v from ⌝ }
 {
-    let one = Piece { width: 33, x: v };
-    let two = Piece {
-        width: 34 + v,
-        x: from,
-    };
-    Note { one, two }
+    140737488355328 + (from as u64) * 4096 + (v as u64)
 }
 
 // A text's event, of v bytes.
-pub fn note_text(events: &[u32], texts: &[u8], notes: &mut [u32], c: Spot, v: u32) -> Judgement
+pub fn note_text(events: &[u32], texts: &[u8], notes: &mut [u64], c: Spot, v: u32) -> Judgement
     requires { ⌜ Ready (now events) (now texts) (now notes) c ⌝ }
     ensures { λ r. ⌜
         Walked (now (events .entry)) (now (texts .entry))
@@ -200,7 +180,7 @@ pub fn note_text(events: &[u32], texts: &[u8], notes: &mut [u32], c: Spot, v: u3
     if 0 < wrong {
         return Judgement::Refuse(wrong, at);
     }
-    let note = text_note(v, used as u32);
+    let note = text_note(v, used);
     keep(notes, at, note);
     let count = size5(v);
     let bits = c.bits + count.0 + 8 * v;
@@ -216,7 +196,7 @@ pub fn note_text(events: &[u32], texts: &[u8], notes: &mut [u32], c: Spot, v: u3
 pub fn note_date(
     events: &[u32],
     texts: &[u8],
-    notes: &mut [u32],
+    notes: &mut [u64],
     c: Spot,
     clocked: bool,
     p: u32,
@@ -237,7 +217,7 @@ pub fn note_date(
     match stamp_of(clocked, p, q) {
         Stamp::Refuse(e) => Judgement::Refuse(e, at),
         Stamp::Takes { days, ms } => {
-            let h = date(clocked, days, ms);
+            let h = date(clocked, days, q % 134217728);
             let note = h.note;
             keep(notes, at, note);
             let bits = c.bits + h.bits;
@@ -255,7 +235,7 @@ pub fn note_date(
 pub fn close(
     events: &[u32],
     texts: &[u8],
-    notes: &mut [u32],
+    notes: &mut [u64],
     lengths: Lengths,
     q: u32,
     c: Spot,
@@ -274,13 +254,11 @@ pub fn close(
     if 0 < bad {
         return Judgement::Refuse(bad, to);
     }
-    let nothing = Piece { width: 0, x: 0 };
-    let none = just(nothing);
-    keep(notes, to, none);
+    keep(notes, to, 0);
     let h = head(lengths, q, e.bits - c.bits);
-    let note = h.note;
+    let note = note_of(h);
     keep(notes, at, note);
-    let bits = e.bits + h.bits;
+    let bits = e.bits + h.size;
     let next = Spot {
         event: to + 1,
         used: e.used,

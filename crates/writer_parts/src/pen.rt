@@ -1,16 +1,126 @@
-// Notes into a lent buffer, one after another.
-use crate::Note;
-use crate::Piece;
-use value::writing::put_bytes;
+// Notes into a lent buffer, one after another, by whole words: bits wait until there are 64 of them.
 use wire::Bits;
+use wire::writing::coded5;
 use wire::writing::put;
-use wire::writing::put5;
+use wire::writing::put_whole;
+use wire::writing::whole;
 ghost use mathlib.Core.Path.{_≡_};
-ghost use mathlib.Core.List.{_++_};
 ghost use Prim.Native.Nat.{_+_, _*_, _≤_, _<_, min};
-ghost use lib.ListN.{length};
+ghost use lib.ListN.{length, take, drop};
+ghost use Rattle.wire.specs.Bits.{bitAt, num, digits};
 ghost use Rattle.wire.specs.Put.{Room, Wrote};
-ghost use Rattle.writer_parts.specs.Notes.{pieceBits, noteBits, noteIn, spells};
+ghost use Rattle.value.specs.Simple.{bytes};
+ghost use Rattle.writer_parts.specs.Notes.{noteBits, textBits, dateBits, spells};
+ghost use Rattle.writer_parts.specs.Pen.{waits, Spare, Drawn, Begun};
+
+// The bytes before one stand; from there on wait the lowest bits of a number, so many of them.
+pub struct Pen {
+    pub next: usize,
+    pub waiting: u64,
+    pub count: u32,
+}
+
+// A byte as a word.
+fn wide(x: u8) -> u64
+    ensures { λ r. ⌜ (r ≡ x) × (r < 256) ⌝ }
+{
+    x as u64
+}
+
+// At a place: the bits of its byte before it wait.
+fn begin(payload: &[u8], at: Bits) -> Pen
+    requires { ⌜ at .0 ≤ 8 * length (now payload) ⌝ }
+    ensures { λ r. ⌜ Begun (now (payload .entry)) (at .0) r ⌝ }
+{
+    let a = at.0;
+    let next = (a / 8) as usize;
+    let count = a % 8;
+    if count == 0 {
+        return Pen {
+            next,
+            waiting: 0,
+            count,
+        };
+    }
+    let x = wide(payload[next]);
+    Pen {
+        next,
+        waiting: x >> (8 - count),
+        count,
+    }
+}
+
+// The w lowest bits of v.
+fn put_code(payload: &mut [u8], p: Pen, w: u32, v: u64) -> Pen
+    requires { ⌜ (Spare (now payload) p w) × (w < 64) ⌝ }
+    ensures { λ r. ⌜ Drawn (now (payload .entry)) (now (payload .exit)) p r (digits w v) ⌝ }
+{
+    let x = v % (1u64 << w);
+    let sum = p.count + w;
+    if sum < 64 {
+        return Pen {
+            next: p.next,
+            waiting: (p.waiting << w) + x,
+            count: sum,
+        };
+    }
+    let rest = sum - 64;
+    let free = w - rest;
+    put_whole(payload, p.next, (p.waiting << free) + (x >> rest));
+    Pen {
+        next: p.next + 8,
+        waiting: x,
+        count: rest,
+    }
+}
+
+// The 64 bits of v.
+fn put_eight(payload: &mut [u8], p: Pen, v: u64) -> Pen
+    requires { ⌜ Spare (now payload) p 64 ⌝ }
+    ensures { λ r. ⌜ Drawn (now (payload .entry)) (now (payload .exit)) p r (digits 64 v) ⌝ }
+{
+    let n = p.count;
+    put_whole(payload, p.next, ((p.waiting << (63 - n)) << 1) + (v >> n));
+    Pen {
+        next: p.next + 8,
+        waiting: v,
+        count: n,
+    }
+}
+
+// The number that n bytes are, fewer than eight.
+fn few(texts: &[u8], from: usize, n: usize) -> u64
+    requires { ⌜ (from + n ≤ length (now texts)) × (n < 8) ⌝ }
+    ensures { λ r. ⌜ digits (8 * n) r ≡ bytes (take n (drop from (now (texts .entry)))) ⌝ }
+{
+    let mut x: u64 = 0;
+    let mut i: usize = 0;
+    while i < n {
+        x = x * 256 + wide(texts[from + i]);
+        i += 1;
+    }
+    x
+}
+
+// n bytes of the texts, eight at once as long as there are eight.
+fn put_text(payload: &mut [u8], p: Pen, texts: &[u8], from: usize, n: usize) -> Pen
+    requires { ⌜ (Spare (now payload) p (8 * n)) × (from + n ≤ length (now texts)) ⌝ }
+    ensures { λ r. ⌜
+        Drawn (now (payload .entry)) (now (payload .exit)) p r (bytes (take n (drop from (now (texts .entry))))) ⌝ }
+{
+    let mut q = p;
+    let mut i: usize = 0;
+    while i + 8 <= n {
+        let x = whole(texts, from + i);
+        q = put_eight(payload, q, x);
+        i += 8;
+    }
+    if i == n {
+        return q;
+    }
+    let x = few(texts, from + i, n - i);
+    put_code(payload, q, (8 * (n - i)) as u32, x)
+}
 
 fn least(a: usize, b: usize) -> usize
     ensures { λ r. ⌜ r ≡ min a b ⌝ }
@@ -18,76 +128,79 @@ fn least(a: usize, b: usize) -> usize
     if a < b { a } else { b }
 }
 
-// A piece, by its width, and the place past it.
-fn put_piece(payload: &mut [u8], at: Bits, texts: &[u8], p: Piece) -> Bits
-    requires { ⌜ Room (now payload) (at .0) (length (pieceBits (now texts) p)) ⌝ }
+// A text's count, then its bytes, as far as there are such.
+fn put_counted(payload: &mut [u8], p: Pen, texts: &[u8], y: u64) -> Pen
+    requires { ⌜ Spare (now payload) p (length (textBits (now texts) y)) ⌝ }
     ensures { λ r. ⌜
-        Wrote (now (payload .entry)) (now (payload .exit)) (at .0) (pieceBits (now (texts .entry)) p) (r .0) ⌝ }
+        Drawn (now (payload .entry)) (now (payload .exit)) p r (textBits (now (texts .entry)) y) ⌝ }
 {
-    let w = p.width;
-    let x = p.x;
-    if w < 33 {
-        return put(payload, at, w, x);
-    }
-    if w == 33 {
-        return put5(payload, at, x);
-    }
-    let n = (w - 34) as usize;
-    let from = least(x as usize, texts.len());
-    let to = from + least(n, texts.len() - from);
-    put_bytes(payload, at, &texts[from..to])
+    let n = (y % 4096) as u32;
+    let count = coded5(n);
+    let q = put_code(payload, p, count.size, count.bits);
+    let from = least((y / 4096) as usize, texts.len());
+    let m = least(n as usize, texts.len() - from);
+    put_text(payload, q, texts, from, m)
 }
 
-// An event's note, and the place past it. Most notes have one piece with bits or none: nothing is called for the others.
-fn put_note(payload: &mut [u8], at: Bits, texts: &[u8], n: Note) -> Bits
-    requires { ⌜ Room (now payload) (at .0) (length (noteBits (now texts) n)) ⌝ }
-    ensures { λ r. ⌜
-        Wrote (now (payload .entry)) (now (payload .exit)) (at .0) (noteBits (now (texts .entry)) n) (r .0) ⌝ }
+// The days of a date and its milliseconds.
+fn put_date(payload: &mut [u8], p: Pen, y: u64) -> Pen
+    requires { ⌜ Spare (now payload) p 64 ⌝ }
+    ensures { λ r. ⌜ Drawn (now (payload .entry)) (now (payload .exit)) p r (dateBits y) ⌝ }
 {
-    let one = n.one;
-    let two = n.two;
-    if two.width == 0 {
-        if one.width == 0 {
-            return at;
+    let q = put_code(payload, p, 32, y / 134217728);
+    put_code(payload, q, 32, y % 134217728)
+}
+
+// A note. Most are a code of few bits.
+fn put_note(payload: &mut [u8], p: Pen, texts: &[u8], x: u64) -> Pen
+    requires { ⌜ Spare (now payload) p (length (noteBits (now texts) x)) ⌝ }
+    ensures { λ r. ⌜
+        Drawn (now (payload .entry)) (now (payload .exit)) p r (noteBits (now (texts .entry)) x) ⌝ }
+{
+    if x < 140737488355328 {
+        let w = (x >> 41) as u32;
+        if w == 0 {
+            return p;
         }
-        return put_piece(payload, at, texts, one);
+        return put_code(payload, p, w, x);
     }
-    let p = put_piece(payload, at, texts, one);
-    put_piece(payload, p, texts, two)
+    if x < 9223372036854775808 {
+        return put_counted(payload, p, texts, x - 140737488355328);
+    }
+    put_date(payload, p, x - 9223372036854775808)
 }
 
-// The note of event i.
-fn note_at(notes: &[u32], i: usize) -> Note
-    requires { ⌜ 4 * i + 4 ≤ length (now notes) ⌝ }
-    ensures { λ r. ⌜ r ≡ noteIn (now (notes .entry)) i ⌝ }
+// What waits, and the place past it.
+fn end(payload: &mut [u8], p: Pen) -> Bits
+    requires { ⌜ Spare (now payload) p 0 ⌝ }
+    ensures { λ r. ⌜ Wrote (now (payload .entry)) (now (payload .exit)) (8 * p .next) (waits p) (r .0) ⌝ }
 {
-    let j = 4 * i;
-    let one = Piece {
-        width: notes[j],
-        x: notes[j + 1],
-    };
-    let two = Piece {
-        width: notes[j + 2],
-        x: notes[j + 3],
-    };
-    Note { one, two }
+    let at = Bits((8 * p.next) as u32);
+    let n = p.count;
+    let low = (p.waiting % 4294967296) as u32;
+    if n <= 32 {
+        return put(payload, at, n, low);
+    }
+    let high = (p.waiting >> 32) as u32;
+    let q = put(payload, at, n - 32, high);
+    put(payload, q, 32, low)
 }
 
 // The notes of the first n events, and the place past them.
-pub fn put_notes(payload: &mut [u8], at: Bits, texts: &[u8], notes: &[u32], n: usize) -> Bits
+pub fn put_notes(payload: &mut [u8], at: Bits, texts: &[u8], notes: &[u64], n: usize) -> Bits
     requires { ⌜
         (Room (now payload) (at .0) (length (spells (now texts) (now notes) 0 n)))
-        × (4 * n ≤ length (now notes)) ⌝ }
+        × (n ≤ length (now notes)) ⌝ }
     ensures { λ r. ⌜
         Wrote (now (payload .entry)) (now (payload .exit)) (at .0)
         (spells (now (texts .entry)) (now (notes .entry)) 0 n) (r .0) ⌝ }
 {
-    let mut p = at;
+    let mut p = begin(payload, at);
     let mut i: usize = 0;
     while i < n {
-        let note = note_at(notes, i);
-        p = put_note(payload, p, texts, note);
+        let x = notes[i];
+        p = put_note(payload, p, texts, x);
         i += 1;
     }
-    p
+    end(payload, p)
 }

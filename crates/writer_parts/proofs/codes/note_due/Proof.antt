@@ -1,5 +1,5 @@
 -- An event that is like, and both codes, spelled and noted.
-use Rattle.writer_parts.proofs.CodeWays.{note-due-ways, due-fits, due-next, due-noted}
+use Rattle.writer_parts.proofs.CodeWays.{note-due-ways, due-fits, due-next}
 use borrow.Author.Needs.{needs}
 use Rattle.writer_parts.proofs.codes.note_due.Statement.{statement}
 use Rattle.writer_parts.proofs.codes.note_due.Tie as tie
@@ -32,45 +32,31 @@ spell-requires : tie.Need-spell-requires
 spell-requires c κs = search (needs, note-due-ways)
 
 enum-known-e : tie.Need-enum-known-e
-enum-known-e c = search needs
+enum-known-e c = search (needs, note-due-ways)
 
 enum-known-both : tie.Need-enum-known-both
-enum-known-both c = search needs
+enum-known-both c = search (needs, note-due-ways)
+
+note-of-requires : tie.Need-note-of-requires
+note-of-requires c κs = search (needs, note-due-ways)
 
 keep-requires : tie.Need-keep-requires
 keep-requires c κs = search (needs, note-due-ways)
 
 add-past : tie.Need-add-past
-add-past c =
-    let at-if1 = c .before .before .before .before .before .before .before .before .before in
-    let at-unlike = at-if1 .before in
-    let entry = at-unlike .before .before .before .before .before .before .before in
-    search (due-next, entry .pre .0, at-unlike .unlike .ensures, at-if1 .if1 .left)
+add-past c = search (needs, due-next)
 
 add-bits : tie.Need-add-bits
-add-bits c =
-    let at-both = c .before .before .before .before .before .before .before .before in
-    let at-spell = at-both .before .before in
-    let entry = at-spell .before .before .before .before .before .before .before .before .before in
-    search (due-fits, entry .pre .0, at-spell .spell .ensures, at-both .both .given .1)
+add-bits c = search (needs, due-fits)
 
 returns-2 : tie.Need-returns-2
 returns-2 c = search (needs, note-due-ways)
 
 same-length : tie.Need-same-length
-same-length c = search needs
+same-length c = search (needs, note-due-ways)
 
 returns-3 : tie.Need-returns-3
-returns-3 c =
-    let at-keep = c .before .before .before .before in
-    let at-both = at-keep .before .before .before .before in
-    let at-spell = at-both .before .before in
-    let at-if1 = at-spell .before in
-    let at-unlike = at-if1 .before in
-    let at-word2 = at-unlike .before in
-    let at-word = at-word2 .before in
-    let entry = at-word .before .before .before .before .before in
-    search (due-noted, entry .pre .0, entry .pre .4, at-word .word .ensures, at-word2 .word2 .ensures, at-unlike .unlike .ensures, at-if1 .if1 .left, at-spell .spell .ensures, at-both .both .given .1, at-keep .keep .ensures)
+returns-3 c = search (needs, note-due-ways)
 
 pub note-due-spec : {M : Type 1} → statement M
 note-due-spec =
@@ -87,6 +73,7 @@ note-due-spec =
     spell-requires
     enum-known-e
     enum-known-both
+    note-of-requires
     keep-requires
     add-past
     add-bits

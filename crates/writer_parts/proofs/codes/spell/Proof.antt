@@ -1,5 +1,5 @@
--- No such substitute, no such type by it, or both codes noted.
-use Rattle.writer_parts.proofs.CodeWays.{spell-ways, spell-note}
+-- No such substitute, no such type by it, or both codes.
+use Rattle.writer_parts.proofs.CodeWays.{spell-ways}
 use borrow.Author.Needs.{needs}
 use Rattle.writer_parts.proofs.codes.spell.Statement.{statement}
 use Rattle.writer_parts.proofs.codes.spell.Tie as tie
@@ -31,22 +31,8 @@ one-of-requires-2 c κs = search (needs, spell-ways)
 pair-requires : tie.Need-pair-requires
 pair-requires c κs = search (needs, spell-ways)
 
-add-bits : tie.Need-add-bits
-add-bits c = search (needs, spell-ways)
-
 returns-3 : tie.Need-returns-3
-returns-3 c =
-    let at-pair = c .before .before in
-    let at-one-of2 = at-pair .before .before .before in
-    let at-one-of = at-one-of2 .before in
-    let at-if2 = at-one-of .before in
-    let at-standing = at-if2 .before in
-    let at-derived = at-standing .before in
-    let at-default-type = at-derived .before in
-    let at-if1 = at-default-type .before in
-    let at-substitutes = at-if1 .before in
-    let entry = at-substitutes .before .before in
-    search (spell-note, entry .pre .0, entry .pre .1, entry .pre .2, at-substitutes .substitutes .ensures, at-if1 .if1 .left, at-default-type .default-type .ensures, at-derived .derived .ensures, at-standing .standing .ensures, at-if2 .if2 .left, at-one-of .one-of .ensures, at-one-of2 .one-of2 .ensures, at-pair .pair .ensures)
+returns-3 c = search (needs, spell-ways)
 
 pub spell-spec : {M : Type 1} → statement M
 spell-spec =
@@ -61,5 +47,4 @@ spell-spec =
     one-of-requires
     one-of-requires-2
     pair-requires
-    add-bits
     returns-3)

@@ -1,5 +1,5 @@
--- An event that is like, and its value, sized and noted.
-use Rattle.writer_parts.proofs.LeafWays.{coded-ways, coded-go}
+-- An event that is like, and its value, as a number and noted.
+use Rattle.writer_parts.proofs.LeafWays.{coded-ways}
 use borrow.Author.Needs.{needs}
 use Rattle.writer_parts.proofs.leaves.note_code.Statement.{statement}
 use Rattle.writer_parts.proofs.leaves.note_code.Tie as tie
@@ -10,8 +10,8 @@ unlike-requires c κs = search (needs, coded-ways)
 returns : tie.Need-returns
 returns c = search (needs, coded-ways)
 
-size-requires : tie.Need-size-requires
-size-requires c κs = search (needs, coded-ways)
+number-requires : tie.Need-number-requires
+number-requires c κs = search (needs, coded-ways)
 
 enum-known-e : tie.Need-enum-known-e
 enum-known-e c = search (needs, coded-ways)
@@ -19,8 +19,8 @@ enum-known-e c = search (needs, coded-ways)
 enum-known-n : tie.Need-enum-known-n
 enum-known-n c = search (needs, coded-ways)
 
-number-requires : tie.Need-number-requires
-number-requires c κs = search (needs, coded-ways)
+note-of-requires : tie.Need-note-of-requires
+note-of-requires c κs = search (needs, coded-ways)
 
 keep-requires : tie.Need-keep-requires
 keep-requires c κs = search (needs, coded-ways)
@@ -35,18 +35,10 @@ returns-2 : tie.Need-returns-2
 returns-2 c = search (needs, coded-ways)
 
 same-length : tie.Need-same-length
-same-length c = search needs
+same-length c = search (needs, coded-ways)
 
 returns-3 : tie.Need-returns-3
-returns-3 c =
-    let at-keep = c .before .before .before .before in
-    let at-number = at-keep .before .before in
-    let at-n = at-number .before .before in
-    let at-size = at-n .before .before in
-    let at-if1 = at-size .before in
-    let at-unlike = at-if1 .before in
-    let entry = at-unlike .before .before .before .before in
-    search (coded-go, entry .pre, at-unlike .unlike .ensures, at-if1 .if1 .left, at-size .size .ensures .0, at-size .size .ensures .1, at-n .n .given .1, at-number .number .ensures, at-keep .keep .ensures)
+returns-3 c = search (needs, coded-ways)
 
 pub note-code-spec : {M : Type 1} → statement M
 note-code-spec =
@@ -54,10 +46,10 @@ note-code-spec =
     (tie.spec
     unlike-requires
     returns
-    size-requires
+    number-requires
     enum-known-e
     enum-known-n
-    number-requires
+    note-of-requires
     keep-requires
     add-bits
     add-t23

@@ -1,4 +1,4 @@
--- An event that is like, and its words, which are a date and are noted.
+-- An event that is like, and its date, noted.
 use Rattle.writer_parts.proofs.LeafWays.{date-ways}
 use borrow.Author.Needs.{needs}
 use Rattle.writer_parts.proofs.leaves.note_date.Statement.{statement}
@@ -14,10 +14,10 @@ stamp-of-requires : tie.Need-stamp-of-requires
 stamp-of-requires c κs = search (needs, date-ways)
 
 enum-known-e : tie.Need-enum-known-e
-enum-known-e c = search needs
+enum-known-e c = search (needs, date-ways)
 
 enum-known-days : tie.Need-enum-known-days
-enum-known-days c = search needs
+enum-known-days c = search (needs, date-ways)
 
 date-requires : tie.Need-date-requires
 date-requires c κs = search (needs, date-ways)
@@ -28,14 +28,14 @@ keep-requires c κs = search (needs, date-ways)
 add-bits : tie.Need-add-bits
 add-bits c = search (needs, date-ways)
 
-add-t23 : tie.Need-add-t23
-add-t23 c = search (needs, date-ways)
+add-t24 : tie.Need-add-t24
+add-t24 c = search (needs, date-ways)
 
 returns-2 : tie.Need-returns-2
 returns-2 c = search (needs, date-ways)
 
 same-length : tie.Need-same-length
-same-length c = search needs
+same-length c = search (needs, date-ways)
 
 returns-3 : tie.Need-returns-3
 returns-3 c = search (needs, date-ways)
@@ -52,7 +52,7 @@ note-date-spec =
     date-requires
     keep-requires
     add-bits
-    add-t23
+    add-t24
     returns-2
     same-length
     returns-3)

@@ -8,43 +8,31 @@ enum-known-c : tie.Need-enum-known-c
 enum-known-c c = search needs
 
 inner-requires : tie.Need-inner-requires
-inner-requires c κs = search (needs, number-ways)
-
-just-requires : tie.Need-just-requires
-just-requires c κs = search (needs, number-ways)
+inner-requires c κs = search needs
 
 enum-told : tie.Need-enum-told
 enum-told c = search needs
-
-fixed-requires : tie.Need-fixed-requires
-fixed-requires c κs = search (needs, number-ways)
-
-just-requires-2 : tie.Need-just-requires-2
-just-requires-2 c κs = search (needs, number-ways)
 
 enum-told-2 : tie.Need-enum-told-2
 enum-told-2 c = search needs
 
 signed-number-requires : tie.Need-signed-number-requires
-signed-number-requires c κs = search (needs, number-ways)
+signed-number-requires c κs = search needs
 
 enum-known-c-2 : tie.Need-enum-known-c-2
 enum-known-c-2 c = search needs
 
 some-number-requires : tie.Need-some-number-requires
-some-number-requires c κs = search (needs, number-ways)
+some-number-requires c κs = search needs
 
 enum-known-c-3 : tie.Need-enum-known-c-3
 enum-known-c-3 c = search needs
 
 lowered-requires : tie.Need-lowered-requires
-lowered-requires c κs = search (needs, number-ways)
+lowered-requires c κs = search needs
 
 inner-requires-2 : tie.Need-inner-requires-2
-inner-requires-2 c κs = search (needs, number-ways)
-
-just-requires-3 : tie.Need-just-requires-3
-just-requires-3 c κs = search (needs, number-ways)
+inner-requires-2 c κs = search needs
 
 returns : tie.Need-returns
 returns c = search (needs, number-ways)
@@ -67,10 +55,7 @@ number-spec =
     (tie.spec
     enum-known-c
     inner-requires
-    just-requires
     enum-told
-    fixed-requires
-    just-requires-2
     enum-told-2
     signed-number-requires
     enum-known-c-2
@@ -78,7 +63,6 @@ number-spec =
     enum-known-c-3
     lowered-requires
     inner-requires-2
-    just-requires-3
     returns
     returns-2
     returns-3

@@ -1,44 +1,52 @@
--- The loop: the notes of the first i events stand.
-use Prim.Native.Nat.{_≤_, _-_}
-use mathlib.Core.Path.{_≡_, refl}
-use native.Mathlib.Omega.{arith}
+-- The loop: the first i notes are drawn.
+use Prim.Native.Nat.{_-_, _≤_}
+use mathlib.Core.Path.{_≡_}
 use lib.ListN.{length}
-use Rattle.wire.specs.Put.{Wrote}
 use Rattle.writer_parts.specs.Notes.{spells}
-use Rattle.writer_parts.proofs.PenWays.{notes-start, notes-room, notes-turn, notes-end}
+use Rattle.writer_parts.specs.Pen.{Drawn}
+use Rattle.writer_parts.proofs.PenWays.{put-notes-ways}
 use borrow.Author.Needs.{needs}
 use Rattle.writer_parts.proofs.pen.put_notes.Statement.{statement}
 use Rattle.writer_parts.proofs.pen.put_notes.Tie as tie
 
 abbrev Inv-loop : tie.InvT-loop
-Inv-loop payload₀ texts notes n p₀ i₀ payload p i = (length payload ≡ length payload₀) × (i ≤ n) × Wrote payload₀ payload (p₀ .0) (spells texts notes 0 i) (p .0)
+Inv-loop payload₀ texts notes n p₀ i₀ payload p i = (length payload ≡ length payload₀) × (i ≤ n) × Drawn payload₀ payload p₀ p (spells texts notes 0 i)
 
 abbrev μ-loop : tie.MeasureT-loop
 μ-loop payload₀ texts notes n p₀ i₀ payload p i = n - i
 
-loop-holds : tie.Need-loop-holds Inv-loop μ-loop
-loop-holds c = (refl, omega arith, notes-start _ _ _ _)
+begin-requires : tie.Need-begin-requires Inv-loop μ-loop
+begin-requires c κs = search (needs, put-notes-ways)
 
-note-at-requires : tie.Need-note-at-requires Inv-loop μ-loop
-note-at-requires c κs = search needs
+loop-holds : tie.Need-loop-holds Inv-loop μ-loop
+loop-holds c = search (needs, put-notes-ways)
+
+mul-x : tie.Need-mul-x Inv-loop μ-loop
+mul-x c = search (needs, put-notes-ways)
+
+shared-slice-read-x : tie.Need-shared-slice-read-x Inv-loop μ-loop
+shared-slice-read-x c = search (needs, put-notes-ways)
 
 put-note-requires : tie.Need-put-note-requires Inv-loop μ-loop
-put-note-requires c κs = search (needs, notes-room)
+put-note-requires c κs = search (needs, put-notes-ways)
 
 add-i : tie.Need-add-i Inv-loop μ-loop
-add-i c = search needs
+add-i c = search (needs, put-notes-ways)
 
 loop-less : tie.Need-loop-less Inv-loop μ-loop
-loop-less c = search needs
+loop-less c = search (needs, put-notes-ways)
 
 loop-again : tie.Need-loop-again Inv-loop μ-loop
-loop-again c = search (needs, notes-turn)
+loop-again c = search (needs, put-notes-ways)
+
+end-requires : tie.Need-end-requires Inv-loop μ-loop
+end-requires c κs = search (needs, put-notes-ways)
 
 same-length : tie.Need-same-length Inv-loop μ-loop
-same-length c = search needs
+same-length c = search (needs, put-notes-ways)
 
 returns : tie.Need-returns Inv-loop μ-loop
-returns c = search (needs, notes-end)
+returns c = search (needs, put-notes-ways)
 
 pub put-notes-spec : {M : Type 1} → statement M
 put-notes-spec =
@@ -46,11 +54,14 @@ put-notes-spec =
     (tie.spec
     Inv-loop
     μ-loop
+    begin-requires
     loop-holds
-    note-at-requires
+    mul-x
+    shared-slice-read-x
     put-note-requires
     add-i
     loop-less
     loop-again
+    end-requires
     same-length
     returns)
