@@ -7,4 +7,5 @@ pub mod Laws
 pub mod OpeningWays
 mod PathLaws
 mod StoreWays
+mod TextWays
 mod ValueWays

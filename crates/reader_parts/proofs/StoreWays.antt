@@ -10,10 +10,8 @@ use lib.ListN.{length, set}
 use lib.Seq.{sets}
 use Rattle.numbers.specs.Refusal.{eventRoom, textRoom}
 use Rattle.numbers.specs.Kind as kinds
-use Rattle.wire.specs.declared.Bytes.{Bytes}
-use Rattle.wire.specs.Bits.{num}
 use Rattle.value.specs.Simple.{bytesAt}
-use Rattle.value.proofs.SimpleLaws.{bytes-length, bytes-none, bytes-more}
+use Rattle.value.proofs.SimpleLaws.{bytes-length}
 use Rattle.model.specs.Model.{Event, event, events, texts, treeSlots, treeBytes}
 use Rattle.model.specs.Model.Nodes.{none, leaf}
 use Rattle.model.specs.Model.Answer.{given, refused}
@@ -69,17 +67,6 @@ module _ (kind p q next room : ℕ) (c : Cursor) (E : List ℕ) (f : room ≡ sl
 
 pub ruleset store-ways = (store-full, store-in)
 
--- copy: the bytes that are laid so far
-pub copied-none : (b : ℕ → ℕ) (p used : ℕ) (T : List ℕ) → T ≡ sets T used (bytesAt b p 0)
-copied-none b p used T = rw (bytes-none b p)
-
-pub copied-more : (b : ℕ → ℕ) (p used i x : ℕ) (T T₀ : List ℕ) → T ≡ sets T₀ used (bytesAt b p i) → x ≡ num b (p + 8 * i) 8 → set T (used + i) x ≡ sets T₀ used (bytesAt b p (i + 1))
-copied-more b p used i x T T₀ e f =
-    rw (e, f, bytes-more b p i) (sets-sets T₀ (bytesAt b p i) (num b (p + 8 * i) 8 ∷ []) used (used + i) (omega (arith, bytes-length b p i)))
-
-pub copied-all : (b : ℕ → ℕ) (p used i m : ℕ) (T T₀ : List ℕ) → T ≡ sets T₀ used (bytesAt b p i) → i ≤ m → m ≤ i → T ≡ sets T₀ used (bytesAt b p m)
-copied-all b p used i m T T₀ e h g = let f : i ≡ m = omega arith in e ∙ ap (λ (n : ℕ). sets T₀ used (bytesAt b p n)) f
-
 -- an event with its text, where the text is laid first
 module _ (E T : List ℕ) (c d : Cursor) (π : List ℕ) (e : Event) (ts : List ℕ) (q : ℕ) (x : d .count ≡ c .count) (y : d .used ≡ c .used + length ts) (h : length ts ≤ length T - c .used) where
   stored-text : (at : ℕ) → outcome (stored (roomOf E (sets T (c .used) ts) d) π at e [] q) d π E (sets T (c .used) ts) ≡ outcome (stored (roomOf E T c) π at e ts q) c π E T
@@ -94,26 +81,21 @@ module _ (E T : List ℕ) (c d : Cursor) (π : List ℕ) (e : Event) (ts : List 
           outcome-leaf at e [] q d π E (sets T (c .used) ts) ∙ rw (x, u) (sym (outcome-leaf at e ts q c π E T))
       go false = refl
 
--- keep
-module _ (b : ℕ → ℕ) (word : ℕ) (n : Bytes) (next room : ℕ) (c : Cursor) (E T : List ℕ) (f : room ≡ length T - c .used) where
-  abbrev ts : List ℕ
-  ts = bytesAt b (next - 8 * n .0) (n .0)
-
-  pub keep-full : room < n .0 → Keeps word ts next c E T (Refuse textRoom (c .at)) E T
+-- the Value of a text of n bytes from p on
+module _ (b : ℕ → ℕ) (p n next room : ℕ) (c : Cursor) (E T : List ℕ) (f : room ≡ length T - c .used) where
+  pub keep-full : (T′ : List ℕ) → room < n → Keeps n (bytesAt b p n) next c E T (Refuse textRoom (c .at)) E T′
   unfolding stepView outcome
-  keep-full h = record {
-    says = λ π. rw (stored-past (roomOf E T c) π (c .at .0) (event kinds.value word 0 (next - c .at .0)) ts next (omega (arith, bytes-length b (next - 8 * n .0) (n .0))));
+  keep-full T′ h = record {
+    says = λ π. rw (stored-past (roomOf E T c) π (c .at .0) (event kinds.value n 0 (next - c .at .0)) (bytesAt b p n) next (omega (arith, bytes-length b p n)));
   }
 
-  pub keep-in : (d : Cursor) (s : Step) (E′ T₁ : List ℕ) → n .0 ≤ room → d .at .0 ≡ c .at .0 → d .count ≡ c .count → d .used ≡ c .used + n .0
-      → T₁ ≡ sets T (c .used) ts → Stores kinds.value word 0 next d E s E′ → Keeps word ts next c E T s E′ T₁
+  pub keep-in : (d : Cursor) (s : Step) (E′ T₁ : List ℕ) → n ≤ room → d .at .0 ≡ c .at .0 → d .count ≡ c .count → d .used ≡ c .used + n
+      → T₁ ≡ sets T (c .used) (bytesAt b p n) → Stores kinds.value n 0 next d E s E′ → Keeps n (bytesAt b p n) next c E T s E′ T₁
   keep-in d s E′ T₁ h x y z g k =
-      let l = bytes-length b (next - 8 * n .0) (n .0) in
+      let l = bytes-length b p n in
       record {
         says = λ π.
             k .says T₁ π
-            ∙ rw g (stored-text E T c d π (event kinds.value word 0 (next - d .at .0)) ts next y (omega arith) (omega arith) (d .at .0))
-            ∙ ap (λ (at : ℕ). outcome (stored (roomOf E T c) π at (event kinds.value word 0 (next - at)) ts next) c π E T) x;
+            ∙ rw g (stored-text E T c d π (event kinds.value n 0 (next - d .at .0)) (bytesAt b p n) next y (omega arith) (omega arith) (d .at .0))
+            ∙ ap (λ (at : ℕ). outcome (stored (roomOf E T c) π at (event kinds.value n 0 (next - at)) (bytesAt b p n) next) c π E T) x;
       }
-
-pub ruleset keep-ways = (keep-full, keep-in)

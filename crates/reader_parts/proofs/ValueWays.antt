@@ -1,10 +1,10 @@
--- A value read and stored; and its text lies before the place past it.
-use Prim.Native.Nat.{ℕ, _-_, _*_, _≤_}
-use mathlib.Core.Path.{_≡_, sym, ap, _∙_}
+-- A value read and stored: refused, a date, a number, a text.
+use Prim.Native.Nat.{ℕ, zero, suc, _-_, _*_}
+use mathlib.Core.Path.{_≡_, refl, sym, ap, _∙_}
 use mathlib.Core.List.{List, []}
 use mathlib.Core.Bool.{Bool}
 use native.Mathlib.Omega.{arith}
-use lib.ListN.{length, length-append}
+use Rattle.numbers.specs.Simple as simple
 use Rattle.numbers.specs.Kind as kinds
 use Rattle.wire.specs.declared.Bits.{Bits}
 use Rattle.wire.specs.declared.Bytes.{Bytes}
@@ -12,14 +12,13 @@ use Rattle.wire.specs.Res.{Res, got, fault, _>>=_}
 use Rattle.wire.specs.Bits.{bitAt}
 use Rattle.wire.proofs.BitLaws.{bit-lt}
 use Rattle.table.specs.Rows.{tableOf}
-use Rattle.value.specs.Simple.{Simple, simpleOf, firstWord, secondWord, simpleAt, wordsOf, bytesAt, SimpleIs, a-code, a-text, a-date, bytes, count}
-use Rattle.value.specs.Found.{FoundSimple}
-use Rattle.value.proofs.SimpleLaws.{bytes-length, length-bytes, simple-found}
-use Rattle.value.specs.Code.{bitsOf}
+use Rattle.value.specs.Simple.{Simple, plain, text, dated, simpleOf, firstWord, secondWord, simpleAt, wordsOf, bytesAt, SimpleIs, a-code, a-date}
+use Rattle.value.proofs.SimpleLaws.{simple-found}
+use Rattle.value.specs.Code.{Code}
 use Rattle.value.specs.Answer.{valueIs}
 use Rattle.value.specs.declared.Value.{Value}
 use Rattle.value.specs.declared.Value.the-variants as of-value
-use Rattle.model.specs.Model.{event, value}
+use Rattle.model.specs.Model.{event, value, Answer}
 use Rattle.model.specs.Model.Plan.{done}
 use Rattle.model.specs.Model.Item.{valued}
 use Rattle.model.specs.Items.{Lengths, itemAt}
@@ -29,12 +28,27 @@ use Rattle.reader_parts.specs.declared.Cursor.{Cursor}
 use Rattle.reader_parts.specs.declared.Step.{Step}
 use Rattle.reader_parts.specs.declared.Step.the-variants.{Refuse}
 use Rattle.reader_parts.specs.Out.{roomOf, stepView, outcome, Reads, Stores, Keeps}
+use Rattle.reader_parts.specs.Texts.{Follows}
 
--- a text takes eight bits a byte
-text-bits : {s : Simple} {v : ℕ} {ts w : List ℕ} → SimpleIs s v ts w → 8 * length ts ≤ length w
-text-bits (a-code h) = omega arith
-text-bits (a-text {l} h o z) = omega (arith, length-append (bitsOf count (length l)) (bytes l), length-bytes l)
-text-bits (a-date h) = omega arith
+-- only a text has bytes
+plain-none : {c : Code} {v : ℕ} {ts w : List ℕ} → SimpleIs (plain c) v ts w → ts ≡ []
+plain-none (a-code h) = refl
+
+dated-none : {c : Code} {v : ℕ} {ts w : List ℕ} → SimpleIs (dated c) v ts w → ts ≡ []
+dated-none (a-date h) = refl
+
+no-bytes : (k x y : ℕ) {v : ℕ} {ts w : List ℕ} → (k ≡ simple.text → ⊥) → SimpleIs (simpleOf k x y) v ts w → ts ≡ []
+unfolding simpleOf
+no-bytes zero x y n h = plain-none h
+no-bytes (suc zero) x y n h = plain-none h
+no-bytes (suc (suc zero)) x y n h = plain-none h
+no-bytes (suc (suc (suc zero))) x y n h = plain-none h
+no-bytes (suc (suc (suc (suc zero)))) x y n h = plain-none h
+no-bytes (suc (suc (suc (suc (suc zero))))) x y n h = absurd (n refl)
+no-bytes (suc (suc (suc (suc (suc (suc zero)))))) x y n h = plain-none h
+no-bytes (suc (suc (suc (suc (suc (suc (suc zero))))))) x y n h = dated-none h
+no-bytes (suc (suc (suc (suc (suc (suc (suc (suc zero)))))))) x y n h = dated-none h
+no-bytes (suc (suc (suc (suc (suc (suc (suc (suc (suc k))))))))) x y n h = plain-none h
 
 -- what has words was read
 words-read : (s : Simple) (m : Res (ℕ × List ℕ × ℕ)) (p q : ℕ) (ts : List ℕ) (n : ℕ) → wordsOf s m ≡ got (p, q, ts, n) → (v : ℕ) × (m ≡ got (v, ts, n))
@@ -64,25 +78,33 @@ module _ (s : List ℕ) (wall k x y : ℕ) (c : Cursor) (E T : List ℕ) (r : Va
   unfolding valueIs code
   value-dated p q next h t E′ l = record { says = λ mode held π. l .says T π ∙ sym (rw (read-is mode held π (of-value.Dated p q next) h)) }
 
+  -- nor has a number
   module _ (word : ℕ) (n : Bytes) (next : Bits) (h : r ≡ of-value.Read word n next) where
     abbrev ts : List ℕ
     ts = bytesAt (bitAt s) (next .0 - 8 * n .0) (n .0)
-
-    pub value-read : (t : Step) (E′ T′ : List ℕ) → Keeps word ts (next .0) c E T t E′ T′ → Reads (value k x y done) (bitAt s) wall c E T t E′ T′
-    unfolding valueIs code
-    value-read t E′ T′ l = record { says = λ mode held π. l .says π ∙ sym (rw (read-is mode held π (of-value.Read word n next) h)) }
 
     taken : (v : ℕ) × (simpleAt (simpleOf k x y) (bitAt s) wall (c .at .0) ≡ got (v, ts, next .0))
     unfolding valueIs
     taken = words-read (simpleOf k x y) _ word 0 ts (next .0) (sym e ∙ rw h)
 
-    found : FoundSimple (bitAt s) (simpleOf k x y) wall (c .at .0) (taken .0) ts (next .0)
-    found = simple-found (bitAt s) (bit-lt s) (simpleOf k x y) wall (c .at .0) .says (taken .0, ts, next .0) (taken .1)
+    untold : (k ≡ simple.text → ⊥) → ts ≡ []
+    untold l = no-bytes k x y l (simple-found (bitAt s) (bit-lt s) (simpleOf k x y) wall (c .at .0) .says (taken .0, ts, next .0) (taken .1) .is)
 
-    pub value-within : (end : ℕ) → wall ≤ end → next .0 ≤ end
-    value-within end k = omega (arith, found .within)
+    value-read : (t : Step) (E′ T′ : List ℕ) → Keeps word ts (next .0) c E T t E′ T′ → Reads (value k x y done) (bitAt s) wall c E T t E′ T′
+    unfolding valueIs code
+    value-read t E′ T′ l = record { says = λ mode held π. l .says π ∙ sym (rw (read-is mode held π (of-value.Read word n next) h)) }
 
-    pub value-before : 8 * n .0 ≤ next .0
-    value-before = let l = bytes-length (bitAt s) (next .0 - 8 * n .0) (n .0) in omega (arith, text-bits (found .is), found .stands .next)
+    pub value-number : (t : Step) (E′ : List ℕ) → (k ≡ simple.text → ⊥) → Stores kinds.value word 0 (next .0) c E t E′ → Reads (value k x y done) (bitAt s) wall c E T t E′ T
+    value-number t E′ l m = value-read t E′ T (record { says = λ π. rw (untold l) (m .says T π) })
 
-pub ruleset value-ways = (value-refuse, value-dated, value-read, value-within, value-before)
+-- a text, by what follows its reading
+pub value-text : (b : ℕ → ℕ) (wall k x y : ℕ) (c : Cursor) (E T : List ℕ) (t : Step) (E′ T′ : List ℕ) → k ≡ simple.text → Follows (wordsOf text (simpleAt text b wall (c .at .0))) c E T t E′ T′
+    → Reads (value k x y done) b wall c E T t E′ T′
+unfolding simpleOf
+value-text b wall k x y c E T t E′ T′ z f = record { says = λ mode held π. f .says π ∙ ap (λ (o : Answer). outcome o c π E T) (sym (text-is mode held π)) }
+  where
+    text-is : (mode : Lengths) (held : ℕ → Bool) (π : List ℕ) → read b mode held (value k x y done) (roomOf E T c) π wall (c .at .0)
+        ≡ code (wordsOf text (simpleAt text b wall (c .at .0))) π (c .at .0) (λ (v, w, ts, q). stored (roomOf E T c) π (c .at .0) (event kinds.value v w (q - c .at .0)) ts q)
+    text-is mode held π = value-is b mode held (tableOf []) (roomOf E T c) π wall (c .at .0) k x y ∙ rw (item-valued b wall (c .at .0) k x y, z)
+
+pub ruleset value-ways = (value-refuse, value-dated, value-number, value-text)

@@ -3,3 +3,4 @@ pub mod Out
 pub mod Heads
 pub mod Codes
 pub mod Opening
+pub mod Texts
