@@ -1,5 +1,5 @@
 -- Each way through the reading of a value by its kind.
-use Prim.Native.Nat.{ℕ, zero, suc, _+_, _-_, _*_, _<_, _≤_}
+use Prim.Native.Nat.{ℕ, zero, suc, _+_, _-_, _*_, _^_, _<_, _≤_}
 use mathlib.Core.Path.{_≡_, refl, sym, ap, _∙_}
 use mathlib.Core.List.{List}
 use mathlib.Core.Bool.{true, false}
@@ -14,22 +14,31 @@ use Rattle.wire.proofs.Res.{then, then-fault}
 use Rattle.wire.specs.Bits.{bitAt}
 use Rattle.wire.specs.Answer.{readIs, fixed32}
 use Rattle.wire.proofs.ReadWays.{read-value, read-refuse}
-use Rattle.signed.specs.Words.{gapOf}
+use Rattle.signed.specs.Words.{gapOf, up}
 use Rattle.signed.specs.Views.{gapIs}
 use Rattle.signed.specs.declared.answers.Gap as gapT
 use Rattle.signed.specs.declared.answers.Gap.the-variants.{Under, By}
-use Rattle.value.specs.Code.{Code, signed, shifted, stamp, choiceAt, numberAt, codeAt}
+use Rattle.value.specs.Code.{Code, choice, five, signed, stamp, choiceAt, numberAt, codeAt}
 use Rattle.value.specs.Simple.{Simple, plain, text, dated, firstWord, secondWord, nothing, rangeCode, simpleOf, simpleAt, wordsOf}
 use Rattle.value.proofs.SimpleLaws.{bytes-none, words-got, words-fault}
 use Rattle.value.specs.Answer.{innerIs, codeIs, formIs, valueIs}
 use Rattle.value.proofs.FormWays.{range-under, range-near, range-far}
-use Rattle.value.proofs.ReadWays.{way-code-word}
-use Rattle.value.specs.declared.Inner.the-variants as iv
+use Rattle.value.proofs.ReadWays.{way-shifted-refuse, way-shifted-read, way-code-word}
 use Rattle.value.specs.declared.Code.the-variants as cv
 use Rattle.value.specs.declared.Form.the-variants as fv
 use Rattle.value.specs.declared.Value as valueT
 use Rattle.value.specs.declared.Value.the-variants as vv
-use Rattle.value.specs.Kinds.{plainly, kindCode}
+use Rattle.value.specs.Kinds.{plainly, kindCode, Raises}
+
+-- raise
+module _ (lo : ℕ) (r : Read) where
+  pub raise-refuse : (n : ℕ) → r ≡ read.Refuse n → Raises lo r (read.Refuse n)
+  raise-refuse n f = record { says = λ c b wall at e. way-shifted-refuse b wall at lo c r e n f }
+
+  pub raise-read : (k : ℕ) (p : Bits) (w : ℕ) → r ≡ read.Value k p → k < 2 ^ 32 → w ≡ up lo k → Raises lo r (read.Value w p)
+  raise-read k p w f h g = record { says = λ c b wall at e. way-shifted-read b wall at lo c r e k p w f h g }
+
+pub ruleset raise-ways = (raise-refuse, raise-read)
 
 -- ranged
 module _ (b : ℕ → ℕ) (wall at x y : ℕ) (g : gapT.Gap) (e : gapIs g ≡ gapOf x y) (r : Read) where
@@ -38,13 +47,13 @@ module _ (b : ℕ → ℕ) (wall at x y : ℕ) (g : gapT.Gap) (e : gapIs g ≡ g
   ranged-under w h = h ∙ ap (λ (k : Code). codeAt k b wall at) (range-under x y g e w)
 
   module _ (k : ℕ) (w : g ≡ By k) where
-    pub ranged-near : k ≤ mostFixed → readIs r ≡ codeAt (shifted x (innerIs (iv.Choice (k + 1)))) b wall at → readIs r ≡ codeAt (rangeCode x y) b wall at
-    unfolding codeIs
-    ranged-near l h = h ∙ ap (λ (k : Code). codeAt k b wall at) (range-near x y g e k w l)
+    pub ranged-near : (q : Read) → k ≤ mostFixed → readIs q ≡ choiceAt b (k + 1) wall at → Raises x q r → readIs r ≡ codeAt (rangeCode x y) b wall at
+    unfolding codeIs innerIs codeAt
+    ranged-near q l h t = t .says (choice (k + 1)) b wall at h ∙ ap (λ (k : Code). codeAt k b wall at) (range-near x y g e k w l)
 
-    pub ranged-far : mostFixed < k → readIs r ≡ codeAt (shifted x (innerIs (iv.Five k))) b wall at → readIs r ≡ codeAt (rangeCode x y) b wall at
-    unfolding codeIs
-    ranged-far l h = h ∙ ap (λ (k : Code). codeAt k b wall at) (range-far x y g e k w l)
+    pub ranged-far : (q : Read) → mostFixed < k → readIs q ≡ numberAt b k wall at → Raises x q r → readIs r ≡ codeAt (rangeCode x y) b wall at
+    unfolding codeIs innerIs codeAt
+    ranged-far q l h t = t .says (five k) b wall at h ∙ ap (λ (k : Code). codeAt k b wall at) (range-far x y g e k w l)
 
 pub ruleset ranged-ways = (ranged-under, ranged-near, ranged-far)
 

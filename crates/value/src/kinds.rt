@@ -1,16 +1,15 @@
 // A simple value read by its kind at once: what `reading::simple` gives of the kind's form, without that form in memory on the way.
 use super::Form;
-use super::Inner;
 use super::Value;
 use super::dates;
 use super::reading;
 use super::reading::choice;
 use super::reading::number;
-use super::reading::shifted_number;
 use super::reading::signed_number;
 use numbers::limit;
 use signed::Gap;
 use signed::gap;
+use signed::raised;
 use wire::Bits;
 use wire::Bytes;
 use wire::Read;
@@ -24,7 +23,17 @@ ghost use Rattle.wire.specs.Answer.{readIs};
 ghost use Rattle.value.specs.Code.{codeAt};
 ghost use Rattle.value.specs.Simple.{rangeCode, simpleOf};
 ghost use Rattle.value.specs.Answer.{ReadsSimple};
-ghost use Rattle.value.specs.Kinds.{kindCode};
+ghost use Rattle.value.specs.Kinds.{kindCode, Raises};
+
+// A number from lo on.
+fn raise(lo: u32, r: Read) -> Read
+    ensures { λ t. ⌜ Raises lo r t ⌝ }
+{
+    match r {
+        Read::Refuse(e) => Read::Refuse(e),
+        Read::Value(k, p) => Read::Value(raised(lo, k), p),
+    }
+}
 
 // A value from b to c, both signed.
 fn ranged(s: &[u8], wall: Bits, at: Bits, b: u32, c: u32) -> Read
@@ -35,9 +44,9 @@ fn ranged(s: &[u8], wall: Bits, at: Bits, b: u32, c: u32) -> Read
         Gap::Under => choice(s, wall, at, 0),
         Gap::By(k) => {
             if k <= limit::MOST_FIXED {
-                return shifted_number(s, wall, at, b, Inner::Choice(k + 1));
+                return raise(b, choice(s, wall, at, k + 1));
             }
-            shifted_number(s, wall, at, b, Inner::Five(k))
+            raise(b, number(s, wall, at, k))
         }
     }
 }

@@ -5,28 +5,34 @@ use Rattle.value.proofs.kinds.ranged.Statement.{statement}
 use Rattle.value.proofs.kinds.ranged.Tie as tie
 
 gap-requires : tie.Need-gap-requires
-gap-requires c κs = search (needs, ranged-ways)
+gap-requires c κs = search needs
 
 enum-told : tie.Need-enum-told
-enum-told c = search (needs, ranged-ways)
+enum-told c = search needs
 
 choice-requires : tie.Need-choice-requires
-choice-requires c κs = search (needs, ranged-ways)
+choice-requires c κs = search needs
 
 enum-known-k : tie.Need-enum-known-k
-enum-known-k c = search (needs, ranged-ways)
+enum-known-k c = search needs
 
-add-t10 : tie.Need-add-t10
-add-t10 c = search (needs, ranged-ways)
+add-choice : tie.Need-add-choice
+add-choice c = search needs
 
-shifted-number-requires : tie.Need-shifted-number-requires
-shifted-number-requires c κs = search (needs, ranged-ways)
+choice-requires-2 : tie.Need-choice-requires-2
+choice-requires-2 c κs = search needs
+
+raise-requires : tie.Need-raise-requires
+raise-requires c κs = search needs
 
 returns : tie.Need-returns
 returns c = search (needs, ranged-ways)
 
-shifted-number-requires-2 : tie.Need-shifted-number-requires-2
-shifted-number-requires-2 c κs = search (needs, ranged-ways)
+number-requires : tie.Need-number-requires
+number-requires c κs = search needs
+
+raise-requires-2 : tie.Need-raise-requires-2
+raise-requires-2 c κs = search needs
 
 returns-2 : tie.Need-returns-2
 returns-2 c = search (needs, ranged-ways)
@@ -42,9 +48,11 @@ ranged-spec =
     enum-told
     choice-requires
     enum-known-k
-    add-t10
-    shifted-number-requires
+    add-choice
+    choice-requires-2
+    raise-requires
     returns
-    shifted-number-requires-2
+    number-requires
+    raise-requires-2
     returns-2
     returns-3)
