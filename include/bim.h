@@ -71,9 +71,19 @@ extern "C" {
 #define BIM_MOST_FORMATS 255
 #define BIM_MOST_MESSAGE 536870911
 
-/* The stack, in bytes, that a call never needs more than. It has no arrays but of fixed length, and calls itself once for each row open, of
- * which there are at most 64. `make stack` measures it, and bounds it by the frames of the machine code (x86-64). */
-#define BIM_STACK 212992
+/* The stack, in bytes, that a call never needs more than, by the bytes of its table and of its events: those lent to bim_read, those of the list that is
+ * written. A call that has no table or no events goes by 0, and bim_report_add by BIM_STACK, whatever its table is. Both are constants where
+ * their arguments are, so that a small receiver may give its thread a small stack: room for a table and for events is taken in steps, and what remains is
+ * BIM_STACK_ROW for each row open and BIM_STACK_REST. A call has no arrays but of fixed length, and calls itself once for each row open, of which there are
+ * at most 64. `make stack` measures it, and bounds it by the frames of the machine code (x86-64). */
+#define BIM_STACK_REST 36864
+#define BIM_STACK_ROW 1344
+#define BIM_STACK_TABLE(bytes) ((bytes) <= 512 ? 0u : (bytes) <= 4096 ? 4096u : (bytes) <= 35856 ? 35856u : 58392u)
+#define BIM_STACK_EVENTS(bytes) ((bytes) <= 2048 ? 0u : (bytes) <= 8192 ? 8192u : (bytes) <= 16384 ? 16384u : 32768u)
+#define BIM_STACK_FOR(table_bytes, event_bytes) \
+    (BIM_STACK_REST + (BIM_MOST_OPEN + 1) * BIM_STACK_ROW + BIM_STACK_TABLE(table_bytes) + BIM_STACK_EVENTS(event_bytes))
+/* The most that any call needs. */
+#define BIM_STACK BIM_STACK_FOR(BIM_MOST_TABLE, BIM_MOST_EVENTS * BIM_EVENT)
 
 /* Length coding: the mode, and the byte that a payload of that mode begins with. BIM_CASTING is added to a mode where elements have type
  * codes, and BIM_CASTING_BYTE to its byte: 1F, 5F, 9F are the modes 4, 5, 6. A table without derivations has none of these. */

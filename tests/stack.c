@@ -1,8 +1,10 @@
 /* The stack that each call needs: stack VECTORS.. [--messages MESSAGES]. Each call runs on a stack of its own, painted before, between two pages that cannot be
  * touched; the deepest byte that lost its paint tells. Asked are the vectors, and chains of rows as deep as may be opened and deeper: every
  * pattern of up to four kinds of row over and over, with attributes and a text inside the last element, written in every mode, read back. In
- * the modes with type codes every element but the root is substituted, and could be cast.
- * Prints the most bytes for each call, and where; exit status 1 where that is over BIM_STACK (include/bim.h). */
+ * the modes with type codes every element but the root is substituted, and could be cast. Short patterns are asked besides in tables as large as form 1
+ * and form 2 have them, and with no more room for events than the list needs.
+ * Prints the most bytes for each call, by the size of the table, and where; exit status 1 where a call takes more than BIM_STACK_FOR (include/bim.h) gives
+ * for its table and its events. */
 #define _XOPEN_SOURCE 700
 #define _DEFAULT_SOURCE
 #include <sys/mman.h>
@@ -23,13 +25,17 @@ static uint32_t number;
 enum { INIT_READ = CALLS, INIT_WRITE, ALL_CALLS };
 static struct message_vector message;
 static uint8_t codecs[1 << 16], init[BIM_INIT], written[1 << 16];
-static size_t most[ALL_CALLS];
-static char most_in[ALL_CALLS][sizeof asked.name];
-static unsigned long calls;
+/* Counting a reading into a report is a call behind those. */
+enum { REPORT_ADD = ALL_CALLS, MEASURED };
+/* By the table: few or some words, form 1, form 2; none for a message. */
+enum { SMALL, FORM_1, FORM_2, SIZES };
+static const char *const size_names[SIZES] = {"a small table", "a table of form 1", "a table of form 2"};
+static size_t most[MEASURED][SIZES];
+static char most_in[MEASURED][SIZES][sizeof asked.name];
+static unsigned long calls, over;
 static int counting; /* the reading at hand is counted into a report */
 static uint8_t report[BIM_REPORT];
-static size_t most_counting;
-static char most_counting_in[sizeof asked.name];
+static size_t lent = sizeof events; /* the room for events of a reading */
 
 static void call(void)
 {
@@ -40,7 +46,7 @@ static void call(void)
         number = bim_check_table(asked.table.at, asked.table.length, area, sizeof area);
     else if (asked.asked == READ)
         number = bim_read(asked.table.at, asked.table.length, asked.party, asked.root_name, asked.root_type, asked.payload.at, asked.payload.length,
-                          events, sizeof events, texts, sizeof texts, area, sizeof area);
+                          events, lent, texts, sizeof texts, area, sizeof area);
     else if (asked.asked == WRITE)
         number = bim_write(asked.table.at, asked.table.length, asked.party, asked.root_name, asked.root_type, asked.mode, asked.events.at,
                            asked.events.length, asked.texts.at, asked.texts.length, payload, sizeof payload, area, sizeof area);
@@ -69,10 +75,21 @@ static void paint(void)
         words[i] = PAINT * (UINT64_MAX / 255);
 }
 
+/* What a call may take: by the bytes of its table and of its events. A report has room for all events, whatever the table is. */
+static size_t allowed(size_t which)
+{
+    const size_t table = which == INIT_READ || which == INIT_WRITE ? 0 : asked.table.length;
+    if (which == REPORT_ADD)
+        return BIM_STACK;
+    return BIM_STACK_FOR(table, which == READ ? lent : which == WRITE || which == WRITE_LENGTHS ? asked.events.length : 0);
+}
+
 /* Asks on the painted stack. What is above the call there, this program's own frame, is counted too. */
 static void measure_of(void (*once)(void), size_t which, const char *name)
 {
-    size_t low = 0, used;
+    const size_t table = which == INIT_READ || which == INIT_WRITE ? 0 : asked.table.length;
+    const size_t size = table <= 4096 ? SMALL : table <= 35856 ? FORM_1 : FORM_2;
+    size_t low, used;
     paint();
     if (getcontext(&there) != 0)
         abort();
@@ -82,22 +99,23 @@ static void measure_of(void (*once)(void), size_t which, const char *name)
     makecontext(&there, once, 0);
     if (swapcontext(&here, &there) != 0)
         abort();
-    while (low < STACK && stack[low] == PAINT)
-        low++;
+    for (low = 0; low < STACK && stack[low] == PAINT; low++)
+        ;
     used = STACK - low;
     calls++;
-    if (counting && used > most_counting) {
-        most_counting = used;
-        memcpy(most_counting_in, name, sizeof asked.name);
-    } else if (!counting && used > most[which]) {
-        most[which] = used;
-        memcpy(most_in[which], name, sizeof asked.name);
+    if (used > allowed(which)) {
+        over++;
+        printf("%s takes %lu bytes of stack, and BIM_STACK_FOR is %lu\n", name, (unsigned long)used, (unsigned long)allowed(which));
+    }
+    if (used > most[which][size]) {
+        most[which][size] = used;
+        memcpy(most_in[which][size], name, sizeof asked.name);
     }
 }
 
 static void measure(void)
 {
-    measure_of(call, asked.asked, asked.name);
+    measure_of(call, counting ? (size_t)REPORT_ADD : (size_t)asked.asked, asked.name);
 }
 
 /* A reading, and the same counted into a report. */
@@ -122,8 +140,8 @@ static uint32_t kind_at(uint32_t pattern, uint32_t length, uint32_t i)
     return pattern >> 2 * (i % length) & 3;
 }
 
-/* The words past the rows: every type but the first may be cast to that, and every element's one substitute is of its own type. */
-static void chain_codes(uint32_t pattern, uint32_t length, uint32_t rows)
+/* The words past the rows: every type of the chain but the first may be cast to that, and every element's one substitute is of its own type. */
+static void chain_codes(uint32_t pattern, uint32_t length, uint32_t rows, uint32_t types, uint32_t particles)
 {
     const uint32_t counts[] = {1, rows + 2, 0}, none[] = {0, 0}, derived[] = {0, 1};
     uint32_t i;
@@ -132,19 +150,21 @@ static void chain_codes(uint32_t pattern, uint32_t length, uint32_t rows)
         const uint32_t substitute[] = {9, i < rows ? i + 2 : 1};
         add_row(&asked.table, substitute, 2);
     }
-    for (i = 0; i < rows + 3; i++)
-        add_row(&asked.table, i == 0 ? none : derived, 2);
-    for (i = 0; i < rows + 2; i++) {
+    for (i = 0; i < types; i++)
+        add_row(&asked.table, i == 0 || i > rows + 2 ? none : derived, 2);
+    for (i = 0; i < particles; i++) {
         const uint32_t own[] = {i, 1};
-        add_row(&asked.table, i < rows && kind_at(pattern, length, i) != BIM_ELEMENT ? none : own, 2);
+        add_row(&asked.table, i > rows + 1 || (i < rows && kind_at(pattern, length, i) != BIM_ELEMENT) ? none : own, 2);
     }
 }
 
 /* A table of so many rows, each inside the one before. Type 0 is a text, type 1 the last element's with an attribute and a text, type 2 + i
- * that of element row i with an attribute and row i + 1; the root's type has row 0. */
-static void chain_table(uint32_t pattern, uint32_t length, uint32_t rows, uint32_t codes)
+ * that of element row i with an attribute and row i + 1; the root's type has row 0. A large table has as many rows of each kind as there may be, of which
+ * nothing is used behind these. */
+static void chain_table(uint32_t pattern, uint32_t length, uint32_t rows, uint32_t codes, int large)
 {
-    const uint32_t header[] = {codes ? 2 : 1, rows + 3, 1, rows + 2}, text[] = {1, BIM_SIMPLE, 0, 0, BIM_TEXT, 0, 0};
+    const uint32_t types = large ? 256 : rows + 3, attributes = large ? 1024 : 1, particles = large ? 1024 : rows + 2;
+    const uint32_t header[] = {codes ? 2 : 1, types, attributes, particles}, text[] = {1, BIM_SIMPLE, 0, 0, BIM_TEXT, 0, 0};
     const uint32_t leaf[] = {1, BIM_SIMPLE, 0, 1, BIM_TEXT, 0, 0}, attribute[] = {7, 0, 0};
     uint32_t i;
     asked.table.length = 0;
@@ -155,19 +175,22 @@ static void chain_table(uint32_t pattern, uint32_t length, uint32_t rows, uint32
         const uint32_t type[] = {1, BIM_PARTICLES, 0, 1, i == rows ? 0 : i + 1, 0, 0};
         add_row(&asked.table, type, 7);
     }
-    add_row(&asked.table, attribute, 3);
+    for (i = rows + 3; i < types; i++)
+        add_row(&asked.table, text, 7);
+    for (i = 0; i < attributes; i++)
+        add_row(&asked.table, attribute, 3);
     for (i = 0; i < rows; i++) {
         const uint32_t kind = kind_at(pattern, length, i);
         const uint32_t element[] = {BIM_ELEMENT, 3, i + 2, 0}, sequence[] = {BIM_SEQUENCE, i + 1, 1, 0};
         const uint32_t choice[] = {BIM_CHOICE, i + 1, 2, 0}, occurs[] = {BIM_OCCURS, i + 1, 0, BIM_UNBOUNDED};
         add_row(&asked.table, kind == BIM_ELEMENT ? element : kind == BIM_SEQUENCE ? sequence : kind == BIM_CHOICE ? choice : occurs, 4);
     }
-    for (i = 0; i < 2; i++) {
+    for (i = rows; i < particles; i++) {
         const uint32_t last[] = {BIM_ELEMENT, 5, 1, 0};
         add_row(&asked.table, last, 4);
     }
     if (codes)
-        chain_codes(pattern, length, rows);
+        chain_codes(pattern, length, rows, types, particles);
     asked.root_name = 1;
     asked.root_type = asked.type = rows + 2;
     asked.party = 0;
@@ -218,14 +241,15 @@ static void chain_list(uint32_t pattern, uint32_t length, uint32_t rows, uint32_
         memcpy(asked.texts.at + i, "\xc3\xa9", 2);
 }
 
-/* Both calls on a chain, in the modes with type codes or in those without; answers whether it was accepted. */
-static int measure_chain(uint32_t pattern, uint32_t length, uint32_t rows, uint32_t codes)
+/* Both calls on a chain, in the modes with type codes or in those without; answers whether it was accepted. With little room for events as many are lent
+ * as the list has, which is enough. */
+static int measure_chain(uint32_t pattern, uint32_t length, uint32_t rows, uint32_t codes, int large, int little)
 {
     static const char letters[] = "ESCO";
     int accepted = 1;
     uint32_t i, mode;
-    chain_table(pattern, length, rows, codes);
-    snprintf(asked.name, sizeof asked.name, "the table of %lu rows, form %d", (unsigned long)rows, codes ? 2 : 1);
+    chain_table(pattern, length, rows, codes, large);
+    snprintf(asked.name, sizeof asked.name, "the table of %lu rows, form %d%s", (unsigned long)rows, codes ? 2 : 1, large ? ", large" : "");
     asked.asked = CHECK;
     measure();
     asked.asked = SET_HELD;
@@ -251,8 +275,10 @@ static int measure_chain(uint32_t pattern, uint32_t length, uint32_t rows, uint3
         }
         /* Too deep a list has no payload: the one before, of a row less, leads the reader as deep as it gets. */
         asked.asked = READ;
+        lent = little ? asked.events.length : sizeof events;
         accepted &= number == BIM_ACCEPTED;
         measure_reading();
+        lent = sizeof events;
     }
     return accepted;
 }
@@ -260,21 +286,23 @@ static int measure_chain(uint32_t pattern, uint32_t length, uint32_t rows, uint3
 static void measure_chains(void)
 {
     uint32_t codes, length, pattern, rows;
+    int way;
     for (codes = 0; codes <= BIM_CASTING; codes += BIM_CASTING)
         for (length = 1; length <= MOST_PATTERN; length++)
             for (pattern = 0; pattern < (uint32_t)1 << 2 * length; pattern++)
                 for (rows = LONGEST; rows <= LONGEST + 2; rows++)
-                    if (measure_chain(pattern, length, rows, codes) != (rows == LONGEST)) {
-                        fprintf(stderr, "%s: the limit is elsewhere\n", asked.name);
-                        exit(2);
-                    }
+                    for (way = 0; way < (length == 1 ? 4 : 1); way++)
+                        if (measure_chain(pattern, length, rows, codes, way % 2, way / 2) != (rows == LONGEST)) {
+                            fprintf(stderr, "%s: the limit is elsewhere\n", asked.name);
+                            exit(2);
+                        }
 }
 
 int main(int argc, char **argv)
 {
     const size_t page = (size_t)sysconf(_SC_PAGESIZE);
     uint8_t *whole = (uint8_t *)mmap(NULL, STACK + 2 * page, PROT_NONE, MAP_PRIVATE | MAP_ANONYMOUS, -1, 0);
-    int i, over = 0;
+    int i, size;
     if (whole == (uint8_t *)MAP_FAILED || mprotect(whole + page, STACK, PROT_READ | PROT_WRITE) != 0) {
         perror("stack: no pages");
         return 2;
@@ -297,13 +325,13 @@ int main(int argc, char **argv)
                 measure();
         fclose(file);
     }
-    for (i = 0; i < ALL_CALLS; i++) {
-        const char *const name = i == INIT_READ ? "bim_init_read" : i == INIT_WRITE ? "bim_init_write" : call_names[i];
-        printf("%-17s %6lu bytes of stack (%s)\n", name, (unsigned long)most[i], most_in[i]);
-        over |= most[i] > BIM_STACK;
+    for (i = 0; i < MEASURED; i++) {
+        const char *const name = i == INIT_READ ? "bim_init_read" : i == INIT_WRITE ? "bim_init_write" : i == REPORT_ADD ? "bim_report_add" : call_names[i];
+        for (size = SMALL; size < SIZES; size++)
+            if (most[i][size] > 0)
+                printf("%-17s %6lu bytes of stack, %s (%s)\n", name, (unsigned long)most[i][size],
+                       i == INIT_READ || i == INIT_WRITE ? "no table" : size_names[size], most_in[i][size]);
     }
-    printf("%-17s %6lu bytes of stack (%s)\n", "bim_report_add", (unsigned long)most_counting, most_counting_in);
-    over |= most_counting > BIM_STACK;
     printf("%lu calls measured; BIM_STACK is %lu%s\n", calls, (unsigned long)BIM_STACK, over ? ": TOO LITTLE" : "");
-    return over;
+    return over != 0;
 }

@@ -13,6 +13,13 @@ use Rattle.bim.specs.TableRoom.{placeInTable}
 abbrev pub fewEventWords : ℕ
 fewEventWords = 512
 
+-- the rungs above them, below the last, which is mostEventWords
+abbrev pub someEventWords : ℕ
+someEventWords = 2048
+
+abbrev pub manyEventWords : ℕ
+manyEventWords = 4096
+
 -- the words lent for events: four for each that has room
 abbrev pub slotWords : ℕ → ℕ
 slotWords e = 4 * min (e / limit.event) mostEvents

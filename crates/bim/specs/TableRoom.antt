@@ -9,6 +9,13 @@ use Rattle.numbers.specs.Limit.{mostTableWords}
 use Rattle.table.specs.First.Verdict.{wrong}
 use Rattle.table.specs.Valid.{given}
 
+-- the rungs of room for a table's words below the last, which is mostTableWords; a table of form 1 has form1Words at most
+abbrev pub someWords : ℕ
+someWords = 1024
+
+abbrev pub form1Words : ℕ
+form1Words = 8964
+
 -- a fault at the number of words seen is one at the number of words given
 abbrev pub placeInTable : (seen given place : ℕ) → ℕ
 placeInTable seen given place = cond (eqb place seen) given place

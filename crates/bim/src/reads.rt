@@ -1,7 +1,11 @@
 // A payload read over bytes.
 use crate::rooms::FEW_EVENT_WORDS;
 use crate::rooms::FEW_WORDS;
+use crate::rooms::FIRST_RUNG;
+use crate::rooms::FORM_1_WORDS;
+use crate::rooms::MANY_EVENT_WORDS;
 use crate::rooms::SMALL_PAYLOAD;
+use crate::rooms::SOME_EVENT_WORDS;
 use crate::rooms::SOME_WORDS;
 use crate::tables::place_in_table;
 use crate::tables::words_lent;
@@ -15,10 +19,11 @@ use reader::read;
 ghost use mathlib.Core.Path.{_≡_};
 ghost use lib.ListN.{length};
 ghost use Prim.Native.Nat.{_*_, _≤_};
-ghost use Rattle.numbers.specs.Limit.{mostEventWords};
+ghost use Rattle.numbers.specs.Limit.{mostEventWords, mostTableWords};
 ghost use Rattle.reader.specs.Answers.{answerIs};
 ghost use Rattle.bim.specs.Contracts.{ReadByWords, ReadByBytes};
-ghost use Rattle.bim.specs.EventRoom.{fewEventWords, slotWords};
+ghost use Rattle.bim.specs.EventRoom.{fewEventWords, someEventWords, manyEventWords, slotWords};
+ghost use Rattle.bim.specs.TableRoom as room;
 ghost use Rattle.bim.specs.TableRoom.{Lends};
 
 // The words that are lent for events: four for each that has room.
@@ -57,8 +62,99 @@ fn read_and_store(
     a
 }
 
-// Reads with room for every event that has a place: m words of MOST_EVENT_WORDS.
+// Reads with room for some events: m of SOME_EVENT_WORDS words.
+fn read_with_some_events(
+    words: &[u32],
+    party: u32,
+    root_name: u32,
+    root_type: u32,
+    payload: &[u8],
+    m: usize,
+    events: &mut [u8],
+    texts: &mut [u8],
+) -> Answer
+    requires rung { ⌜ m ≤ someEventWords ⌝ }
+    requires fits { ⌜ 4 * m ≤ length (now events) ⌝ }
+    ensures { λ r. ⌜
+        ReadByWords (now (words .entry)) party «root_name» «root_type» (now (payload .entry)) m
+        (now (events .entry)) (now (texts .entry)) (answerIs r) (now (events .exit)) (now (texts .exit)) ⌝ }
+{
+    let mut list = [0u32; SOME_EVENT_WORDS];
+    read_and_store(
+        words,
+        party,
+        root_name,
+        root_type,
+        payload,
+        &mut list[..m],
+        events,
+        texts,
+    )
+}
+
+// The same with room for many.
+fn read_with_many_events(
+    words: &[u32],
+    party: u32,
+    root_name: u32,
+    root_type: u32,
+    payload: &[u8],
+    m: usize,
+    events: &mut [u8],
+    texts: &mut [u8],
+) -> Answer
+    requires rung { ⌜ m ≤ manyEventWords ⌝ }
+    requires fits { ⌜ 4 * m ≤ length (now events) ⌝ }
+    ensures { λ r. ⌜
+        ReadByWords (now (words .entry)) party «root_name» «root_type» (now (payload .entry)) m
+        (now (events .entry)) (now (texts .entry)) (answerIs r) (now (events .exit)) (now (texts .exit)) ⌝ }
+{
+    let mut list = [0u32; MANY_EVENT_WORDS];
+    read_and_store(
+        words,
+        party,
+        root_name,
+        root_type,
+        payload,
+        &mut list[..m],
+        events,
+        texts,
+    )
+}
+
+// The same with room for every event that has a place.
 fn read_with_most_events(
+    words: &[u32],
+    party: u32,
+    root_name: u32,
+    root_type: u32,
+    payload: &[u8],
+    m: usize,
+    events: &mut [u8],
+    texts: &mut [u8],
+) -> Answer
+    requires rung { ⌜ m ≤ mostEventWords ⌝ }
+    requires fits { ⌜ 4 * m ≤ length (now events) ⌝ }
+    ensures { λ r. ⌜
+        ReadByWords (now (words .entry)) party «root_name» «root_type» (now (payload .entry)) m
+        (now (events .entry)) (now (texts .entry)) (answerIs r) (now (events .exit)) (now (texts .exit)) ⌝ }
+{
+    let mut list = [0u32; limit::MOST_EVENT_WORDS];
+    read_and_store(
+        words,
+        party,
+        root_name,
+        root_type,
+        payload,
+        &mut list[..m],
+        events,
+        texts,
+    )
+}
+
+// Reads with room for m words of events, on this rung if they fit there, or on a later one.
+fn read_events_by_rungs(
+    rung: u32,
     words: &[u32],
     party: u32,
     root_name: u32,
@@ -74,14 +170,54 @@ fn read_with_most_events(
         ReadByWords (now (words .entry)) party «root_name» «root_type» (now (payload .entry)) m
         (now (events .entry)) (now (texts .entry)) (answerIs r) (now (events .exit)) (now (texts .exit)) ⌝ }
 {
-    let mut list = [0u32; limit::MOST_EVENT_WORDS];
-    read_and_store(
+    if rung == 0 {
+        return read_with_most_events(
+            words,
+            party,
+            root_name,
+            root_type,
+            payload,
+            m,
+            events,
+            texts,
+        );
+    }
+    if rung == 1 {
+        if m <= MANY_EVENT_WORDS {
+            return read_with_many_events(
+                words,
+                party,
+                root_name,
+                root_type,
+                payload,
+                m,
+                events,
+                texts,
+            );
+        }
+    }
+    if rung == 2 {
+        if m <= SOME_EVENT_WORDS {
+            return read_with_some_events(
+                words,
+                party,
+                root_name,
+                root_type,
+                payload,
+                m,
+                events,
+                texts,
+            );
+        }
+    }
+    read_events_by_rungs(
+        rung - 1,
         words,
         party,
         root_name,
         root_type,
         payload,
-        &mut list[..m],
+        m,
         events,
         texts,
     )
@@ -120,7 +256,8 @@ fn read_small_first(
     if a.number != refusal::EVENT_ROOM {
         return a;
     }
-    read_with_most_events(
+    read_events_by_rungs(
+        FIRST_RUNG,
         words,
         party,
         root_name,
@@ -147,7 +284,7 @@ fn read_with_event_room(
         (now (events .entry)) (now (texts .entry)) (answerIs r) (now (events .exit)) (now (texts .exit)) ⌝ }
 {
     let m = slot_words(events.len());
-    if m < FEW_EVENT_WORDS {
+    if m <= FEW_EVENT_WORDS {
         let mut few = [0u32; FEW_EVENT_WORDS];
         return read_and_store(
             words,
@@ -172,7 +309,8 @@ fn read_with_event_room(
             texts,
         );
     }
-    read_with_most_events(
+    read_events_by_rungs(
+        FIRST_RUNG,
         words,
         party,
         root_name,
@@ -216,7 +354,167 @@ fn read_with_table_room(
     a
 }
 
-// Reads by a table's bytes, in room for few words of it, for some, for all.
+// Reads by a table's bytes, in room for some words of it.
+fn read_in_some(
+    table: &[u8],
+    n: usize,
+    party: u32,
+    root_name: u32,
+    root_type: u32,
+    payload: &[u8],
+    events: &mut [u8],
+    texts: &mut [u8],
+) -> Answer
+    requires { ⌜ Lends n (length (now table)) room.someWords ⌝ }
+    ensures { λ r. ⌜
+        ReadByBytes (now (table .entry)) party «root_name» «root_type» (now (payload .entry))
+        (now (events .entry)) (now (texts .entry)) (answerIs r) (now (events .exit)) (now (texts .exit)) ⌝ }
+{
+    let mut words = [0u32; SOME_WORDS];
+    read_with_table_room(
+        table,
+        n,
+        &mut words,
+        party,
+        root_name,
+        root_type,
+        payload,
+        events,
+        texts,
+    )
+}
+
+// Reads by a table's bytes, in room for as many words as a table of form 1 can have.
+fn read_in_form_1(
+    table: &[u8],
+    n: usize,
+    party: u32,
+    root_name: u32,
+    root_type: u32,
+    payload: &[u8],
+    events: &mut [u8],
+    texts: &mut [u8],
+) -> Answer
+    requires { ⌜ Lends n (length (now table)) room.form1Words ⌝ }
+    ensures { λ r. ⌜
+        ReadByBytes (now (table .entry)) party «root_name» «root_type» (now (payload .entry))
+        (now (events .entry)) (now (texts .entry)) (answerIs r) (now (events .exit)) (now (texts .exit)) ⌝ }
+{
+    let mut words = [0u32; FORM_1_WORDS];
+    read_with_table_room(
+        table,
+        n,
+        &mut words,
+        party,
+        root_name,
+        root_type,
+        payload,
+        events,
+        texts,
+    )
+}
+
+// Reads by a table's bytes, in room for every word that a table can have.
+fn read_in_all(
+    table: &[u8],
+    n: usize,
+    party: u32,
+    root_name: u32,
+    root_type: u32,
+    payload: &[u8],
+    events: &mut [u8],
+    texts: &mut [u8],
+) -> Answer
+    requires { ⌜ Lends n (length (now table)) mostTableWords ⌝ }
+    ensures { λ r. ⌜
+        ReadByBytes (now (table .entry)) party «root_name» «root_type» (now (payload .entry))
+        (now (events .entry)) (now (texts .entry)) (answerIs r) (now (events .exit)) (now (texts .exit)) ⌝ }
+{
+    let mut words = [0u32; limit::MOST_TABLE_WORDS];
+    read_with_table_room(
+        table,
+        n,
+        &mut words,
+        party,
+        root_name,
+        root_type,
+        payload,
+        events,
+        texts,
+    )
+}
+
+// Reads by a table's bytes, on this rung if the n words fit there, or on a later one.
+fn read_by_rungs(
+    rung: u32,
+    table: &[u8],
+    n: usize,
+    party: u32,
+    root_name: u32,
+    root_type: u32,
+    payload: &[u8],
+    events: &mut [u8],
+    texts: &mut [u8],
+) -> Answer
+    requires { ⌜ Lends n (length (now table)) mostTableWords ⌝ }
+    ensures { λ r. ⌜
+        ReadByBytes (now (table .entry)) party «root_name» «root_type» (now (payload .entry))
+        (now (events .entry)) (now (texts .entry)) (answerIs r) (now (events .exit)) (now (texts .exit)) ⌝ }
+{
+    if rung == 0 {
+        return read_in_all(
+            table,
+            n,
+            party,
+            root_name,
+            root_type,
+            payload,
+            events,
+            texts,
+        );
+    }
+    if rung == 1 {
+        if n <= FORM_1_WORDS {
+            return read_in_form_1(
+                table,
+                n,
+                party,
+                root_name,
+                root_type,
+                payload,
+                events,
+                texts,
+            );
+        }
+    }
+    if rung == 2 {
+        if n <= SOME_WORDS {
+            return read_in_some(
+                table,
+                n,
+                party,
+                root_name,
+                root_type,
+                payload,
+                events,
+                texts,
+            );
+        }
+    }
+    read_by_rungs(
+        rung - 1,
+        table,
+        n,
+        party,
+        root_name,
+        root_type,
+        payload,
+        events,
+        texts,
+    )
+}
+
+// Reads by a table's bytes, in room for few words of it, or on the rung that fits.
 pub fn read_bytes(
     table: &[u8],
     party: u32,
@@ -245,25 +543,10 @@ pub fn read_bytes(
             texts,
         );
     }
-    if n <= SOME_WORDS {
-        let mut some = [0u32; SOME_WORDS];
-        return read_with_table_room(
-            table,
-            n,
-            &mut some,
-            party,
-            root_name,
-            root_type,
-            payload,
-            events,
-            texts,
-        );
-    }
-    let mut all = [0u32; limit::MOST_TABLE_WORDS];
-    read_with_table_room(
+    read_by_rungs(
+        FIRST_RUNG,
         table,
         n,
-        &mut all,
         party,
         root_name,
         root_type,

@@ -1,5 +1,7 @@
 // A table's bytes, judged as words.
 use crate::rooms::FEW_WORDS;
+use crate::rooms::FIRST_RUNG;
+use crate::rooms::FORM_1_WORDS;
 use crate::rooms::SOME_WORDS;
 use buffers::load;
 use numbers::limit;
@@ -52,7 +54,55 @@ fn check_with_table_room(t: &[u8], n: usize, words: &mut [u32]) -> Verdict
     }
 }
 
-// Checks a table's bytes, in room for few words of it, for some, for all.
+// Checks a table's bytes, in room for some words of it.
+fn check_in_some(t: &[u8], n: usize) -> Verdict
+    requires { ⌜ room.Lends n (length (now t)) room.someWords ⌝ }
+    ensures { λ r. ⌜ verdictIs r ≡ tableVerdict (now (t .entry)) ⌝ }
+{
+    let mut words = [0u32; SOME_WORDS];
+    check_with_table_room(t, n, &mut words)
+}
+
+// Checks a table's bytes, in room for as many words as a table of form 1 can have.
+fn check_in_form_1(t: &[u8], n: usize) -> Verdict
+    requires { ⌜ room.Lends n (length (now t)) room.form1Words ⌝ }
+    ensures { λ r. ⌜ verdictIs r ≡ tableVerdict (now (t .entry)) ⌝ }
+{
+    let mut words = [0u32; FORM_1_WORDS];
+    check_with_table_room(t, n, &mut words)
+}
+
+// Checks a table's bytes, in room for every word that a table can have.
+fn check_in_all(t: &[u8], n: usize) -> Verdict
+    requires { ⌜ room.Lends n (length (now t)) mostTableWords ⌝ }
+    ensures { λ r. ⌜ verdictIs r ≡ tableVerdict (now (t .entry)) ⌝ }
+{
+    let mut words = [0u32; limit::MOST_TABLE_WORDS];
+    check_with_table_room(t, n, &mut words)
+}
+
+// Checks a table's bytes, on this rung if the n words fit there, or on a later one.
+fn check_by_rungs(rung: u32, t: &[u8], n: usize) -> Verdict
+    requires { ⌜ room.Lends n (length (now t)) mostTableWords ⌝ }
+    ensures { λ r. ⌜ verdictIs r ≡ tableVerdict (now (t .entry)) ⌝ }
+{
+    if rung == 0 {
+        return check_in_all(t, n);
+    }
+    if rung == 1 {
+        if n <= FORM_1_WORDS {
+            return check_in_form_1(t, n);
+        }
+    }
+    if rung == 2 {
+        if n <= SOME_WORDS {
+            return check_in_some(t, n);
+        }
+    }
+    check_by_rungs(rung - 1, t, n)
+}
+
+// Checks a table's bytes, in room for few words of it, or on the rung that fits.
 pub fn check_bytes(t: &[u8]) -> Verdict
     ensures { λ r. ⌜ verdictIs r ≡ tableVerdict (now (t .entry)) ⌝ }
 {
@@ -61,10 +111,5 @@ pub fn check_bytes(t: &[u8]) -> Verdict
         let mut few = [0u32; FEW_WORDS];
         return check_with_table_room(t, n, &mut few);
     }
-    if n <= SOME_WORDS {
-        let mut some = [0u32; SOME_WORDS];
-        return check_with_table_room(t, n, &mut some);
-    }
-    let mut all = [0u32; limit::MOST_TABLE_WORDS];
-    check_with_table_room(t, n, &mut all)
+    check_by_rungs(FIRST_RUNG, t, n)
 }

@@ -2,6 +2,12 @@
 use crate::rooms::FEW_EVENT_WORDS;
 use crate::rooms::FEW_EVENTS;
 use crate::rooms::FEW_WORDS;
+use crate::rooms::FIRST_RUNG;
+use crate::rooms::FORM_1_WORDS;
+use crate::rooms::MANY_EVENT_WORDS;
+use crate::rooms::MANY_EVENTS;
+use crate::rooms::SOME_EVENT_WORDS;
+use crate::rooms::SOME_EVENTS;
 use crate::rooms::SOME_WORDS;
 use crate::tables::place_in_table;
 use crate::tables::words_lent;
@@ -14,9 +20,12 @@ ghost use mathlib.Core.Path.{_≡_};
 ghost use Prim.Native.Nat.{_/_, _%_, _≤_};
 ghost use lib.ListN.{length};
 ghost use Rattle.numbers.specs.Limit as limit;
+ghost use Rattle.numbers.specs.Limit.{mostTableWords};
 ghost use Rattle.writer.specs.Answers.{Writes};
 ghost use Rattle.bim.specs.Calls.{unlisted};
 ghost use Rattle.bim.specs.Contracts.{WrittenByWords, WrittenByBytes};
+ghost use Rattle.bim.specs.EventRoom.{someEventWords, manyEventWords};
+ghost use Rattle.bim.specs.TableRoom as room;
 ghost use Rattle.bim.specs.TableRoom.{Lends};
 
 // Refuses bytes that are no list: one word is none either, and is refused where they are. The place of NO_READING is n.
@@ -86,7 +95,174 @@ fn load_and_write(
     )
 }
 
-// Writes a list's bytes by a table's words, in room for few events or for all.
+// Writes a list's bytes, in room for some events.
+fn write_some_events(
+    words: &[u32],
+    party: u32,
+    root_name: u32,
+    root_type: u32,
+    mode: u32,
+    events: &[u8],
+    texts: &[u8],
+    payload: &mut [u8],
+) -> Answer
+    requires whole { ⌜ length (now events) % limit.event ≡ 0 ⌝ }
+    requires rung { ⌜ length (now events) / 4 ≤ someEventWords ⌝ }
+    ensures { λ r. ⌜
+        WrittenByWords (now (words .entry)) party «root_name» «root_type» mode (now (events .entry)) (now (texts .entry))
+        (now (payload .entry)) r (now (payload .exit)) ⌝ }
+{
+    let mut list = [0u32; SOME_EVENT_WORDS];
+    load_and_write(
+        words,
+        party,
+        root_name,
+        root_type,
+        mode,
+        events,
+        &mut list,
+        texts,
+        payload,
+    )
+}
+
+// The same in room for many.
+fn write_many_events(
+    words: &[u32],
+    party: u32,
+    root_name: u32,
+    root_type: u32,
+    mode: u32,
+    events: &[u8],
+    texts: &[u8],
+    payload: &mut [u8],
+) -> Answer
+    requires whole { ⌜ length (now events) % limit.event ≡ 0 ⌝ }
+    requires rung { ⌜ length (now events) / 4 ≤ manyEventWords ⌝ }
+    ensures { λ r. ⌜
+        WrittenByWords (now (words .entry)) party «root_name» «root_type» mode (now (events .entry)) (now (texts .entry))
+        (now (payload .entry)) r (now (payload .exit)) ⌝ }
+{
+    let mut list = [0u32; MANY_EVENT_WORDS];
+    load_and_write(
+        words,
+        party,
+        root_name,
+        root_type,
+        mode,
+        events,
+        &mut list,
+        texts,
+        payload,
+    )
+}
+
+// The same in room for every one that it can have.
+fn write_most_events(
+    words: &[u32],
+    party: u32,
+    root_name: u32,
+    root_type: u32,
+    mode: u32,
+    events: &[u8],
+    texts: &[u8],
+    payload: &mut [u8],
+) -> Answer
+    requires whole { ⌜ length (now events) % limit.event ≡ 0 ⌝ }
+    requires rung { ⌜ length (now events) / 4 ≤ limit.mostEventWords ⌝ }
+    ensures { λ r. ⌜
+        WrittenByWords (now (words .entry)) party «root_name» «root_type» mode (now (events .entry)) (now (texts .entry))
+        (now (payload .entry)) r (now (payload .exit)) ⌝ }
+{
+    let mut list = [0u32; limit::MOST_EVENT_WORDS];
+    load_and_write(
+        words,
+        party,
+        root_name,
+        root_type,
+        mode,
+        events,
+        &mut list,
+        texts,
+        payload,
+    )
+}
+
+// Writes a list's bytes on this rung if its n events fit there, or on a later one.
+fn write_events_by_rungs(
+    rung: u32,
+    n: usize,
+    words: &[u32],
+    party: u32,
+    root_name: u32,
+    root_type: u32,
+    mode: u32,
+    events: &[u8],
+    texts: &[u8],
+    payload: &mut [u8],
+) -> Answer
+    requires whole { ⌜ length (now events) % limit.event ≡ 0 ⌝ }
+    requires count { ⌜ n ≡ length (now events) / limit.event ⌝ }
+    requires most { ⌜ n ≤ limit.mostEvents ⌝ }
+    ensures { λ r. ⌜
+        WrittenByWords (now (words .entry)) party «root_name» «root_type» mode (now (events .entry)) (now (texts .entry))
+        (now (payload .entry)) r (now (payload .exit)) ⌝ }
+{
+    if rung == 0 {
+        return write_most_events(
+            words,
+            party,
+            root_name,
+            root_type,
+            mode,
+            events,
+            texts,
+            payload,
+        );
+    }
+    if rung == 1 {
+        if n <= MANY_EVENTS {
+            return write_many_events(
+                words,
+                party,
+                root_name,
+                root_type,
+                mode,
+                events,
+                texts,
+                payload,
+            );
+        }
+    }
+    if rung == 2 {
+        if n <= SOME_EVENTS {
+            return write_some_events(
+                words,
+                party,
+                root_name,
+                root_type,
+                mode,
+                events,
+                texts,
+                payload,
+            );
+        }
+    }
+    write_events_by_rungs(
+        rung - 1,
+        n,
+        words,
+        party,
+        root_name,
+        root_type,
+        mode,
+        events,
+        texts,
+        payload,
+    )
+}
+
+// Writes a list's bytes by a table's words, in room for few events, or on the rung that fits.
 fn write_with_event_room(
     words: &[u32],
     party: u32,
@@ -124,15 +300,15 @@ fn write_with_event_room(
             payload,
         );
     }
-    let mut list = [0u32; limit::MOST_EVENT_WORDS];
-    load_and_write(
+    write_events_by_rungs(
+        FIRST_RUNG,
+        n,
         words,
         party,
         root_name,
         root_type,
         mode,
         events,
-        &mut list,
         texts,
         payload,
     )
@@ -172,7 +348,178 @@ fn write_with_table_room(
     a
 }
 
-// Writes by a table's bytes, in room for few words of it, for some, for all.
+// Writes by a table's bytes, in room for some words of it.
+fn write_in_some(
+    table: &[u8],
+    n: usize,
+    party: u32,
+    root_name: u32,
+    root_type: u32,
+    mode: u32,
+    events: &[u8],
+    texts: &[u8],
+    payload: &mut [u8],
+) -> Answer
+    requires { ⌜ Lends n (length (now table)) room.someWords ⌝ }
+    ensures { λ r. ⌜
+        WrittenByBytes (now (table .entry)) party «root_name» «root_type» mode (now (events .entry)) (now (texts .entry))
+        (now (payload .entry)) r (now (payload .exit)) ⌝ }
+{
+    let mut words = [0u32; SOME_WORDS];
+    write_with_table_room(
+        table,
+        n,
+        &mut words,
+        party,
+        root_name,
+        root_type,
+        mode,
+        events,
+        texts,
+        payload,
+    )
+}
+
+// Writes by a table's bytes, in room for as many words as a table of form 1 can have.
+fn write_in_form_1(
+    table: &[u8],
+    n: usize,
+    party: u32,
+    root_name: u32,
+    root_type: u32,
+    mode: u32,
+    events: &[u8],
+    texts: &[u8],
+    payload: &mut [u8],
+) -> Answer
+    requires { ⌜ Lends n (length (now table)) room.form1Words ⌝ }
+    ensures { λ r. ⌜
+        WrittenByBytes (now (table .entry)) party «root_name» «root_type» mode (now (events .entry)) (now (texts .entry))
+        (now (payload .entry)) r (now (payload .exit)) ⌝ }
+{
+    let mut words = [0u32; FORM_1_WORDS];
+    write_with_table_room(
+        table,
+        n,
+        &mut words,
+        party,
+        root_name,
+        root_type,
+        mode,
+        events,
+        texts,
+        payload,
+    )
+}
+
+// Writes by a table's bytes, in room for every word that a table can have.
+fn write_in_all(
+    table: &[u8],
+    n: usize,
+    party: u32,
+    root_name: u32,
+    root_type: u32,
+    mode: u32,
+    events: &[u8],
+    texts: &[u8],
+    payload: &mut [u8],
+) -> Answer
+    requires { ⌜ Lends n (length (now table)) mostTableWords ⌝ }
+    ensures { λ r. ⌜
+        WrittenByBytes (now (table .entry)) party «root_name» «root_type» mode (now (events .entry)) (now (texts .entry))
+        (now (payload .entry)) r (now (payload .exit)) ⌝ }
+{
+    let mut words = [0u32; limit::MOST_TABLE_WORDS];
+    write_with_table_room(
+        table,
+        n,
+        &mut words,
+        party,
+        root_name,
+        root_type,
+        mode,
+        events,
+        texts,
+        payload,
+    )
+}
+
+// Writes by a table's bytes, on this rung if the n words fit there, or on a later one.
+fn write_by_rungs(
+    rung: u32,
+    table: &[u8],
+    n: usize,
+    party: u32,
+    root_name: u32,
+    root_type: u32,
+    mode: u32,
+    events: &[u8],
+    texts: &[u8],
+    payload: &mut [u8],
+) -> Answer
+    requires { ⌜ Lends n (length (now table)) mostTableWords ⌝ }
+    ensures { λ r. ⌜
+        WrittenByBytes (now (table .entry)) party «root_name» «root_type» mode (now (events .entry)) (now (texts .entry))
+        (now (payload .entry)) r (now (payload .exit)) ⌝ }
+{
+    if rung == 0 {
+        return write_in_all(
+            table,
+            n,
+            party,
+            root_name,
+            root_type,
+            mode,
+            events,
+            texts,
+            payload,
+        );
+    }
+    if rung == 1 {
+        if n <= FORM_1_WORDS {
+            return write_in_form_1(
+                table,
+                n,
+                party,
+                root_name,
+                root_type,
+                mode,
+                events,
+                texts,
+                payload,
+            );
+        }
+    }
+    if rung == 2 {
+        if n <= SOME_WORDS {
+            return write_in_some(
+                table,
+                n,
+                party,
+                root_name,
+                root_type,
+                mode,
+                events,
+                texts,
+                payload,
+            );
+        }
+    }
+    write_by_rungs(
+        rung - 1,
+        table,
+        n,
+        party,
+        root_name,
+        root_type,
+        mode,
+        events,
+        texts,
+        payload,
+    )
+}
+
+// Writes by a table's bytes, in room for few words of it, or on the rung that fits.
 pub fn write_bytes(
     table: &[u8],
     party: u32,
@@ -203,26 +550,10 @@ pub fn write_bytes(
             payload,
         );
     }
-    if n <= SOME_WORDS {
-        let mut some = [0u32; SOME_WORDS];
-        return write_with_table_room(
-            table,
-            n,
-            &mut some,
-            party,
-            root_name,
-            root_type,
-            mode,
-            events,
-            texts,
-            payload,
-        );
-    }
-    let mut all = [0u32; limit::MOST_TABLE_WORDS];
-    write_with_table_room(
+    write_by_rungs(
+        FIRST_RUNG,
         table,
         n,
-        &mut all,
         party,
         root_name,
         root_type,

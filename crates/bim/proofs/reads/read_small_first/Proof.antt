@@ -21,8 +21,8 @@ same-length-2 c = search needs
 returns : tie.Need-returns
 returns c = few-read _ _ _ _ _ fewEventWords _ _ _ _ _ _ (omega arith) (c .if1 .taken) (c .before .before .before .before .before .before .before .read-and-store .ensures)
 
-read-with-most-events-requires : tie.Need-read-with-most-events-requires
-read-with-most-events-requires c κs = search needs
+read-events-by-rungs-requires : tie.Need-read-events-by-rungs-requires
+read-events-by-rungs-requires c κs = search needs
 
 same-length-3 : tie.Need-same-length-3
 same-length-3 c = search needs
@@ -33,7 +33,7 @@ same-length-4 c = search needs
 returns-2 : tie.Need-returns-2
 returns-2 c =
     let r = c .before .before .before .before .before .before .before .before .before .before .before .before .before .before .read-and-store in
-    again-read _ _ _ _ _ _ _ _ _ _ _ _ _ (r .kept .1 .1 .1 .1 .1 .1 .0) (r .kept .1 .1 .1 .1 .1 .1 .1 .0) (c .before .before .before .before .read-with-most-events .ensures)
+    again-read _ _ _ _ _ _ _ _ _ _ _ _ _ (r .kept .1 .1 .1 .1 .1 .1 .0) (r .kept .1 .1 .1 .1 .1 .1 .1 .0) (c .before .before .before .before .read-events-by-rungs .ensures)
 
 pub read-small-first-spec : {M : Type 1} → statement M
 read-small-first-spec =
@@ -44,7 +44,7 @@ read-small-first-spec =
     same-length
     same-length-2
     returns
-    read-with-most-events-requires
+    read-events-by-rungs-requires
     same-length-3
     same-length-4
     returns-2)

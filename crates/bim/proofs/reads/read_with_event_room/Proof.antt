@@ -39,8 +39,8 @@ same-length-4 c = search needs
 returns-2 : tie.Need-returns-2
 returns-2 c = slots-read _ _ _ _ _ _ _ _ _ _ _ _ (c .before .before .before .before .before .before .before .before .before .slot-words .ensures .0) (c .before .before .before .before .read-small-first .ensures)
 
-read-with-most-events-requires : tie.Need-read-with-most-events-requires
-read-with-most-events-requires c κs = search needs
+read-events-by-rungs-requires : tie.Need-read-events-by-rungs-requires
+read-events-by-rungs-requires c κs = search needs
 
 same-length-5 : tie.Need-same-length-5
 same-length-5 c = search needs
@@ -49,7 +49,7 @@ same-length-6 : tie.Need-same-length-6
 same-length-6 c = search needs
 
 returns-3 : tie.Need-returns-3
-returns-3 c = slots-read _ _ _ _ _ _ _ _ _ _ _ _ (c .before .before .before .before .before .before .before .before .before .slot-words .ensures .0) (c .before .before .before .before .read-with-most-events .ensures)
+returns-3 c = slots-read _ _ _ _ _ _ _ _ _ _ _ _ (c .before .before .before .before .before .before .before .before .before .slot-words .ensures .0) (c .before .before .before .before .read-events-by-rungs .ensures)
 
 pub read-with-event-room-spec : {M : Type 1} → statement M
 read-with-event-room-spec =
@@ -66,7 +66,7 @@ read-with-event-room-spec =
     same-length-3
     same-length-4
     returns-2
-    read-with-most-events-requires
+    read-events-by-rungs-requires
     same-length-5
     same-length-6
     returns-3)

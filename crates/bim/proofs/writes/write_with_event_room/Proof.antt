@@ -1,4 +1,4 @@
--- `write_with_event_room`: no whole events, too many events, a list of few, a list.
+-- `write_with_event_room`: no whole events, too many events, a list of few, a list on its rung.
 use Rattle.bim.proofs.Lists.{list-odd, list-long}
 use borrow.Author.Needs.{needs}
 use Rattle.bim.proofs.writes.write_with_event_room.Statement.{statement}
@@ -34,17 +34,14 @@ same-length-3 c = search needs
 returns-3 : tie.Need-returns-3
 returns-3 c = c .before .before .before .load-and-write .ensures
 
-slice-aggregate-load-and-write-2 : tie.Need-slice-aggregate-load-and-write-2
-slice-aggregate-load-and-write-2 c = search needs
-
-load-and-write-requires-2 : tie.Need-load-and-write-requires-2
-load-and-write-requires-2 c κs = search needs
+write-events-by-rungs-requires : tie.Need-write-events-by-rungs-requires
+write-events-by-rungs-requires c κs = search needs
 
 same-length-4 : tie.Need-same-length-4
 same-length-4 c = search needs
 
 returns-4 : tie.Need-returns-4
-returns-4 c = c .before .before .before .load-and-write2 .ensures
+returns-4 c = c .before .before .write-events-by-rungs .ensures
 
 pub write-with-event-room-spec : {M : Type 1} → statement M
 write-with-event-room-spec =
@@ -60,7 +57,6 @@ write-with-event-room-spec =
     load-and-write-requires
     same-length-3
     returns-3
-    slice-aggregate-load-and-write-2
-    load-and-write-requires-2
+    write-events-by-rungs-requires
     same-length-4
     returns-4)
