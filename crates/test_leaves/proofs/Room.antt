@@ -1,5 +1,5 @@
 -- Where a walk over one event ends, its note has the bits that were counted.
-use Prim.Native.Nat.{ℕ, _+_, _-_, _*_, _≤_}
+use Prim.Native.Nat.{ℕ, _+_, _-_, _≤_}
 use mathlib.Core.Path.{_≡_}
 use mathlib.Core.List.{List}
 use native.Mathlib.Omega.{arith}
@@ -25,5 +25,5 @@ module _ (L X : List ℕ) (o : Out) (N : List ℕ) (r : Judgement) (M : List ℕ
       let m : e .bits ≡ 0 + length (spells X M 0 (e .event)) = rw z at n in
       omega arith
 
-  pub one-noted : 4 * e .event ≤ length M
+  pub one-noted : e .event ≤ length M
   one-noted = let y = went .ready in let a = y .sized in let b = y .inside in omega arith
