@@ -227,7 +227,40 @@ module _ (s : List ℕ) (p : Pen) (X : List ℕ) (from n : ℕ) (room : Spare s 
           drawn-as s u p r (so-far i ++ digits (8 * (n - i)) x) (so-far n) (rw f (sym (bytes-on X from i (n - i)) ∙ ap so-far (sym z)))
           (drawn-both s t u p q r (so-far i) (digits (8 * (n - i)) x) d g)
 
-pub ruleset text-pen-ways = (text-start, text-eight, text-turn, text-done, text-left, text-rest)
+    pub text-sixteen : i + 16 ≤ n → Spare t q 128
+    text-sixteen h = spare-on s t p q (so-far i) (8 * n) 128 d room e (omega (arith, long i (omega arith)))
+
+    module _ (m : ℕ) (h : i + m ≤ n) where
+      pub text-part : (u : List ℕ) (r : Pen) → Drawn t u q r (bytes (take m (drop (from + i) X))) → Drawn s u p r (so-far (i + m))
+      text-part u r g =
+          drawn-as s u p r (so-far i ++ bytes (take m (drop (from + i) X))) (so-far (i + m)) (sym (bytes-on X from i m))
+          (drawn-both s t u p q r (so-far i) (bytes (take m (drop (from + i) X))) d g)
+
+    pub text-all : i ≤ n → (u : List ℕ) (r : Pen) → Drawn t u q r (bytes (take (n - i) (drop (from + i) X))) → Drawn s u p r (so-far n)
+    text-all h u r g =
+        let z : i + (n - i) ≡ n = omega arith in
+        drawn-as s u p r (so-far (i + (n - i))) (so-far n) (ap so-far z) (text-part (n - i) (omega arith) u r g)
+
+pub ruleset rest-ways = (text-start, text-eight, text-turn, text-done, text-left, text-rest)
+
+-- put_sixteen: two words
+module _ (s : List ℕ) (p : Pen) (X : List ℕ) (at : ℕ) (room : Spare s p 128) (inside : at + 16 ≤ length X) where
+  pub sixteen-first : Spare s p 64
+  sixteen-first = spare-less s p 128 64 room (omega arith)
+
+  module _ (f : (j : ℕ) → FitsIn w8 (getD X j 0)) (x : ℕ) (z : x ≡ num (bitAt X) (8 * at) 64) (t : List ℕ) (q : Pen) (g : Drawn s t p q (digits 64 x)) where
+    pub sixteen-second : length t ≡ length s → Spare t q 64
+    sixteen-second e = spare-on s t p q (digits 64 x) 128 64 g room e (omega (arith, length-digits 64 x))
+
+    pub sixteen-done : (y : ℕ) → y ≡ num (bitAt X) (8 * (at + 8)) 64 → (u : List ℕ) (r : Pen) → Drawn t u q r (digits 64 y) → Drawn s u p r (bytes (take 16 (drop at X)))
+    sixteen-done y w u r h =
+        drawn-as s u p r (digits 64 x ++ digits 64 y) (bytes (take 16 (drop at X)))
+        (rw (bytes-on X at 8 8, z, w, bytes-number X f at 8 (omega arith), bytes-number X f (at + 8) 8 (omega arith)) refl)
+        (drawn-both s t u p q r (digits 64 x) (digits 64 y) g h)
+
+pub ruleset sixteen-ways = (sixteen-first, sixteen-second, sixteen-done)
+
+pub ruleset text-pen-ways = (text-start, text-sixteen, text-left, text-part, text-all)
 
 -- put_counted: a part of the texts, as far as there are such
 none-left : (n : ℕ) (l : List ℕ) → length l ≤ n → drop n l ≡ []

@@ -102,8 +102,8 @@ fn few(texts: &[u8], from: usize, n: usize) -> u64
     x
 }
 
-// n bytes of the texts, eight at once as long as there are eight.
-fn put_text(payload: &mut [u8], p: Pen, texts: &[u8], from: usize, n: usize) -> Pen
+// n bytes of the texts from a place on, eight at once as long as there are eight.
+fn put_rest(payload: &mut [u8], p: Pen, texts: &[u8], from: usize, n: usize) -> Pen
     requires { ⌜ (Spare (now payload) p (8 * n)) × (from + n ≤ length (now texts)) ⌝ }
     ensures { λ r. ⌜
         Drawn (now (payload .entry)) (now (payload .exit)) p r (bytes (take n (drop from (now (texts .entry))))) ⌝ }
@@ -120,6 +120,34 @@ fn put_text(payload: &mut [u8], p: Pen, texts: &[u8], from: usize, n: usize) -> 
     }
     let x = few(texts, from + i, n - i);
     put_code(payload, q, (8 * (n - i)) as u32, x)
+}
+
+// Sixteen bytes of the texts, by two words. The second is loaded when the first is stored: of two stores in a row the compiler
+// makes sixteen.
+fn put_sixteen(payload: &mut [u8], p: Pen, texts: &[u8], at: usize) -> Pen
+    requires { ⌜ (Spare (now payload) p 128) × (at + 16 ≤ length (now texts)) ⌝ }
+    ensures { λ r. ⌜
+        Drawn (now (payload .entry)) (now (payload .exit)) p r (bytes (take 16 (drop at (now (texts .entry))))) ⌝ }
+{
+    let x = whole(texts, at);
+    let q = put_eight(payload, p, x);
+    let y = whole(texts, at + 8);
+    put_eight(payload, q, y)
+}
+
+// n bytes of the texts, sixteen at once as long as there are sixteen.
+fn put_text(payload: &mut [u8], p: Pen, texts: &[u8], from: usize, n: usize) -> Pen
+    requires { ⌜ (Spare (now payload) p (8 * n)) × (from + n ≤ length (now texts)) ⌝ }
+    ensures { λ r. ⌜
+        Drawn (now (payload .entry)) (now (payload .exit)) p r (bytes (take n (drop from (now (texts .entry))))) ⌝ }
+{
+    let mut q = p;
+    let mut i: usize = 0;
+    while i + 16 <= n {
+        q = put_sixteen(payload, q, texts, from + i);
+        i += 16;
+    }
+    put_rest(payload, q, texts, from + i, n - i)
 }
 
 fn least(a: usize, b: usize) -> usize

@@ -21,14 +21,11 @@ loop-holds c = search (needs, text-pen-ways)
 add-loop : tie.Need-add-loop Inv-loop μ-loop
 add-loop c = search (needs, text-pen-ways)
 
-add-whole : tie.Need-add-whole Inv-loop μ-loop
-add-whole c = search (needs, text-pen-ways)
+add-put-sixteen : tie.Need-add-put-sixteen Inv-loop μ-loop
+add-put-sixteen c = search (needs, text-pen-ways)
 
-whole-requires : tie.Need-whole-requires Inv-loop μ-loop
-whole-requires c κs = search (needs, text-pen-ways)
-
-put-eight-requires : tie.Need-put-eight-requires Inv-loop μ-loop
-put-eight-requires c κs = search (needs, text-pen-ways)
+put-sixteen-requires : tie.Need-put-sixteen-requires Inv-loop μ-loop
+put-sixteen-requires c κs = search (needs, text-pen-ways)
 
 add-i : tie.Need-add-i Inv-loop μ-loop
 add-i c = search (needs, text-pen-ways)
@@ -39,38 +36,20 @@ loop-less c = search (needs, text-pen-ways)
 loop-again : tie.Need-loop-again Inv-loop μ-loop
 loop-again c = search (needs, text-pen-ways)
 
+add-put-rest : tie.Need-add-put-rest Inv-loop μ-loop
+add-put-rest c = search (needs, text-pen-ways)
+
+sub-put-rest : tie.Need-sub-put-rest Inv-loop μ-loop
+sub-put-rest c = search (needs, text-pen-ways)
+
+put-rest-requires : tie.Need-put-rest-requires Inv-loop μ-loop
+put-rest-requires c κs = search (needs, text-pen-ways)
+
 same-length : tie.Need-same-length Inv-loop μ-loop
 same-length c = search (needs, text-pen-ways)
 
 returns : tie.Need-returns Inv-loop μ-loop
 returns c = search (needs, text-pen-ways)
-
-add-few : tie.Need-add-few Inv-loop μ-loop
-add-few c = search (needs, text-pen-ways)
-
-sub-few : tie.Need-sub-few Inv-loop μ-loop
-sub-few c = search (needs, text-pen-ways)
-
-few-requires : tie.Need-few-requires Inv-loop μ-loop
-few-requires c κs = search (needs, text-pen-ways)
-
-sub-put-code : tie.Need-sub-put-code Inv-loop μ-loop
-sub-put-code c = search (needs, text-pen-ways)
-
-mul-put-code : tie.Need-mul-put-code Inv-loop μ-loop
-mul-put-code c = search (needs, text-pen-ways)
-
-cast-put-code : tie.Need-cast-put-code Inv-loop μ-loop
-cast-put-code c = search (needs, text-pen-ways)
-
-put-code-requires : tie.Need-put-code-requires Inv-loop μ-loop
-put-code-requires c κs = search (needs, text-pen-ways)
-
-same-length-2 : tie.Need-same-length-2 Inv-loop μ-loop
-same-length-2 c = search (needs, text-pen-ways)
-
-returns-2 : tie.Need-returns-2 Inv-loop μ-loop
-returns-2 c = search (needs, text-pen-ways)
 
 pub put-text-spec : {M : Type 1} → statement M
 put-text-spec =
@@ -80,20 +59,13 @@ put-text-spec =
     μ-loop
     loop-holds
     add-loop
-    add-whole
-    whole-requires
-    put-eight-requires
+    add-put-sixteen
+    put-sixteen-requires
     add-i
     loop-less
     loop-again
+    add-put-rest
+    sub-put-rest
+    put-rest-requires
     same-length
-    returns
-    add-few
-    sub-few
-    few-requires
-    sub-put-code
-    mul-put-code
-    cast-put-code
-    put-code-requires
-    same-length-2
-    returns-2)
+    returns)
