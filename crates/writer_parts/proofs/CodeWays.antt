@@ -8,7 +8,7 @@ use borrow.Author.Tests.{lt-ltb, le-ltb, eq-eqb, ne-eqb, eqb-true, ltb-true, not
 use mir.Val.{Fits as FitsIn}
 use mir.Syntax.{w32, w64}
 use lib.Dec.{ltb, eqb}
-use lib.ListN.{length, getD, drop, length-append}
+use lib.ListN.{length, getD, drop}
 use lib.Seq.{drop-cons}
 use Rattle.numbers.specs.Refusal.{outsideRow}
 use Rattle.numbers.specs.Kind as kinds

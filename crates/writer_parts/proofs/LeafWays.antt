@@ -16,7 +16,7 @@ use Rattle.numbers.specs.Refusal.{noReading, outsideRow, textBytes}
 use Rattle.numbers.specs.Kind as kinds
 use Rattle.numbers.specs.Limit.{mostEvents, mostText}
 use Rattle.wire.specs.declared.Bits.{Bits}
-use Rattle.wire.specs.Res.{Res, got, fault, _>>_, guard}
+use Rattle.wire.specs.Res.{Res, got, fault}
 use Rattle.wire.proofs.Res.{tested-then, tested-fault, then, then-fault, under-then, under-fault}
 use Rattle.wire.specs.Bits.{digits}
 use Rattle.wire.proofs.BitLaws.{length-digits}

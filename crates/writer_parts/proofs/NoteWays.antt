@@ -1,8 +1,8 @@
 -- Each way through the functions that make a code a number, and a note of one.
-use Prim.Native.Nat.{ℕ, zero, suc, _+_, _-_, _*_, _/_, _^_, _%_, _<_, _≤_, min}
+use Prim.Native.Nat.{ℕ, zero, suc, _+_, _-_, _*_, _^_, _%_, _<_, _≤_, min}
 use mathlib.Core.Path.{_≡_, refl, sym, ap, _∙_}
 use mathlib.Core.Bool.{Bool, true, false}
-use mathlib.Core.List.{List, [], _∷_, _++_, append-nil}
+use mathlib.Core.List.{List, _++_, append-nil}
 use native.Mathlib.Nat.{lt-of-lt-of-le}
 use native.Mathlib.Omega.{arith}
 use borrow.Author.Tests.{lt-ltb, le-ltb, le-leb, lt-leb}
@@ -10,7 +10,7 @@ use mir.Val.{Fits as FitsIn}
 use mir.Syntax.{w32, w64}
 use lib.ListN.{length, length-append}
 use lib.Arith.{digits-lt}
-use lib.Pow.{pow-pos, pow-add, pow-mono, shl-exact}
+use lib.Pow.{pow-add, pow-mono, shl-exact}
 use Rattle.numbers.specs.Refusal.{outsideRow}
 use Rattle.wire.specs.Res.{Res, got, fault, _>>_, guard}
 use Rattle.wire.proofs.Res.{tested-then, tested-fault}
@@ -38,7 +38,6 @@ use Rattle.model.specs.Modes.{lengthsIs}
 use Rattle.model.specs.declared.Lengths as lengthsT
 use Rattle.model.specs.declared.Lengths.the-variants as lv
 use Rattle.model.specs.Write.{headOut, lengthOf}
-use Rattle.writer_parts.specs.declared.SizedNote.{SizedNote}
 use Rattle.writer_parts.specs.declared.Spelling as spellingT
 use Rattle.writer_parts.specs.declared.Spelling.the-variants as sv
 use Rattle.writer_parts.specs.Notes.{datesFrom, Noted, Short, Flagged, Gives, Spelt, DateNote, mostChoices}

@@ -1,6 +1,6 @@
 -- The laws of the pen: bits behind those that wait, one run of bits after another, bytes as bits.
 use Prim.Native.Nat.{ℕ, zero, suc, _+_, _-_, _*_, _/_, _%_, _^_, _<_, _≤_}
-use mathlib.Core.Path.{_≡_, refl, sym, ap, ap₂, _∙_}
+use mathlib.Core.Path.{_≡_, refl, sym, ap, _∙_}
 use mathlib.Core.List.{List, [], _∷_, _++_, append-assoc, append-nil}
 use native.Mathlib.Nat.{add-zero, mod-lt}
 use native.Mathlib.Numerals.{add-one}
@@ -12,7 +12,6 @@ use lib.Seq.{take-suc, take-add, drop-drop, getD-drop}
 use lib.Arith.{digits-lt}
 use lib.Pow.{pow-pos, pow-add, shl-exact, shl-shr, shr-lt, split, low, mod-pow-add}
 use Rattle.wire.specs.Bits.{bitAt, num, digits}
-use Rattle.wire.specs.Put.{Put, Wrote}
 use Rattle.wire.proofs.BitLaws.{length-digits}
 use Rattle.wire.proofs.Put.{put-none, wrote-both}
 use Rattle.wire.proofs.WriteWays.{digits-split}

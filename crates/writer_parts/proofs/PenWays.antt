@@ -1,7 +1,7 @@
 -- Each way through the pen.
 use Prim.Native.Nat.{ℕ, zero, suc, _+_, _-_, _*_, _/_, _%_, _^_, _<_, _≤_, min}
 use mathlib.Core.Path.{_≡_, refl, sym, ap, _∙_}
-use mathlib.Core.List.{List, [], _∷_, _++_, append-nil}
+use mathlib.Core.List.{List, [], _∷_, _++_}
 use native.Mathlib.Nat.{mod-lt}
 use native.Mathlib.Omega.{arith}
 use native.Mathlib.Decide.{decLe}
@@ -9,10 +9,10 @@ use mir.Val.{Fits as FitsIn}
 use mir.Syntax.{w8, w32, w64}
 use lib.ListN.{length, getD, take, drop, length-append, length-take, length-drop}
 use lib.Seq.{take-all}
-use lib.Pow.{pow-pos, pow-mono, pow-add, split, shr-lt, mod-mod-pow}
+use lib.Pow.{pow-pos, pow-mono, pow-add, split, mod-mod-pow}
 use Rattle.wire.specs.Bits.{bitAt, num, digits, Has}
-use Rattle.wire.proofs.BitLaws.{bit-lt, num-lt, length-digits, digits-num, has-left, has-right}
-use Rattle.wire.proofs.WindowLaws.{num-high, byte-num, bytes-more}
+use Rattle.wire.proofs.BitLaws.{bit-lt, length-digits, digits-num, has-left, has-right}
+use Rattle.wire.proofs.WindowLaws.{num-high, byte-num}
 use Rattle.wire.specs.Number.{code5}
 use Rattle.wire.specs.Coded.{Codes}
 use Rattle.wire.specs.declared.Coded.{Coded}
@@ -27,7 +27,7 @@ use Rattle.writer_parts.specs.declared.pen.Pen.{Pen}
 use Rattle.writer_parts.specs.Notes.{textsFrom, datesFrom, codeBits, textBits, dateBits, noteBits, noteAt, spells}
 use Rattle.writer_parts.specs.Pen.{waits, Spare, Drawn, Begun}
 use Rattle.writer_parts.proofs.NoteLaws.{digits-mod, note-code, note-text, note-date, spells-none, spells-last, spells-both}
-use Rattle.writer_parts.proofs.PenLaws.{mask-is, behind, behind-fits, behind-digits, shl-drops, filled, filled-fits, filled-same, drawn-none, drawn-both, drawn-as, drawn-place, spare-on, spare-less, bytes-next, bytes-on, bytes-none, bytes-number}
+use Rattle.writer_parts.proofs.PenLaws.{mask-is, behind-fits, behind-digits, shl-drops, filled, filled-fits, filled-same, drawn-none, drawn-both, drawn-as, spare-on, spare-less, bytes-next, bytes-on, bytes-none, bytes-number}
 
 -- put_code
 module _ (s : List ℕ) (p : Pen) (w v : ℕ) (r : Spare s p w) (h : w < 64) where
