@@ -83,20 +83,6 @@ lent-same t party name type s e x k f h (whole v g _) =
 lent-same t party name type s e x k f h (part i v g) =
     ap f (ap (λ (u : Verdict). afterVerdict u (reading (wordsOf t) party name type s (e / 4) x)) g) ∙ h _ i ∙ sym (ap f (rw v))
 
--- the words of the events as bytes at the front of a buffer that was cleared
-as-many : (a b : ℕ) → a ≡ b → zeros a ≡ zeros b
-as-many a b e = ap zeros e
-
-zeros-dropped : (k n : ℕ) → drop k (zeros n) ≡ zeros (n - k)
-zeros-dropped zero n = as-many n (n - 0) (omega arith)
-zeros-dropped (suc k) zero = as-many 0 (0 - suc k) (omega arith)
-zeros-dropped (suc k) (suc n) = zeros-dropped k n ∙ as-many (n - k) (suc n - suc k) (omega arith)
-
-filled-bytes : (e : ℕ) (w : List ℕ) → bytesOf w ++ drop (4 * length w) (zeros e) ≡ filled e (bytesOf w)
-unfolding filled
-filled-bytes e w =
-    ap (λ (z : List ℕ). bytesOf w ++ z) (zeros-dropped (4 * length w) e ∙ as-many (e - 4 * length w) (e - length (bytesOf w)) (omega (arith, bytes-length w)))
-
 -- the words of the events that were read are among the words lent
 pub events-fit : (m : ℕ) (R : Reply) (E : List ℕ) → E ≡ eventsLeft m R → length E ≡ m → 4 * outcome R .events ≤ m
 unfolding eventsLeft outcome filled
@@ -105,14 +91,17 @@ events-fit m (accepted mode ns q) E f n =
     omega (arith, event-words (events ns), ap length f, length-append w (zeros (m - length w)))
 events-fit m (declined n′ p π) E f n = omega arith
 
--- and they alone are stored over zeros
-pub events-stored : (e m k : ℕ) (R : Reply) (E : List ℕ) → E ≡ eventsLeft m R → k ≡ 4 * outcome R .events → bytesOf (take k E) ++ drop (4 * k) (zeros e) ≡ eventsBack e R
+-- and they alone are stored, with zeros behind them
+pub events-stored : (e m k : ℕ) (R : Reply) (E : List ℕ) → E ≡ eventsLeft m R → k ≡ 4 * outcome R .events → bytesOf (take k E) ++ zeros (e - 4 * k) ≡ eventsBack e R
 unfolding eventsLeft eventsBack outcome filled spelled
 events-stored e m k (accepted mode ns q) E f h =
     let w = eventWords (events ns) in
     let n : length w ≡ k = event-words (events ns) ∙ sym h in
-    ap (λ (z : List ℕ). bytesOf (take k z) ++ drop (4 * k) (zeros e)) f
-    ∙ ap (λ (z : List ℕ). bytesOf z ++ drop (4 * k) (zeros e)) (take-at w (zeros (m - length w)) k n)
-    ∙ ap (λ (j : ℕ). bytesOf w ++ drop (4 * j) (zeros e)) (sym n)
-    ∙ filled-bytes e w
-events-stored e m k (declined n′ p π) E f h = let z : k ≡ 0 = omega arith in rw z
+    let z : e - 4 * k ≡ e - length (bytesOf w) = omega (arith, bytes-length w) in
+    ap (λ (y : List ℕ). bytesOf (take k y) ++ zeros (e - 4 * k)) f
+    ∙ ap (λ (y : List ℕ). bytesOf y ++ zeros (e - 4 * k)) (take-at w (zeros (m - length w)) k n)
+    ∙ ap (λ (j : ℕ). bytesOf w ++ zeros j) z
+events-stored e m k (declined n′ p π) E f h =
+    let z : k ≡ 0 = omega arith in
+    let y : e - 4 * k ≡ e = omega arith in
+    rw (y, z)

@@ -1,17 +1,19 @@
 -- The reading of bytes: what the words and the words lent for events become.
-use Prim.Native.Nat.{ℕ, suc, _*_, _/_, _≤_}
+use Prim.Native.Nat.{ℕ, suc, _-_, _*_, _/_, _≤_}
 use mathlib.Core.Path.{_≡_, sym, ap, subst, _∙_}
 use mathlib.Core.List.{List, [], _∷_, _++_}
 use native.Mathlib.Omega.{arith}
-use lib.ListN.{length, take, drop, replicate}
-use lib.Seq.{length-take-le}
+use borrow.Rule.Slice.PartMut.{midOf, putMid, mid-len}
+use lib.ListN.{length, take, drop, replicate, length-append, length-drop}
+use lib.Seq.{length-take-le, take-at}
 use Rattle.numbers.specs.Refusal.{areaSize, eventRoom}
 use Rattle.numbers.specs.Limit as limit
 use Rattle.model.specs.Whole.{Reply, Outcome, outcome, reading, eventsLeft, textsLeft}
 use Rattle.reader.specs.Answers.{answerIs}
 use Rattle.reader.specs.declared.Answer.{Answer}
-use Rattle.buffers.specs.Bytes.{wordsOf, bytesOf}
-use Rattle.buffers.proofs.BytesLaws.{Bytes}
+use Rattle.buffers.specs.Bytes.{wordsOf, bytesOf, stored}
+use Rattle.buffers.proofs.BytesLaws.{Bytes, bytes-length}
+use Rattle.buffers.proofs.Loops.{tail-back}
 use Rattle.value.specs.Simple.{AllBytes}
 use Rattle.bim.specs.Area.{areaOf}
 use Rattle.bim.proofs.AreaLaws.{first-length}
@@ -28,15 +30,22 @@ use Rattle.bim.proofs.RoomLaws.{more-room}
 pub words-fit : (R : Reply) (o : Outcome) (E : List ℕ) (m : ℕ) → o ≡ outcome R → E ≡ eventsLeft m R → length E ≡ m → 4 * o .events ≤ length E
 words-fit R o E m a f n = let h = events-fit m R E f n in omega (arith, ap (λ (p : Outcome). p .events) a)
 
-pub words-read : (R : Reply) (o : Outcome) (E X B B₁ B₂ : List ℕ) (m x : ℕ) → o ≡ outcome R → E ≡ eventsLeft m R → X ≡ textsLeft x R → length E ≡ m
-    → B₁ ≡ replicate (length B) 0 → B₂ ≡ bytesOf (take (4 * o .events) E) ++ drop (4 * length (take (4 * o .events) E)) B₁ → ReadBack R (length B) x o B₂ X
-words-read R o E X B B₁ B₂ m x a f t n z s =
+pub words-read : (R : Reply) (o : Outcome) (E X B B₁ Z : List ℕ) (m x : ℕ) → o ≡ outcome R → E ≡ eventsLeft m R → X ≡ textsLeft x R → length E ≡ m → 4 * m ≤ length B
+    → B₁ ≡ stored (take (4 * o .events) E) B → Z ≡ replicate (length (midOf (4 * (4 * o .events)) (length B₁ - 4 * (4 * o .events)) B₁)) 0
+    → ReadBack R (length B) x o (putMid (4 * (4 * o .events)) (length B₁ - 4 * (4 * o .events)) B₁ Z) X
+words-read R o E X B B₁ Z m x a f t n r s z =
     let k = 4 * o .events in
-    let l : length (take k E) ≡ k = length-take-le k E (words-fit R o E m a f n) in
+    let P = bytesOf (take k E) in
+    let w = words-fit R o E m a f n in
+    let l : length (take k E) ≡ k = length-take-le k E w in
+    let p : length P ≡ 4 * k = bytes-length (take k E) ∙ ap (λ (j : ℕ). 4 * j) l in
+    let q : length B₁ ≡ length B = ap length s ∙ length-append P (drop (4 * length (take k E)) B) ∙ omega (arith, length-drop (4 * length (take k E)) B) in
+    let h : 4 * k ≤ length B₁ = omega arith in
+    let e : length (midOf (4 * k) (length B₁ - 4 * k) B₁) ≡ length B - 4 * k = mid-len (4 * k) (length B₁) B₁ (omega arith) ∙ ap (λ (j : ℕ). j - 4 * k) q in
     record {
       answer = a;
-      events = s ∙ ap (λ (y : List ℕ). bytesOf (take k E) ++ drop (4 * length (take k E)) y) z ∙ ap (λ (j : ℕ). bytesOf (take k E) ++ drop (4 * j) (replicate (length B) 0)) l
-          ∙ events-stored (length B) m k R E f (ap (λ (p : Outcome). 4 * p .events) a);
+      events = tail-back (4 * k) B₁ Z h ∙ ap (λ (y : List ℕ). take (4 * k) y ++ Z) s ∙ ap (λ (y : List ℕ). y ++ Z) (take-at P (drop (4 * length (take k E)) B) (4 * k) p)
+          ∙ ap (λ (y : List ℕ). P ++ y) (z ∙ ap (λ (j : ℕ). replicate j 0) e) ∙ events-stored (length B) m k R E f (ap (λ (u : Outcome). 4 * u .events) a);
       texts = t;
     }
 

@@ -39,7 +39,7 @@ fn slot_words(bytes: usize) -> usize
     limit::MOST_EVENT_WORDS
 }
 
-// Reads by a table's words into the words lent for events, and stores these as bytes.
+// Reads by a table's words into the words lent for events, and stores those of its events as bytes, with zeros behind them.
 fn read_and_store(
     words: &[u32],
     party: u32,
@@ -56,9 +56,9 @@ fn read_and_store(
         (now (events .entry)) (now (texts .entry)) (answerIs r) (now (events .exit)) (now (texts .exit)) ⌝ }
 {
     let a = read(words, party, root_name, root_type, payload, list, texts);
-    clear(events);
     let k = 4 * (a.events as usize);
     store(&list[..k], events);
+    clear(&mut events[4 * k..]);
     a
 }
 
