@@ -1,9 +1,11 @@
 -- What a function of the cycle asks, kept from call to call: by the table's laws, by the head's end, by the path.
-use Prim.Native.Nat.{ℕ, _+_, _-_, _<_, _≤_}
+use Prim.Native.Nat.{ℕ, zero, suc, _+_, _-_, _*_, _<_, _≤_}
 use mathlib.Core.Path.{_≡_, sym, _∙_, subst}
+use mathlib.Core.Logic.{_⊎_, inl, inr}
 use mathlib.Core.List.{List}
 use mathlib.Core.Bool.{Bool, true, false}
 use native.Mathlib.Omega.{arith}
+use lib.ListN.{length}
 use Rattle.numbers.specs.Limit.{mostName, mostNames, mostParticles}
 use Rattle.wire.specs.Bits.{bitAt}
 use Rattle.wire.specs.Answer.{readIs}
@@ -14,13 +16,14 @@ use Rattle.value.specs.Code.{choiceAt}
 use Rattle.table.specs.Words.{typesIn, particlesIn}
 use Rattle.table.specs.Rows.{Row, tableOf, heldOf, firstOf, countOf}
 use Rattle.table.specs.Rows.Row.{element, sequence, choice, occurs}
-use Rattle.table.specs.Keeps.{RowOk, ContentOk}
-use Rattle.table.proofs.Laws.{span-ok, counts-ok, particle-met, content-met}
+use Rattle.table.specs.Keeps.{ContentOk}
+use Rattle.table.proofs.Laws.{span-ok, counts-ok, content-met}
 use Rattle.table.specs.Views.{contentIs, rowIs}
 use Rattle.table.specs.declared.answers.Content as code·content
 use Rattle.table.specs.declared.answers.Content.the-variants.{Particles}
 use Rattle.table.specs.declared.answers.Particle as code·particle
 use Rattle.table.specs.declared.answers.Particle.the-variants.{Element, Sequence, Choice, Occurs}
+use Rattle.model.specs.Model.{Types}
 use Rattle.model.specs.Modes.{typesBy}
 use Rattle.model.specs.declared.Mode.{Mode}
 use Rattle.reader_parts.specs.Heads.{Within, Heads}
@@ -35,10 +38,19 @@ use Rattle.reader_parts.specs.declared.Head.the-variants.{Bare, Sized, Wrong}
 use Rattle.reader_parts.specs.declared.Path.{Path}
 use Rattle.reader_parts.proofs.CodeWays.{choice-in, codes-known}
 use Rattle.reader_parts.proofs.OpeningWays.{row-owned}
-use Rattle.reader.specs.Meaning.{Ready, Owned, Fits, Rowed, reachOf}
-use Rattle.reader.specs.declared.cycle.Extent.{Extent}
-use Rattle.reader.specs.declared.cycle.Reach.{Reach}
-use Rattle.reader.specs.declared.cycle.Reach.the-variants.{To}
+use Rattle.reader.proofs.RowLaws.{known-same, known-next}
+use Rattle.reader.specs.Meaning.{Ready, Owned, Fits, Holds, Known, rowFor, reachOf}
+use Rattle.reader.specs.Entering.{Rowing, Enters}
+use Rattle.reader.specs.Groups.{Placed, Groups}
+use Rattle.reader.specs.declared.entering.Entered.{Entered}
+use Rattle.reader.specs.declared.entering.Entered.the-variants as entered
+use Rattle.reader.specs.declared.entering.Entry.{Entry}
+use Rattle.reader.specs.declared.groups.Group.{Group}
+use Rattle.reader.specs.declared.groups.Group.the-variants as group
+use Rattle.reader.specs.declared.groups.Run.{Run}
+use Rattle.reader.specs.declared.entering.Extent.{Extent}
+use Rattle.reader.specs.declared.entering.Reach.{Reach}
+use Rattle.reader.specs.declared.entering.Reach.the-variants.{To}
 
 module _ (t s : List ℕ) (mode : Mode) (wall n d : ℕ) (h : Ready t s mode wall n d) where
   -- a row is opened; so is an element, which takes a place of the path
@@ -71,26 +83,6 @@ module _ (t s : List ℕ) (mode : Mode) (wall n d : ℕ) (h : Ready t s mode wal
 
   pub content-row : (ty : ℕ) (k : code·content.Content) (i : ℕ) → ty < typesIn t → contentIs k ≡ tableOf t .content ty → k ≡ Particles i → i < particlesIn t
   content-row ty k i g e f = subst (λ (x : code·content.Content). ContentOk (particlesIn t) (contentIs x)) f (content-met t (h .valid) ty g k e)
-
-  -- a row of the table
-  pub row-fits : (i : ℕ) (r : code·particle.Particle) → i < particlesIn t → rowIs r ≡ tableOf t .row i → Fits (typesIn t) (particlesIn t) (rowIs r)
-  row-fits i r g e = go (rowIs r) (particle-met t (h .valid) i g r e)
-    where
-      go : (x : Row) → RowOk (typesIn t) (particlesIn t) i x → Fits (typesIn t) (particlesIn t) x
-      go (element name type row) k = (k .name-small, k .type-known, λ e. k .row-known)
-      go (sequence first n) k = k .within
-      go (choice first n) k = k .within
-      go (occurs child least most) k = k .within
-
-  -- is not the root's
-  pub row-rowed : (i : ℕ) (r : code·particle.Particle) → i < particlesIn t → rowIs r ≡ tableOf t .row i → Rowed (rowIs r)
-  row-rowed i r g e = go (rowIs r) (particle-met t (h .valid) i g r e)
-    where
-      go : (x : Row) → RowOk (typesIn t) (particlesIn t) i x → Rowed x
-      go (element name type row) k = λ e. let f = k .row-known in let g = rows-few in absurd (omega arith)
-      go (sequence first n) k = tt
-      go (choice first n) k = tt
-      go (occurs child least most) k = tt
 
   -- the type of an element that is open is one of the table's
   pub element-effective : (c : Cursor) (E : List ℕ) (name ty row : ℕ) (coded : Bool) (body end : ℕ) (o : Opened) (E′ : List ℕ) (x : Inner) → ty < typesIn t → Owned (particlesIn t) row
@@ -127,18 +119,6 @@ pub branch-row : (P first n : ℕ) (b : ℕ → ℕ) (wall at : ℕ) (r : code·
 unfolding readIs
 branch-row P first n b wall at r v q h e g = let k = choice-in b n wall at .says (v, q .0) (sym e ∙ rw g) in omega arith
 
--- a row's number fits a word
-pub branch-fits : (t s : List ℕ) (mode : Mode) (wall m d : ℕ) → Ready t s mode wall m d → (first n : ℕ) (b : ℕ → ℕ) (at : ℕ) (r : code·read.Read) (v : ℕ) (q : Bits)
-    → first + n ≤ particlesIn t → readIs r ≡ choiceAt b n wall at → r ≡ Value v q → first + v < 4294967296
-branch-fits t s mode wall m d h first n b at r v q k e g = let f = branch-row (particlesIn t) first n b wall at r v q k e g in omega (arith, rows-few t s mode wall m d h)
-
--- a round's row
-pub round-row : (P first n j : ℕ) → first + n ≤ P → j < n → first + j < P
-round-row P first n j h g = omega arith
-
-pub round-fits : (t s : List ℕ) (mode : Mode) (wall m d : ℕ) → Ready t s mode wall m d → (first n j : ℕ) → first + n ≤ particlesIn t → j < n → first + j < 4294967296
-round-fits t s mode wall m d h first n j g l = omega (arith, rows-few t s mode wall m d h)
-
 -- the path: one name longer inside an element
 pub ready-pushed : (t s : List ℕ) (mode : Mode) (wall d : ℕ) (path inner : Path) (name : ℕ) → Pushed path name inner → Ready t s mode wall (path .count + 1) d → Ready t s mode wall (inner .count) d
 ready-pushed t s mode wall d path inner name i r = rw (i .count) r
@@ -146,4 +126,63 @@ ready-pushed t s mode wall d path inner name i r = rw (i .count) r
 pub path-open : (t s : List ℕ) (mode : Mode) (wall n d : ℕ) → Ready t s mode wall (n + 1) d → n < mostNames
 path-open t s mode wall n d r = omega (arith, r .places)
 
-pub ruleset asked-ways = (ready-row, ready-element, ready-end, rows-few, spans-few, content-row, row-fits, row-rowed, element-name, element-type, element-row, element-effective, sequence-rows, choice-rows, occurs-row, branch-row, branch-fits, round-row, round-fits, ready-pushed, path-open)
+-- a row is opened, and what is in its element is read
+pub path-row : (t s : List ℕ) (mode : Mode) (wall n d : ℕ) → Ready t s mode wall n d → (d ≡ 0 → ⊥) → n < mostNames
+path-row t s mode wall n d r z = omega (arith, r .places)
+
+-- what opens no row asks for no depth
+pub ready-leaf : (t s : List ℕ) (mode : Mode) (wall n d : ℕ) → Ready t s mode wall n d → Ready t s mode wall 0 0
+ready-leaf t s mode wall n d r = record { valid = r .valid; choosing = r .choosing; walls = r .walls; places = omega arith }
+
+-- the next of known rows, and those after it
+module _ (t : List ℕ) (name ty i jump n : ℕ) (h : Known t name ty i jump n) (k : 0 < n) where
+  one-more : n ≡ suc (n - 1)
+  one-more = omega arith
+
+  split : Fits (typesIn t) (particlesIn t) (rowFor t name ty i) × (i + jump < 4294967296) × Known t name ty (i + jump) jump (n - 1)
+  unfolding Known
+  split = subst (λ (m : ℕ). Known t name ty i jump m) one-more h
+
+  pub known-fits : (r : code·particle.Particle) → rowIs r ≡ rowFor t name ty i → Fits (typesIn t) (particlesIn t) (rowIs r)
+  known-fits r e = rw e (split .0)
+
+  pub known-fit : Fits (typesIn t) (particlesIn t) (rowFor t name ty i)
+  known-fit = split .0
+
+  pub known-step : i + jump < 4294967296
+  known-step = split .1
+
+  pub known-rest : Known t name ty (i + jump) jump (n - 1)
+  known-rest = split .2
+
+-- an element that has rows
+module _ (t s : List ℕ) (mode : Mode) (wall n d : ℕ) (h : Ready t s mode wall n d) where
+  pub entry-ready : (name : ℕ) (y : Types) (c : Cursor) (E T : List ℕ) (e : Entered) (E′ T′ : List ℕ) (x : Entry) → Enters t s mode name y wall c E T e E′ T′ → e ≡ entered.In x → (d ≡ 0 → ⊥)
+      → Ready t s mode (x .wall .0) (n + 1) (d - 1)
+  entry-ready name y c E T e E′ T′ x k f z =
+      let a = subst (λ (q : Entered). Rowing (particlesIn t) (8 * length s) q) f (k .rowing) in
+      record { valid = h .valid; choosing = h .choosing; walls = a .1; places = omega (arith, h .places) }
+
+  pub entry-row : (name : ℕ) (y : Types) (c : Cursor) (E T : List ℕ) (e : Entered) (E′ T′ : List ℕ) (x : Entry) → Enters t s mode name y wall c E T e E′ T′ → e ≡ entered.In x → x .row < particlesIn t
+  entry-row name y c E T e E′ T′ x k f = subst (λ (q : Entered). Rowing (particlesIn t) (8 * length s) q) f (k .rowing) .0
+
+  -- rows that a row holds
+  pub run-known : (row : Row) (b : ℕ → ℕ) (c : Cursor) (E : List ℕ) (g : Group) (E′ : List ℕ) (x : Run) → Fits (typesIn t) (particlesIn t) row → Groups row b wall c E g E′ → g ≡ group.Rows x
+      → Known t 0 0 (x .first) (x .step) (x .count)
+  run-known row b c E g E′ x fit k f = go (subst (λ (q : Group). Placed (particlesIn t) q) f (k .placed (typesIn t) (particlesIn t) fit))
+    where
+      go : Placed (particlesIn t) (group.Rows x) → Known t 0 0 (x .first) (x .step) (x .count)
+      go (inl a) = rw (a .0) (known-next t s mode wall n d h (x .first) (x .count) (a .1))
+      go (inr a) = rw (a .0) (known-same t s mode wall n d h (x .first) (a .1) (x .count))
+
+  -- a row that is no element; f is the number of a row's case
+  pub row-holds : (row : code·particle.Particle) → Fits (typesIn t) (particlesIn t) (rowIs row) → (f : code·particle.Particle → ℕ) → ((a b c : ℕ) → f (Element a b c) ≡ 0) → (f row ≡ 1) ⊎ ((f row ≡ 2) ⊎ (f row ≡ 3)) → Holds (rowIs row)
+  row-holds (Element a b c) fit f z k = absurd (elim k [ inl e ↦ omega (arith, z a b c, e) | inr (inl e) ↦ omega (arith, z a b c, e) | inr (inr e) ↦ omega (arith, z a b c, e) ])
+  row-holds (Sequence first m) fit f z k = tt
+  row-holds (Choice first m) fit f z k = let a = rows-few t s mode wall n d h in omega arith
+  row-holds (Occurs child least most) fit f z k = tt
+
+  pub one-known : (i : ℕ) → i < particlesIn t → Known t 0 0 i 0 1
+  one-known i g = known-same t s mode wall n d h i g 1
+
+pub ruleset asked-ways = (ready-row, ready-element, ready-end, rows-few, spans-few, content-row, element-name, element-type, element-row, element-effective, sequence-rows, choice-rows, occurs-row, branch-row, ready-pushed, path-open, path-row, ready-leaf, known-fits, known-fit, known-step, known-rest, entry-ready, entry-row, run-known, one-known)

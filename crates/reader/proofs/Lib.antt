@@ -5,4 +5,7 @@ mod RestLaws
 mod RootLaws
 mod RefusalPathLaws
 mod TwoTables
+mod RowLaws
+mod EnterWays
+mod GroupWays
 mod Ways

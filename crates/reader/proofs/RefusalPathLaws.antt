@@ -78,6 +78,9 @@ module _ (name : ℕ) (path : Path) (w : Walk) (N : List ℕ) where
         (outcome-stop (step·is.Refuse n at) (name ∷ π) E′ T′ o d (name ∷ π) E T (rw g at h) n at refl π);
   }
 
+pub told-here : (n : ℕ) (at : Bits) (path inner : Path) (name : ℕ) → Pushed path name inner → Told n at (inner .count) ≡ Told n at (path .count + 1)
+told-here n at path inner name j = rw (j .count)
+
 pub ruleset named-ways = (named-go, named-told, named-here)
 
 -- the names that were told, as a path

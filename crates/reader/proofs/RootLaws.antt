@@ -18,9 +18,8 @@ use Rattle.table.specs.First.Verdict.{right}
 use Rattle.table.specs.Valid.{verdict}
 use Rattle.table.specs.Words.{typesIn, particlesIn}
 use Rattle.table.specs.Rows.{tableOf, heldOf}
-use Rattle.table.specs.Views.{verdictIs, rowIs}
-use Rattle.table.specs.declared.answers.Particle as code·particle
-use Rattle.table.specs.declared.answers.Particle.the-variants.{Element}
+use Rattle.table.specs.Views.{verdictIs}
+use Rattle.model.proofs.Join.{after-done}
 use Rattle.table.specs.declared.answers.Verdict as code·verdict
 use Rattle.table.specs.declared.answers.Verdict.the-variants.{Right, Wrong}
 use Rattle.model.specs.Model.{Nodes, Answer, events, texts, treeSlots, treeBytes}
@@ -57,7 +56,7 @@ use Rattle.reader.specs.Front.{foundIs, Chooses, Finds}
 use Rattle.reader.specs.RefusalPath.{view}
 use Rattle.reader.specs.declared.refusal_path.Walk.{Walk}
 use Rattle.reader.specs.declared.refusal_path.Walk.the-variants.{Go, Refuse, Told}
-use Rattle.reader.specs.Meaning.{Ready, Fits, Walks, inside·, element·, row·}
+use Rattle.reader.specs.Meaning.{Ready, Known, Walks, rowFor, inside·, element·, row·, list·}
 use Rattle.reader.specs.Cleared.{Zeros}
 
 pub zeros-cleared : (l m : List ℕ) → m ≡ replicate (length l) 0 → Zeros m
@@ -69,9 +68,9 @@ module _ (t s : List ℕ) (party name ty : ℕ) (mode : Mode) (h : Entered t par
   root-ready path wall z e = record { valid = h .table-right; choosing = k; walls = omega arith; places = omega arith }
 
   -- the root's row
-  pub root-fits : (r : code·particle.Particle) → r ≡ Element name ty noRow → Fits (typesIn t) (particlesIn t) (rowIs r)
-  unfolding tableOf
-  root-fits r e = rw e (h .name-small, h .type-known, λ f. absurd (f refl))
+  pub root-known : Known t name ty noRow 0 1
+  unfolding tableOf Known rowFor
+  root-known = ((h .name-small, h .type-known, λ f. absurd (f refl)), omega arith, tt)
 
 pub root-type : (t : List ℕ) (party name ty : ℕ) → Entered t party name ty → ty < typesIn t
 unfolding tableOf
@@ -86,8 +85,7 @@ payload-short n s mode e = short n s .says mode e
 
 module _ (t s : List ℕ) (party name ty : ℕ) (mode : Mode) (h : Entered t party name ty) (own : mode .party ≡ party) (m : modeOf (tableOf t .derivations) s ≡ got (modeIs mode)) (E T : List ℕ) (zE : Zeros E) (zT : Zeros T)
     (c : Cursor) (c8 : c .at .0 ≡ 8) (c0 : c .count ≡ 0) (u0 : c .used ≡ 0) (path : Path) (z : path .count ≡ 0) (wall : ℕ) (x : wall ≡ 8 * length s)
-    (row : code·particle.Particle) (rooted : row ≡ Element name ty noRow)
-    (w : Walk) (N E₁ T₁ : List ℕ) (k : Walks (row· t s mode mostOpen (rowIs row)) wall c (namesOf path) E T w N E₁ T₁) where
+    (w : Walk) (N E₁ T₁ : List ℕ) (k : Walks (list· t s mode name ty mostOpen noRow 0 1) wall c (namesOf path) E T w N E₁ T₁) where
   abbrev room : model.Room
   room = whole.roomOf (length E) (length T)
 
@@ -98,10 +96,11 @@ module _ (t s : List ℕ) (party name ty : ℕ) (mode : Mode) (h : Entered t par
   Ans = model.read (bitAt s) (lengthsIs (mode .lengths)) (heldOf t party) (planOf t name ty (mode .choices .derived)) room [] (8 * length s) 8
 
   -- the root has nothing to choose from
-  root-read : row· t s mode mostOpen (rowIs row) room [] (8 * length s) 8 ≡ Ans
-  unfolding row· element· inside·
+  root-read : list· t s mode name ty mostOpen noRow 0 1 room [] (8 * length s) 8 ≡ Ans
+  unfolding list· rowFor row· element· inside·
   root-read =
-      rw (rooted, types-only t (rowChoices (mode .choices) noRow) refl refl ty noRow)
+      after-done room _
+      ∙ rw (types-only t (rowChoices (mode .choices) noRow) refl refl ty noRow)
       (sym (root-element (bitAt s) (lengthsIs (mode .lengths)) (heldOf t (mode .party)) (tableIn (mode .choices .derived) (tableOf t)) room [] (8 * length s) 8 name ty))
       ∙ ap (λ (p : ℕ). model.read (bitAt s) (lengthsIs (mode .lengths)) (heldOf t p) (planOf t name ty (mode .choices .derived)) room [] (8 * length s) 8) own
 
@@ -119,7 +118,7 @@ module _ (t s : List ℕ) (party name ty : ℕ) (mode : Mode) (h : Entered t par
   root-says =
       (λ i. view w (sym no-names i) N E₁ T₁)
       ∙ k
-      ∙ (λ i. outcome (row· t s mode mostOpen (rowIs row) (room-is i) (no-names i) (x i) (c8 i)) c (no-names i) E T)
+      ∙ (λ i. outcome (list· t s mode name ty mostOpen noRow 0 1 (room-is i) (no-names i) (x i) (c8 i)) c (no-names i) E T)
       ∙ ap (λ (a : Answer). outcome a c [] E T) root-read
 
   went-on : (d : Cursor) → w ≡ Go d → Went Ans c [] E T d [] E₁ T₁
@@ -190,7 +189,7 @@ module _ (t s : List ℕ) (party name ty : ℕ) (mode : Mode) (h : Entered t par
         (reading-left t party name ty s (length E) (length T) h (modeIs mode) m Ans refl (v .nodes) (d .at .0) (v .gave) (sym e ∙ f))
         (a ∙ ap (λ (π : List ℕ). declines leftOver (d .at .0) π) (no-path path z))
 
-pub ruleset root-ways = (root-ready, root-fits, root-type, payload-short, root-used, root-given, root-refused, root-told, root-left)
+pub ruleset root-ways = (root-ready, root-known, root-type, payload-short, root-used, root-given, root-refused, root-told, root-left)
 
 -- what is known where the table is right, and where the mode is found
 pub verdict-right : (t : List ℕ) (v : code·verdict.Verdict) → verdictIs v ≡ verdict t → v ≡ Right → verdict t ≡ right

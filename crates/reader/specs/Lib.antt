@@ -3,3 +3,5 @@ pub mod RefusalPath
 pub mod Meaning
 pub mod Answers
 pub mod Cleared
+pub mod Entering
+pub mod Groups

@@ -2,7 +2,8 @@
 use Prim.Native.Nat.{ℕ, zero, suc, _+_, _-_, _*_, _<_, _≤_}
 use mathlib.Core.Path.{_≡_}
 use mathlib.Core.List.{List}
-use mathlib.Core.Bool.{Bool, true, false}
+use mathlib.Core.Bool.{Bool, true, false, cond}
+use lib.Dec.{eqb}
 use lib.ListN.{length}
 use Rattle.numbers.specs.Refusal as refusal
 use Rattle.numbers.specs.Kind as kinds
@@ -11,10 +12,12 @@ use Rattle.wire.specs.Bits.{bitAt}
 use Rattle.wire.specs.declared.Bits.{Bits}
 use Rattle.table.specs.First.Verdict.{right}
 use Rattle.table.specs.Valid.{verdict}
+use Rattle.table.specs.Words.{typesIn, particlesIn}
 use Rattle.table.specs.Rows.{Row, Table, tableOf, heldOf}
 use Rattle.table.specs.Rows.Row.{element, sequence, choice, occurs}
 use Rattle.model.specs.Model.{event, Types, tableIn, Answer}
-use Rattle.model.specs.Model.Answer.{refused}
+use Rattle.model.specs.Model.Nodes.{none}
+use Rattle.model.specs.Model.Answer.{given, refused}
 use Rattle.model.specs.Model.Item.{picked, counted}
 use Rattle.model.specs.Items.{Lengths, itemAt, headAt}
 use Rattle.model.specs.Modes.{lengthsIs, typesBy, Choosing}
@@ -27,8 +30,8 @@ use Rattle.reader_parts.specs.declared.Cursor.{Cursor}
 use Rattle.reader_parts.specs.declared.Head.{Head}
 use Rattle.reader_parts.specs.declared.Head.the-variants.{Bare, Sized, Wrong}
 use Rattle.reader.specs.RefusalPath.{view}
-use Rattle.reader.specs.declared.cycle.Reach.{Reach}
-use Rattle.reader.specs.declared.cycle.Reach.the-variants as reach
+use Rattle.reader.specs.declared.entering.Reach.{Reach}
+use Rattle.reader.specs.declared.entering.Reach.the-variants as reach
 use Rattle.reader.specs.declared.refusal_path.Walk.{Walk}
 
 -- by the room that is left, the path, the wall and the place
@@ -64,12 +67,28 @@ Fits T P (sequence first n) = first + n ≤ P
 Fits T P (choice first n) = first + n ≤ P
 Fits T P (occurs child least most) = child < P
 
+-- a row that holds rows; each branch's number fits a word
+abbrev pub Holds : Row → Type 0
+Holds (element name type row) = ⊥
+Holds (sequence first n) = Unit {0}
+Holds (choice first n) = first + n < 4294967296
+Holds (occurs child least most) = Unit {0}
+
 -- a row that is not the root's
 abbrev pub Rowed : Row → Type 0
 Rowed (element name type row) = row ≡ noRow → ⊥
 Rowed (sequence first n) = Unit {0}
 Rowed (choice first n) = Unit {0}
 Rowed (occurs child least most) = Unit {0}
+
+-- the row of a number by a table; the root, of a name and a type, is of none
+unfoldable pub rowFor : (t : List ℕ) (name type i : ℕ) → Row
+rowFor t name type i = cond (eqb i noRow) (element name type noRow) (tableOf t .row i)
+
+-- so many rows from one on, each a step past the one before, are in the table or the root's; each number fits a word
+unfoldable pub Known : (t : List ℕ) (name type i step n : ℕ) → Type 0
+Known t name type i step zero = Unit {0}
+Known t name type i step (suc n) = Fits (typesIn t) (particlesIn t) (rowFor t name type i) × (i + step < 4294967296) × Known t name type (i + step) step n
 
 module _ (t s : List ℕ) (mode : Mode) where
   abbrev pub b : ℕ → ℕ
@@ -119,3 +138,18 @@ module _ (t s : List ℕ) (mode : Mode) where
   row· (suc d) (sequence first n) r π wall at = rounds· d (λ j. tableOf t .row (first + j)) n r π wall at
   row· (suc d) (choice first n) r π wall at = choose· d first n r π wall at
   row· (suc d) (occurs child least most) r π wall at = occur· d child least most r π wall at
+
+  -- rows that a row holds, by the step from one to the next: all one row, or one after another
+  unfoldable pub runs· : (d first step n : ℕ) → Meaning
+  runs· d first zero n r π wall at = rounds· d (λ j. tableOf t .row first) n r π wall at
+  runs· d first (suc k) n r π wall at = rounds· d (λ j. tableOf t .row (first + j)) n r π wall at
+
+  -- n rows from one on, each a step past the one before
+  unfoldable pub list· : (name type d i step n : ℕ) → Meaning
+  list· name type d i step zero r π wall at = given none at
+  list· name type d i step (suc n) r π wall at =
+      after r (row· d (rowFor t name type i) r π wall at) (λ u p. list· name type d (i + step) step n u π wall p)
+
+  -- what is left of an element that has rows: its content row, and its end
+  unfoldable pub rest· : (d row : ℕ) → Bool → ℕ → Meaning
+  rest· d row coded body r π wall at = after r (list· 0 0 d row 0 1 r π wall at) (λ u q. ending coded body wall u π q)

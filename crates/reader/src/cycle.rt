@@ -1,84 +1,41 @@
-// The cycle: an element reads what is inside it, that reads particle rows, and a particle row reads elements. `depth` rows may still be
-// opened; it falls at each row, so the cycle ends. The path goes down by value, copied where a row is entered and pushed where what is inside
-// holds rows; a success hands none back, as who called has its own. Each function but `particle` is called at one place.
+// The cycle: particle rows are read one after another, an element's content where it has rows, and that reads particle rows. `depth` rows may
+// still be opened; it falls at each row, so the cycle ends. The path goes down by value, copied where rows inside a row are read and pushed where
+// what is inside an element holds rows; a success hands none back, as who called has its own.
+//
+// LLVM makes one function of all this, in which an element without rows is no call, and that is fragile. Each function has one call site. What
+// takes the path has no other work before it, else a copy of the path for each element is not seen to be needless: so `enter` and `rows_of`, which have
+// the work, take none, and a refusal is told in `particle`. `rows_in` is a function of its own so that `particle` calls itself only when
+// the rest is in it: LLVM keeps a large function out of one that calls itself.
+use crate::entering::Entered;
+use crate::entering::Entry;
+use crate::entering::enter;
+use crate::groups::Group;
+use crate::groups::Run;
+use crate::groups::rows_of;
 use crate::refusal_path::Walk;
 use crate::refusal_path::from_step;
-use crate::refusal_path::name_refusal;
+use crate::refusal_path::tell;
 use model::Mode;
-use numbers::kind;
 use numbers::refusal;
 use reader_parts::Cursor;
-use reader_parts::Head;
-use reader_parts::Opened;
 use reader_parts::Path;
-use reader_parts::Step;
-use reader_parts::attributes::all;
 use reader_parts::ends::close;
-use reader_parts::heads::head;
-use reader_parts::opening::open;
-use reader_parts::storing::store;
-use reader_parts::values::value;
-use table::Content;
+use reader_parts::opening::NO_ROW;
 use table::Particle;
 use table::rows;
-use value::forms::times;
-use value::reading::choice;
-use value::reading::code;
 use wire::Bits;
-use wire::Read;
 ghost use mathlib.Core.Path.{_≡_};
 ghost use mathlib.Core.List.{_∷_};
 ghost use Prim.Native.Nat.{_+_, _≤_, _<_};
 ghost use lib.ListN.{length};
 ghost use Rattle.numbers.specs.Limit.{mostName, mostNames};
 ghost use Rattle.table.specs.Words.{typesIn, particlesIn};
-ghost use Rattle.table.specs.Rows.{tableOf};
 ghost use Rattle.table.specs.Views.{rowIs};
-ghost use Rattle.model.specs.Modes.{typesBy};
-ghost use Rattle.reader_parts.specs.Opening.{rowChoices};
 ghost use Rattle.reader_parts.specs.Paths.{namesOf};
-ghost use Rattle.reader.specs.Meaning.{Ready, Owned, Fits, Rowed, Walks, reachOf, whole·, element·, inside·, content·, row·, choose·, occur·, rounds·};
+ghost use Rattle.reader.specs.Meaning.{Ready, Known, Walks, rowFor, list·, rest·};
 
-// Whether a length is coded, where the body begins, and the wall of what is inside.
-pub struct Extent {
-    pub coded: bool,
-    pub body: Bits,
-    pub wall: Bits,
-}
-
-// The number of a wrong head; or what a head says of an element.
-pub enum Reach {
-    Wrong(u32),
-    To(Extent),
-}
-
-// A head below a wall.
-fn extent_of(h: Head, wall: Bits) -> Reach
-    ensures { λ r. ⌜ r ≡ reachOf h wall ⌝ }
-{
-    match h {
-        Head::Wrong(n) => Reach::Wrong(n),
-        Head::Bare(body) => {
-            let x = Extent {
-                coded: false,
-                body,
-                wall,
-            };
-            Reach::To(x)
-        }
-        Head::Sized(body, wall) => {
-            let x = Extent {
-                coded: true,
-                body,
-                wall,
-            };
-            Reach::To(x)
-        }
-    }
-}
-
-// What is inside an element of a name and a type, below the wall, and its End.
-fn whole(
+// What is left of an element of a name that is entered and has rows: these, and its End.
+fn element(
     table: &[u32],
     payload: &[u8],
     events: &mut [u32],
@@ -86,25 +43,23 @@ fn whole(
     told: &mut [u16],
     mode: Mode,
     depth: u32,
-    wall: Bits,
-    c: Cursor,
     path: Path,
     name: u32,
-    t: u32,
-    coded: bool,
-    body: Bits,
+    x: Entry,
 ) -> Walk
     requires { ⌜
-        (Ready (now table) (now payload) mode (wall .0) (path .count + 1) depth)
+        (Ready (now table) (now payload) mode (x .wall .0) (path .count + 1) depth)
         × (length (now told) ≡ mostNames)
         × (name ≤ mostName)
-        × (t < typesIn (now table)) ⌝ }
+        × (x .row < particlesIn (now table)) ⌝ }
     ensures { λ r. ⌜
-        Walks (whole· (now (table .entry)) (now (payload .entry)) mode depth t coded (body .0)) (wall .0) c
-        (name ∷ namesOf path) (now (events .entry)) (now (texts .entry)) r (now (told .exit)) (now (events .exit))
-        (now (texts .exit)) ⌝ }
+        Walks (rest· (now (table .entry)) (now (payload .entry)) mode depth (x .row) (x .coded) (x .body .0)) (x .wall .0)
+        (x .cursor) (name ∷ namesOf path) (now (events .entry)) (now (texts .entry)) r (now (told .exit))
+        (now (events .exit)) (now (texts .exit)) ⌝ }
 {
-    let v = inside(
+    let wall = x.wall;
+    let c = x.cursor;
+    let w = content(
         table,
         payload,
         events,
@@ -116,144 +71,17 @@ fn whole(
         c,
         path,
         name,
-        t,
+        x.row,
     );
-    let Walk::Go(e) = v else {
-        return v;
+    let Walk::Go(e) = w else {
+        return w;
     };
+    let coded = x.coded;
+    let body = x.body;
     from_step(close(events, coded, body, wall, e))
 }
 
-// An element of a name, a type and a row: its head, what becomes of it behind that, and where it is open the rest of it, whose refusals it names.
-fn element(
-    table: &[u32],
-    payload: &[u8],
-    events: &mut [u32],
-    texts: &mut [u8],
-    told: &mut [u16],
-    mode: Mode,
-    depth: u32,
-    wall: Bits,
-    c: Cursor,
-    path: Path,
-    name: u32,
-    t: u32,
-    row: u32,
-) -> Walk
-    requires { ⌜
-        (Ready (now table) (now payload) mode (wall .0) (path .count + 1) depth)
-        × (length (now told) ≡ mostNames)
-        × (name ≤ mostName)
-        × (t < typesIn (now table))
-        × (Owned (particlesIn (now table)) row) ⌝ }
-    ensures { λ r. ⌜
-        Walks (element· (now (table .entry)) (now (payload .entry)) mode depth name (typesBy (now (table .entry)) (rowChoices (mode .choices) row) t row))
-        (wall .0) c (namesOf path) (now (events .entry)) (now (texts .entry)) r (now (told .exit)) (now (events .exit))
-        (now (texts .exit)) ⌝ }
-{
-    let at = c.at;
-    let party = mode.party;
-    let held = rows::held(table, party, t);
-    let lengths = mode.lengths;
-    let h = head(payload, lengths, wall, at);
-    let r = extent_of(h, wall);
-    match r {
-        Reach::Wrong(n) => Walk::Refuse(n, at),
-        Reach::To(x) => {
-            let coded = x.coded;
-            let body = x.body;
-            let inner = x.wall;
-            let choices = mode.choices;
-            let o = open(
-                table,
-                party,
-                payload,
-                events,
-                choices,
-                c,
-                name,
-                t,
-                row,
-                held,
-                coded,
-                body,
-                inner,
-            );
-            match o {
-                Opened::Refuse(n, place) => Walk::Refuse(n, place),
-                Opened::Blank(d) => Walk::Go(d),
-                Opened::Full(n, place) => { name_refusal(told, path, name, Walk::Refuse(n, place)) }
-                Opened::In(y) => {
-                    let effective = y.effective;
-                    let d = y.cursor;
-                    let w = whole(
-                        table,
-                        payload,
-                        events,
-                        texts,
-                        told,
-                        mode,
-                        depth,
-                        inner,
-                        d,
-                        path,
-                        name,
-                        effective,
-                        coded,
-                        body,
-                    );
-                    name_refusal(told, path, name, w)
-                }
-            }
-        }
-    }
-}
-
-// What is inside an element of a name and a type: attributes, then content.
-fn inside(
-    table: &[u32],
-    payload: &[u8],
-    events: &mut [u32],
-    texts: &mut [u8],
-    told: &mut [u16],
-    mode: Mode,
-    depth: u32,
-    wall: Bits,
-    c: Cursor,
-    path: Path,
-    name: u32,
-    t: u32,
-) -> Walk
-    requires { ⌜
-        (Ready (now table) (now payload) mode (wall .0) (path .count + 1) depth)
-        × (length (now told) ≡ mostNames)
-        × (name ≤ mostName)
-        × (t < typesIn (now table)) ⌝ }
-    ensures { λ r. ⌜
-        Walks (inside· (now (table .entry)) (now (payload .entry)) mode depth t) (wall .0) c (name ∷ namesOf path)
-        (now (events .entry)) (now (texts .entry)) r (now (told .exit)) (now (events .exit)) (now (texts .exit)) ⌝ }
-{
-    let s = all(table, payload, events, texts, wall, c, t);
-    let Step::Go(d) = s else {
-        return from_step(s);
-    };
-    content(
-        table,
-        payload,
-        events,
-        texts,
-        told,
-        mode,
-        depth,
-        wall,
-        d,
-        path,
-        name,
-        t,
-    )
-}
-
-// The content of a type, in an element of a name: only rows are read with the path that has the name.
+// The content row of an element of a name, read with the path that has the name.
 fn content(
     table: &[u32],
     payload: &[u8],
@@ -266,49 +94,89 @@ fn content(
     c: Cursor,
     path: Path,
     name: u32,
-    t: u32,
+    row: u32,
 ) -> Walk
     requires { ⌜
         (Ready (now table) (now payload) mode (wall .0) (path .count + 1) depth)
         × (length (now told) ≡ mostNames)
         × (name ≤ mostName)
-        × (t < typesIn (now table)) ⌝ }
+        × (row < particlesIn (now table)) ⌝ }
     ensures { λ r. ⌜
-        Walks (content· (now (table .entry)) (now (payload .entry)) mode depth t) (wall .0) c (name ∷ namesOf path)
+        Walks (list· (now (table .entry)) (now (payload .entry)) mode 0 0 depth row 0 1) (wall .0) c (name ∷ namesOf path)
         (now (events .entry)) (now (texts .entry)) r (now (told .exit)) (now (events .exit)) (now (texts .exit)) ⌝ }
 {
-    let k = rows::content(table, t);
-    match k {
-        Content::Empty => Walk::Go(c),
-        Content::Simple(simple, x, y) => from_step(value(
-            payload,
-            events,
-            texts,
-            wall,
-            c,
-            simple,
-            x,
-            y,
-        )),
-        Content::Particles(i) => {
-            particle(
-                table,
-                payload,
-                events,
-                texts,
-                told,
-                mode,
-                depth,
-                wall,
-                c,
-                path.push(name as u16),
-                rows::particle(table, i),
-            )
-        }
-    }
+    particle(
+        table,
+        payload,
+        events,
+        texts,
+        told,
+        mode,
+        depth,
+        wall,
+        c,
+        path.push(name as u16),
+        0,
+        0,
+        row,
+        0,
+        1,
+    )
 }
 
-// A particle row, where one may still be opened.
+// The rows that a row holds.
+fn rows_in(
+    table: &[u32],
+    payload: &[u8],
+    events: &mut [u32],
+    texts: &mut [u8],
+    told: &mut [u16],
+    mode: Mode,
+    depth: u32,
+    wall: Bits,
+    path: Path,
+    x: Run,
+) -> Walk
+    requires { ⌜
+        (Ready (now table) (now payload) mode (wall .0) (path .count) depth)
+        × (length (now told) ≡ mostNames)
+        × (Known (now table) 0 0 (x .first) (x .step) (x .count)) ⌝ }
+    ensures { λ r. ⌜
+        Walks (list· (now (table .entry)) (now (payload .entry)) mode 0 0 depth (x .first) (x .step) (x .count)) (wall .0)
+        (x .cursor) (namesOf path) (now (events .entry)) (now (texts .entry)) r (now (told .exit)) (now (events .exit))
+        (now (texts .exit)) ⌝ }
+{
+    let c = x.cursor;
+    particle(
+        table,
+        payload,
+        events,
+        texts,
+        told,
+        mode,
+        depth,
+        wall,
+        c,
+        path,
+        0,
+        0,
+        x.first,
+        x.step,
+        x.count,
+    )
+}
+
+// The row of a number; the root, of a name and a type, is of none.
+fn row_for(table: &[u32], name: u32, t: u32, i: u32) -> Particle
+    ensures { λ r. ⌜ rowIs r ≡ rowFor (now (table .entry)) name t i ⌝ }
+{
+    if i == NO_ROW {
+        return Particle::Element(name, t, NO_ROW);
+    }
+    rows::particle(table, i)
+}
+
+// Particle rows, where some may still be opened: so many from one on, each a step past the one before. The root has a name and a type.
 pub fn particle(
     table: &[u32],
     payload: &[u8],
@@ -320,280 +188,100 @@ pub fn particle(
     wall: Bits,
     c: Cursor,
     path: Path,
-    row: Particle,
-) -> Walk
-    requires { ⌜
-        (Ready (now table) (now payload) mode (wall .0) (path .count) depth)
-        × (length (now told) ≡ mostNames)
-        × (Fits (typesIn (now table)) (particlesIn (now table)) (rowIs row)) ⌝ }
-    ensures { λ r. ⌜
-        Walks (row· (now (table .entry)) (now (payload .entry)) mode depth (rowIs row)) (wall .0) c (namesOf path)
-        (now (events .entry)) (now (texts .entry)) r (now (told .exit)) (now (events .exit)) (now (texts .exit)) ⌝ }
-{
-    let at = c.at;
-    if depth == 0 {
-        return Walk::Refuse(refusal::DEPTH, at);
-    }
-    let d = depth - 1;
-    match row {
-        Particle::Element(name, t, own) => element(
-            table,
-            payload,
-            events,
-            texts,
-            told,
-            mode,
-            d,
-            wall,
-            c,
-            path,
-            name,
-            t,
-            own,
-        ),
-        Particle::Sequence(first, n) => rounds(
-            table,
-            payload,
-            events,
-            texts,
-            told,
-            mode,
-            d,
-            wall,
-            c,
-            path,
-            first,
-            n,
-        ),
-        Particle::Choice(first, n) => choose(
-            table,
-            payload,
-            events,
-            texts,
-            told,
-            mode,
-            d,
-            wall,
-            c,
-            path,
-            first,
-            n,
-        ),
-        Particle::Occurs(child, least, most) => occur(
-            table,
-            payload,
-            events,
-            texts,
-            told,
-            mode,
-            d,
-            wall,
-            c,
-            path,
-            child,
-            least,
-            most,
-        ),
-    }
-}
-
-// A choice of n rows from one on: its branch, then that row.
-fn choose(
-    table: &[u32],
-    payload: &[u8],
-    events: &mut [u32],
-    texts: &mut [u8],
-    told: &mut [u16],
-    mode: Mode,
-    depth: u32,
-    wall: Bits,
-    c: Cursor,
-    path: Path,
+    name: u32,
+    t: u32,
     first: u32,
-    n: u32,
+    step: u32,
+    count: u32,
 ) -> Walk
     requires { ⌜
         (Ready (now table) (now payload) mode (wall .0) (path .count) depth)
         × (length (now told) ≡ mostNames)
-        × (first + n ≤ particlesIn (now table)) ⌝ }
+        × (Known (now table) name t first step count) ⌝ }
     ensures { λ r. ⌜
-        Walks (choose· (now (table .entry)) (now (payload .entry)) mode depth first n) (wall .0) c (namesOf path)
-        (now (events .entry)) (now (texts .entry)) r (now (told .exit)) (now (events .exit)) (now (texts .exit)) ⌝ }
-{
-    let at = c.at;
-    let r = choice(payload, wall, at, n);
-    match r {
-        Read::Refuse(e) => Walk::Refuse(e, at),
-        Read::Value(v, next) => {
-            let s = store(events, c, kind::PICK, v, 0, next);
-            let Step::Go(d) = s else {
-                return from_step(s);
-            };
-            let row = rows::particle(table, first + v);
-            particle(
-                table,
-                payload,
-                events,
-                texts,
-                told,
-                mode,
-                depth,
-                wall,
-                d,
-                path,
-                row,
-            )
-        }
-    }
-}
-
-// An occurs row: its count, then its child so many times.
-fn occur(
-    table: &[u32],
-    payload: &[u8],
-    events: &mut [u32],
-    texts: &mut [u8],
-    told: &mut [u16],
-    mode: Mode,
-    depth: u32,
-    wall: Bits,
-    c: Cursor,
-    path: Path,
-    child: u32,
-    least: u32,
-    most: u32,
-) -> Walk
-    requires { ⌜
-        (Ready (now table) (now payload) mode (wall .0) (path .count) depth)
-        × (length (now told) ≡ mostNames)
-        × (child < particlesIn (now table)) ⌝ }
-    ensures { λ r. ⌜
-        Walks (occur· (now (table .entry)) (now (payload .entry)) mode depth child least most) (wall .0) c
+        Walks (list· (now (table .entry)) (now (payload .entry)) mode name t depth first step count) (wall .0) c
         (namesOf path) (now (events .entry)) (now (texts .entry)) r (now (told .exit)) (now (events .exit))
         (now (texts .exit)) ⌝ }
 {
-    let at = c.at;
-    let r = code(payload, wall, at, times(least, most));
-    match r {
-        Read::Refuse(e) => Walk::Refuse(e, at),
-        Read::Value(v, next) => {
-            let s = store(events, c, kind::TIMES, v, 0, next);
-            let Step::Go(d) = s else {
-                return from_step(s);
-            };
-            let row = rows::particle(table, child);
-            repeated(
-                table,
-                payload,
-                events,
-                texts,
-                told,
-                mode,
-                depth,
-                wall,
-                d,
-                path,
-                row,
-                v,
-            )
+    let mut cursor = c;
+    let mut i = first;
+    let mut n = count;
+    while 0 < n {
+        let at = cursor.at;
+        if depth == 0 {
+            return Walk::Refuse(refusal::DEPTH, at);
         }
-    }
-}
-
-// A row n times.
-fn repeated(
-    table: &[u32],
-    payload: &[u8],
-    events: &mut [u32],
-    texts: &mut [u8],
-    told: &mut [u16],
-    mode: Mode,
-    depth: u32,
-    wall: Bits,
-    c: Cursor,
-    path: Path,
-    row: Particle,
-    n: u32,
-) -> Walk
-    requires { ⌜
-        (Ready (now table) (now payload) mode (wall .0) (path .count) depth)
-        × (length (now told) ≡ mostNames)
-        × (Fits (typesIn (now table)) (particlesIn (now table)) (rowIs row))
-        × (Rowed (rowIs row)) ⌝ }
-    ensures { λ r. ⌜
-        Walks (rounds· (now (table .entry)) (now (payload .entry)) mode depth (λ j. rowIs row) n) (wall .0) c (namesOf path)
-        (now (events .entry)) (now (texts .entry)) r (now (told .exit)) (now (events .exit)) (now (texts .exit)) ⌝ }
-{
-    let mut cursor = c;
-    let mut j: u32 = 0;
-    while j < n {
-        let w = particle(
-            table,
-            payload,
-            events,
-            texts,
-            told,
-            mode,
-            depth,
-            wall,
-            cursor,
-            path,
-            row,
-        );
-        let Walk::Go(d) = w else {
-            return w;
-        };
-        cursor = d;
-        j += 1;
-    }
-    Walk::Go(cursor)
-}
-
-// The n rows of a sequence, from one on.
-fn rounds(
-    table: &[u32],
-    payload: &[u8],
-    events: &mut [u32],
-    texts: &mut [u8],
-    told: &mut [u16],
-    mode: Mode,
-    depth: u32,
-    wall: Bits,
-    c: Cursor,
-    path: Path,
-    first: u32,
-    n: u32,
-) -> Walk
-    requires { ⌜
-        (Ready (now table) (now payload) mode (wall .0) (path .count) depth)
-        × (length (now told) ≡ mostNames)
-        × (first + n ≤ particlesIn (now table)) ⌝ }
-    ensures { λ r. ⌜
-        Walks (rounds· (now (table .entry)) (now (payload .entry)) mode depth (λ j. tableOf (now (table .entry)) .row (first + j)) n) (wall .0) c (namesOf path)
-        (now (events .entry)) (now (texts .entry)) r (now (told .exit)) (now (events .exit)) (now (texts .exit)) ⌝ }
-{
-    let mut cursor = c;
-    let mut j: u32 = 0;
-    while j < n {
-        let row = rows::particle(table, first + j);
-        let w = particle(
-            table,
-            payload,
-            events,
-            texts,
-            told,
-            mode,
-            depth,
-            wall,
-            cursor,
-            path,
-            row,
-        );
-        let Walk::Go(d) = w else {
-            return w;
-        };
-        cursor = d;
-        j += 1;
+        let d = depth - 1;
+        let row = row_for(table, name, t, i);
+        i += step;
+        n -= 1;
+        match row {
+            Particle::Element(x, ty, own) => {
+                let e = enter(
+                    table,
+                    payload,
+                    events,
+                    texts,
+                    mode,
+                    wall,
+                    cursor,
+                    x,
+                    ty,
+                    own,
+                );
+                match e {
+                    Entered::Refuse(m, place) => {
+                        return Walk::Refuse(m, place);
+                    }
+                    Entered::Done(f) => {
+                        cursor = f;
+                    }
+                    Entered::Full(m, place) => {
+                        return tell(told, path, x, m, place);
+                    }
+                    Entered::In(z) => {
+                        let w = element(table, payload, events, texts, told, mode, d, path, x, z);
+                        match w {
+                            Walk::Go(f) => {
+                                cursor = f;
+                            }
+                            Walk::Refuse(m, place) => {
+                                return tell(told, path, x, m, place);
+                            }
+                            Walk::Told(m, place, k) => {
+                                return Walk::Told(m, place, k);
+                            }
+                        }
+                    }
+                }
+            }
+            _ => {
+                let g = rows_of(payload, events, wall, cursor, row);
+                match g {
+                    Group::Refuse(m, place) => {
+                        return Walk::Refuse(m, place);
+                    }
+                    Group::Rows(x) => {
+                        let w = rows_in(
+                            table,
+                            payload,
+                            events,
+                            texts,
+                            told,
+                            mode,
+                            d,
+                            wall,
+                            path,
+                            x,
+                        );
+                        let Walk::Go(f) = w else {
+                            return w;
+                        };
+                        cursor = f;
+                    }
+                }
+            }
+        }
     }
     Walk::Go(cursor)
 }

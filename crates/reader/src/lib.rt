@@ -1,7 +1,9 @@
 // The reader: a payload, by a schema table, into events and texts.
 mod clear; // clear.rt: lent buffers made zero
 mod cycle; // cycle.rt: elements, what is inside them, particle rows
+mod entering; // entering.rt: an element up to its rows
 mod front; // front.rt: the mode byte
+mod groups; // groups.rt: the rows that a row holds
 mod rest; // rest.rt: what is left after the root
 mod refusal_path; // refusal_path.rt: what a walk answers, and the path of a refusal
 
@@ -19,7 +21,6 @@ use reader_parts::opening::NO_ROW;
 use refusal_path::Walk;
 use refusal_path::copy_names;
 use rest::padding;
-use table::Particle;
 use table::Verdict;
 use table::check;
 use table::rows::types;
@@ -161,7 +162,6 @@ fn root(
     };
     let path = nowhere();
     let mut told = [0u16; limit::MOST_NAMES];
-    let row = Particle::Element(name, t, NO_ROW);
     let w = particle(
         table,
         payload,
@@ -173,7 +173,11 @@ fn root(
         wall,
         c,
         path,
-        row,
+        name,
+        t,
+        NO_ROW,
+        0,
+        1,
     );
     match w {
         Walk::Refuse(n, at) => {

@@ -4,11 +4,12 @@ use reader_parts::Path;
 use reader_parts::Step;
 use wire::Bits;
 ghost use mathlib.Core.Path.{_≡_};
-ghost use Prim.Native.Nat.{_≤_, _<_};
+ghost use Prim.Native.Nat.{_+_, _≤_, _<_};
 ghost use lib.ListN.{length};
 ghost use Rattle.numbers.specs.Limit.{mostName, mostNames};
 ghost use Rattle.reader_parts.specs.Paths.{namesOf};
 ghost use Rattle.reader.specs.RefusalPath.{walks, Named};
+ghost use Rattle.reader.specs.declared.refusal_path.Walk.the-variants.{Refuse, Told};
 
 // Gone on; refused, with number and place, in the innermost open element; or so refused inside one that has told its path, and how many names.
 pub enum Walk {
@@ -39,19 +40,15 @@ pub fn copy_names(to: &mut [u16], from: &[u16])
     }
 }
 
-// What the element of a name answers for the walk through what is in it: its own refusal is told, with the path and the name.
-pub fn name_refusal(told: &mut [u16], path: Path, name: u32, w: Walk) -> Walk
+// A refusal inside the element of a name is told, with the path and the name.
+pub fn tell(told: &mut [u16], path: Path, name: u32, number: u32, place: Bits) -> Walk
     requires { ⌜ (length (now told) ≡ mostNames) × (path .count < mostNames) × (name ≤ mostName) ⌝ }
-    ensures { λ r. ⌜ Named name (namesOf path) w (now (told .entry)) r (now (told .exit)) ⌝ }
+    ensures { λ r. ⌜
+        (Named name (namesOf path) (Refuse number place) (now (told .entry)) r (now (told .exit)))
+        × (r ≡ Told number place (path .count + 1)) ⌝ }
 {
-    match w {
-        Walk::Go(c) => Walk::Go(c),
-        Walk::Told(n, at, count) => Walk::Told(n, at, count),
-        Walk::Refuse(n, at) => {
-            let inner = path.push(name as u16);
-            let names = inner.names;
-            copy_names(told, &names);
-            Walk::Told(n, at, inner.count)
-        }
-    }
+    let inner = path.push(name as u16);
+    let names = inner.names;
+    copy_names(told, &names);
+    Walk::Told(number, place, inner.count)
 }

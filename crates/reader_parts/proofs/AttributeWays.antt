@@ -1,6 +1,7 @@
 -- Each way through an attribute, and through the attributes of a type: what is left of them.
 use Prim.Native.Nat.{ℕ, suc, _+_, _-_, _<_, _≤_}
 use mathlib.Core.Path.{_≡_, refl, sym, ap, _∙_}
+use mathlib.Core.Logic.{_⊎_, inl, inr}
 use mathlib.Core.List.{List, []}
 use mathlib.Core.Bool.{Bool, true, false}
 use native.Mathlib.Omega.{arith}
@@ -14,20 +15,26 @@ use Rattle.wire.specs.Answer.{readIs}
 use Rattle.wire.proofs.ReadWays.{read-value, read-refuse}
 use Rattle.value.specs.Code.{choice, choiceAt, codeAt}
 use Rattle.value.specs.Simple.{plain, simpleAt}
-use Rattle.table.specs.Rows.{Attribute, tableOf, attributeOf, attributesFrom, attributesOf}
-use Rattle.table.specs.Views.{attributeIs, Spans}
+use Rattle.table.specs.Rows.{Attribute, Content, tableOf, attributeOf, attributesFrom, attributesOf}
+use Rattle.table.specs.Rows.Content.{empty, simple, particles}
+use Rattle.table.specs.Views.{attributeIs, contentIs, Spans}
+use Rattle.table.specs.declared.answers.Content as of-content
+use Rattle.table.specs.declared.answers.Content.the-variants.{Empty, Simple, Particles}
 use Rattle.table.specs.declared.answers.Attribute as of-table
 use Rattle.table.specs.declared.answers.Span as of-span
 use Rattle.model.specs.Model.{event, Plan, Answer, value, maybe, attribute, attributes}
 use Rattle.model.specs.Model.Plan.{done}
+use Rattle.model.specs.Model.Nodes.{none}
+use Rattle.model.specs.Model.Answer.{given}
 use Rattle.model.specs.Items.{Lengths}
-use Rattle.model.specs.Read.{after, code, stored, read}
+use Rattle.model.specs.Read.{Room, after, code, stored, read}
+use Rattle.model.proofs.Join.{attributes-join, read-join}
 use Rattle.model.specs.Steps as steps
 use Rattle.model.proofs.Steps as steps-laws
 use Rattle.reader_parts.specs.declared.Cursor.{Cursor}
 use Rattle.reader_parts.specs.declared.Step.{Step}
 use Rattle.reader_parts.specs.declared.Step.the-variants.{Go, Refuse}
-use Rattle.reader_parts.specs.Out.{roomOf, stepView, outcome, Reads, Stores, Notes}
+use Rattle.reader_parts.specs.Out.{roomOf, stepView, outcome, ownValue, Reads, Stores, Notes}
 use Rattle.reader_parts.proofs.Laws.{after-stop, after-go, outcome-none}
 
 -- the flag
@@ -171,3 +178,43 @@ pub rows-of : (l : List ℕ) (t : ℕ) (r : of-span.Span) → Spans l t r → (b
     → Reads (Rest l (r .count) (r .first)) b wall c E T s E′ T′ → Reads (attributes (tableOf l .attributes t) done) b wall c E T s E′ T′
 unfolding tableOf attributesOf
 rows-of l t r h b wall c E T s E′ T′ y = rw (h .first-is, h .count-is) at y
+
+-- attributes, and then the value that a content is, if it is one
+module _ (l : List Attribute) (b : ℕ → ℕ) (wall : ℕ) (c : Cursor) (E T : List ℕ) (k : of-content.Content) (s : Step) (E′ T′ : List ℕ) (y : Reads (attributes l done) b wall c E T s E′ T′) where
+  own-after : (mode : Lengths) (held : ℕ → Bool) (π : List ℕ) → read b mode held (attributes l (ownValue (contentIs k))) (roomOf E T c) π wall (c .at .0)
+      ≡ after (roomOf E T c) (read b mode held (attributes l done) (roomOf E T c) π wall (c .at .0)) (λ u p. read b mode held (ownValue (contentIs k)) u π wall p)
+  own-after mode held π = rw (attributes-join l (ownValue (contentIs k))) (read-join b mode held (attributes l done) (ownValue (contentIs k)) (roomOf E T c) π wall (c .at .0))
+
+  pub before-stop : (n : ℕ) (p : Bits) → s ≡ Refuse n p → Reads (attributes l (ownValue (contentIs k))) b wall c E T s E′ T′
+  before-stop n p i = record {
+    says = λ mode held π. after-stop s π E′ T′ _ c π E T (y .says mode held π) n p i π _ _ ∙ ap (λ (o : Answer). outcome o c π E T) (sym (own-after mode held π));
+  }
+
+  module _ (d : Cursor) (i : s ≡ Go d) where
+    before-next : (mode : Lengths) (held : ℕ → Bool) (π : List ℕ) → outcome (read b mode held (ownValue (contentIs k)) (roomOf E′ T′ d) π wall (d .at .0)) d π E′ T′
+        ≡ outcome (read b mode held (attributes l (ownValue (contentIs k))) (roomOf E T c) π wall (c .at .0)) c π E T
+    before-next mode held π =
+        after-go s π E′ T′ _ c π E T (y .says mode held π) d i π (λ u ρ p. read b mode held (ownValue (contentIs k)) u ρ wall p)
+        ∙ ap (λ (o : Answer). outcome o c π E T) (sym (own-after mode held π))
+
+    pub before-value : (kind x z : ℕ) (r : Step) (E″ T″ : List ℕ) → k ≡ Simple kind x z → Reads (value kind x z done) b wall d E′ T′ r E″ T″ → Reads (attributes l (ownValue (contentIs k))) b wall c E T r E″ T″
+    unfolding ownValue
+    before-value kind x z r E″ T″ g h = record {
+      says = λ mode held π.
+          h .says mode held π
+          ∙ ap (λ (q : of-content.Content). outcome (read b mode held (ownValue (contentIs q)) (roomOf E′ T′ d) π wall (d .at .0)) d π E′ T′) (sym g)
+          ∙ before-next mode held π;
+    }
+
+    -- f is the number of a content's case
+    pub before-none : (f : of-content.Content → ℕ) → ((a e z : ℕ) → f (Simple a e z) ≡ 1) → (f k ≡ 0) ⊎ (f k ≡ 2) → Reads (attributes l (ownValue (contentIs k))) b wall c E T (Go d) E′ T′
+    unfolding ownValue read
+    before-none f v g = record { says = λ mode held π. outcome-none d π E′ T′ ∙ go mode held π k refl ∙ before-next mode held π }
+      where
+        go : (mode : Lengths) (held : ℕ → Bool) (π : List ℕ) (q : of-content.Content) → k ≡ q
+            → outcome (given none (d .at .0)) d π E′ T′ ≡ outcome (read b mode held (ownValue (contentIs k)) (roomOf E′ T′ d) π wall (d .at .0)) d π E′ T′
+        go mode held π Empty e = rw e
+        go mode held π (Particles i) e = rw e
+        go mode held π (Simple a e z) h =
+            let w : f k ≡ 1 = rw h (v a e z) in
+            absurd (elim g [ inl n ↦ omega (arith, w, n) | inr n ↦ omega (arith, w, n) ])

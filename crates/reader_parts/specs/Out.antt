@@ -12,7 +12,8 @@ use Rattle.numbers.specs.Limit.{mostEvents}
 use Rattle.model.specs.Model.{event, end, value, maybe, Plan, Answer, events, texts, treeSlots, treeBytes}
 use Rattle.model.specs.Model.Plan.{done}
 use Rattle.model.specs.Model.Answer.{given, refused}
-use Rattle.table.specs.Rows.{Attribute}
+use Rattle.table.specs.Rows.{Attribute, Content}
+use Rattle.table.specs.Rows.Content.{empty, simple, particles}
 use Rattle.model.specs.Items.{Lengths}
 use Rattle.model.specs.Read.{Room, after, met, stored, read}
 use Rattle.model.specs.Whole.{eventWords}
@@ -46,6 +47,12 @@ outcome (refused n p ρ) c π E T = stopped n p ρ
 -- CONTRACTS OF LEAVES, for every path. A plan read, in every mode and by any held marks, as it opens no element
 pub record Reads (P : Plan) (b : ℕ → ℕ) (wall : ℕ) (c : Cursor) (E T : List ℕ) (s : Step) (E′ T′ : List ℕ) : Type 0 where
   pub says : (mode : Lengths) (held : ℕ → Bool) (π : List ℕ) → stepView s π E′ T′ ≡ outcome (read b mode held P (roomOf E T c) π wall (c .at .0)) c π E T
+
+-- the value that a content is, if it is one
+unfoldable pub ownValue : Content → Plan
+ownValue empty = done
+ownValue (simple kind b c) = value kind b c done
+ownValue (particles row) = done
 
 -- an event stored, with no text; texts are not touched, whatever they are
 pub record Stores (kind p q next : ℕ) (c : Cursor) (E : List ℕ) (s : Step) (E′ : List ℕ) : Type 0 where

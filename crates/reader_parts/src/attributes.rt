@@ -5,6 +5,7 @@ use crate::storing::store;
 use crate::values::value;
 use numbers::kind;
 use table::Attribute;
+use table::Content;
 use table::rows;
 use value::reading::choice;
 use wire::Bits;
@@ -13,10 +14,10 @@ ghost use Prim.Native.Nat.{_+_, _*_, _≤_, _<_};
 ghost use lib.ListN.{length};
 ghost use Rattle.wire.specs.Bits.{bitAt};
 ghost use Rattle.table.specs.Rows.{tableOf, firstOf, countOf};
-ghost use Rattle.table.specs.Views.{attributeIs};
+ghost use Rattle.table.specs.Views.{attributeIs, contentIs};
 ghost use Rattle.model.specs.Model as model;
 ghost use Rattle.model.specs.Model.Plan.{done};
-ghost use Rattle.reader_parts.specs.Out.{Reads, Notes};
+ghost use Rattle.reader_parts.specs.Out.{Reads, Notes, ownValue};
 
 // The event of an attribute, with 1 where it is present, and then its value if it is.
 fn store_attribute(
@@ -99,4 +100,31 @@ pub fn all(
         i += 1;
     }
     Step::Go(cursor)
+}
+
+// What stands before the rows of an element of type t: its attributes, then the value that its content is, if it is one.
+pub fn before_rows(
+    table: &[u32],
+    payload: &[u8],
+    events: &mut [u32],
+    texts: &mut [u8],
+    wall: Bits,
+    c: Cursor,
+    t: u32,
+    k: Content,
+) -> Step
+    requires { ⌜ (wall .0 ≤ 8 * length (now payload)) × (firstOf (now table) t + countOf (now table) t < 4294967296) ⌝ }
+    ensures { λ r. ⌜
+        Reads (model.attributes (tableOf (now (table .entry)) .attributes t) (ownValue (contentIs k)))
+        (bitAt (now (payload .entry))) (wall .0) c (now (events .entry)) (now (texts .entry)) r (now (events .exit))
+        (now (texts .exit)) ⌝ }
+{
+    let s = all(table, payload, events, texts, wall, c, t);
+    let Step::Go(d) = s else {
+        return s;
+    };
+    let Content::Simple(simple, x, y) = k else {
+        return Step::Go(d);
+    };
+    value(payload, events, texts, wall, d, simple, x, y)
 }

@@ -6,11 +6,11 @@ use Rattle.reader.proofs.RootLaws.{root-ways, payload-short, root-given
 use Rattle.reader.proofs.root.Statement.{statement}
 use Rattle.reader.proofs.root.Tie as tie
 
-mul-t28 : tie.Need-mul-t28
-mul-t28 c = omega (arith, payload-short _ _ _ (c .before .before .before .before .pre .1))
+mul-t27 : tie.Need-mul-t27
+mul-t27 c = omega (arith, payload-short _ _ _ (c .before .before .before .before .pre .1))
 
-cast-t29 : tie.Need-cast-t29
-cast-t29 c = omega (arith, payload-short _ _ _ (c .before .before .before .before .pre .1))
+cast-t28 : tie.Need-cast-t28
+cast-t28 c = omega (arith, payload-short _ _ _ (c .before .before .before .before .pre .1))
 
 nowhere-requires : tie.Need-nowhere-requires
 nowhere-requires c κs = search needs
@@ -140,8 +140,8 @@ pub root-spec : {M : Type 1} → statement M
 root-spec =
     tie.close
     (tie.spec
-    mul-t28
-    cast-t29
+    mul-t27
+    cast-t28
     nowhere-requires
     slice-aggregate-particle
     particle-requires

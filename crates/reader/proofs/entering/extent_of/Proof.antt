@@ -1,8 +1,8 @@
 -- What a head says, case by case.
 use borrow.Author.Needs.{needs}
-use Rattle.reader.proofs.Ways.{reached-ways}
-use Rattle.reader.proofs.cycle.extent_of.Statement.{statement}
-use Rattle.reader.proofs.cycle.extent_of.Tie as tie
+use Rattle.reader.proofs.EnterWays.{reached-ways}
+use Rattle.reader.proofs.entering.extent_of.Statement.{statement}
+use Rattle.reader.proofs.entering.extent_of.Tie as tie
 
 enum-known-h : tie.Need-enum-known-h
 enum-known-h c = search needs
