@@ -76,8 +76,8 @@ extern "C" {
  * their arguments are, so that a small receiver may give its thread a small stack: room for a table and for events is taken in steps, and what remains is
  * BIM_STACK_ROW for each row open and BIM_STACK_REST. A call has no arrays but of fixed length, and calls itself once for each row open, of which there are
  * at most 64. `make stack` measures it, and bounds it by the frames of the machine code (x86-64). */
-#define BIM_STACK_REST 36864
-#define BIM_STACK_ROW 1344
+#define BIM_STACK_REST 28800
+#define BIM_STACK_ROW 1184
 #define BIM_STACK_TABLE(bytes) ((bytes) <= 512 ? 0u : (bytes) <= 4096 ? 4096u : (bytes) <= 35856 ? 35856u : 58392u)
 #define BIM_STACK_EVENTS(bytes) ((bytes) <= 2048 ? 0u : (bytes) <= 8192 ? 8192u : (bytes) <= 16384 ? 16384u : 32768u)
 #define BIM_STACK_FOR(table_bytes, event_bytes) \
