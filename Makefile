@@ -167,7 +167,7 @@ bench:
 goals:
 	$(SPEED) goals
 
-# docs/FIGURES.md anew, or only some of its parts: make figures PARTS="lines stack" (lines gate stack speed split soak shelves fuzz).
+# docs/FIGURES.md anew, or only some of its parts: make figures PARTS="lines stack" (lines gate stack goals speed split soak shelves fuzz).
 figures: PARTS =
 figures: target/c/stack peer/target/release/calls
 	@bash dev/figures $(PARTS) >target/figures.md && mv target/figures.md docs/FIGURES.md
