@@ -1,5 +1,7 @@
 // The calls for a C host, over bytes: words are 4 big-endian bytes, the answer is a number and an area.
 // include/bim.h declares them; specs/Calls of `call_parts` says what each gives back, on every input.
+#![tactic(auto)]
+
 mod bits;
 
 ghost use Rattle.std.specs.Prelude.{◌≡◌, [], ◌∷◌, length};

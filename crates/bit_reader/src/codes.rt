@@ -9,7 +9,7 @@ use wire::reading::{fixed, vlu5, vlu8};
 use wire::{Bits, Read};
 
 // How a number is coded: in so many bits, as a vluimsbf5, as a vluimsbf8 of at most two bytes.
-#[derive(Drop)]
+#[derive(Clone, Copy)]
 pub enum Coding {
     Fixed(u32),
     Five,
@@ -17,7 +17,7 @@ pub enum Coding {
 }
 
 // 0 or the number of a refusal; the value, 0 on a refusal; the place past the code, or that of the refused one; the bits left from there.
-#[derive(Drop)]
+#[derive(Clone, Copy)]
 pub struct Reading {
     pub number: u32,
     pub value: u32,

@@ -1,4 +1,6 @@
 // A bit reader lent to the host's own small parsers: it holds a slice and a place in it, and reads one code at a time.
+#![tactic(auto)]
+
 pub mod codes; // codes.rt: the work, over a plain slice and a place
 
 ghost use Rattle.std.specs.Prelude.{◌≡◌};
@@ -8,7 +10,7 @@ use codes::{Coding, Reading, code_at, left_at};
 use wire::Bits;
 
 // The slice, and the place in it of the next bit.
-#[derive(Drop)]
+#[derive(Clone, Copy)]
 pub struct BitReader<'a> {
     pub src: &'a [u8],
     pub at: Bits,

@@ -1,10 +1,12 @@
 // The calendar: a day number, counted from 1858-11-17, as year, month and day; and back, where a date has a number of 32 bits.
 // By formulas, without a loop over days or years. Days before 1858 added to a day number pass a word: the sums are u64's.
+#![tactic(auto)]
+
 ghost use Rattle.std.specs.Prelude.{◌≡◌, ◌+◌, ◌-◌, ◌*◌, ◌≤◌, ◌<◌};
 ghost use Rattle.calendar.specs.Plain.{date_of, days_in, leap};
 ghost use Rattle.calendar.specs.Formulas.{from_march, monthly, yearly, in_word, day_by, year_start, month_start};
 
-#[derive(Drop)]
+#[derive(Clone, Copy)]
 pub struct Date {
     pub year: u32,
     pub month: u32,
@@ -12,7 +14,7 @@ pub struct Date {
 }
 
 // The number of a date, or none.
-#[derive(Drop)]
+#[derive(Clone, Copy)]
 pub enum Day {
     Number(u32),
     Nothing,

@@ -11,7 +11,7 @@ pub type Words<'a> = &'a [u32];
 pub type Room<'a> = &'a mut [u32];
 
 // A reading: who reads, and the root's name and type.
-#[derive(Drop)]
+#[derive(Clone, Copy)]
 pub struct Asked {
     pub party: u32,
     pub name: u32,
@@ -19,7 +19,7 @@ pub struct Asked {
 }
 
 // A writing: the same, and the mode.
-#[derive(Drop)]
+#[derive(Clone, Copy)]
 pub struct Order {
     pub party: u32,
     pub name: u32,

@@ -9,14 +9,14 @@ use crate::Item;
 use numbers::{limit, refusal};
 
 // A number and the place past it, or the number of a refusal.
-#[derive(Drop)]
+#[derive(Clone, Copy)]
 pub enum Number {
     Value(u32, usize),
     Refuse(u32),
 }
 
 // An item's number, the place past that, and the place past the item; or the number of a refusal.
-#[derive(Drop)]
+#[derive(Clone, Copy)]
 pub enum Found {
     Item(u32, usize, usize),
     Refuse(u32),
@@ -241,7 +241,7 @@ pub fn item_at(item: Item, s: &[u8], wall: usize, at: usize) -> Found
 }
 
 // An item's words, one or two.
-#[derive(Drop)]
+#[derive(Clone, Copy)]
 pub struct Words {
     pub two: bool,
     pub one: u32,

@@ -1,5 +1,6 @@
 // The start-up message (DecoderInit of 001, 7.2): what it says as words, read from bytes and written as bytes.
 // A message is a run of items, each of which says one thing; which comes next hangs on what the ones before it said.
+#![tactic(auto)]
 
 pub mod calls; // calls.rt: the calls for a C host
 pub mod items; // items.rt: an item's number, judged, and its words
@@ -8,7 +9,7 @@ pub mod reading; // reading.rt: a message read
 pub mod writing; // writing.rt: a message written
 
 // What an item is. Its number is a vluimsbf8 of at most two bytes, but for the unit, the flags and the formats, where it is a byte.
-#[derive(Drop)]
+#[derive(Clone, Copy)]
 pub enum Item {
     // A number that the host compares: profile, number of codecs, number of types, a type.
     Number,
@@ -33,21 +34,21 @@ pub enum Item {
 }
 
 // Where an item's words stand: from a word of init on, or next in codecs.
-#[derive(Drop)]
+#[derive(Clone, Copy)]
 pub enum Slot {
     Init(usize),
     Codecs,
 }
 
 // An item and where its words stand.
-#[derive(Drop)]
+#[derive(Clone, Copy)]
 pub struct Row {
     pub item: Item,
     pub slot: Slot,
 }
 
 // What of the schemas is still to come: a schema's place in init, and how many schemas, codecs and types follow.
-#[derive(Drop)]
+#[derive(Clone, Copy)]
 pub struct Left {
     pub slot: usize,
     pub schemas: u32,
@@ -57,7 +58,7 @@ pub struct Left {
 }
 
 // Which item is next.
-#[derive(Drop)]
+#[derive(Clone, Copy)]
 pub enum Phase {
     Profile,
     UnitByte,
@@ -78,7 +79,7 @@ pub enum Phase {
 }
 
 // What is answered: a number, a place, and how much there is: words of codecs read, bytes of a message written.
-#[derive(Drop)]
+#[derive(Clone, Copy)]
 pub struct Answer {
     pub number: u32,
     pub place: usize,

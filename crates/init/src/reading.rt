@@ -16,7 +16,7 @@ use buffers::{clear, clear_words, put_word};
 use numbers::{limit, refusal};
 
 // Where a reading is: the next item, its byte, and the words of codecs so far.
-#[derive(Drop)]
+#[derive(Clone, Copy)]
 pub struct State {
     pub phase: Phase,
     pub at: usize,
@@ -24,14 +24,14 @@ pub struct State {
 }
 
 // What comes of one item: the next state, or the number of a refusal.
-#[derive(Drop)]
+#[derive(Clone, Copy)]
 pub enum Turn {
     Go(State),
     Refuse(u32),
 }
 
 // The words of codecs that are used, or there was no room.
-#[derive(Drop)]
+#[derive(Clone, Copy)]
 pub enum Kept {
     Used(usize),
     Full,
@@ -158,7 +158,7 @@ fn read_item(message: &[u8], wall: usize, codecs: &mut [u8], init: &mut [u32], s
 }
 
 // All items: the place past them and the words of codecs, or the number and the place of a refusal.
-#[derive(Drop)]
+#[derive(Clone, Copy)]
 pub enum Run {
     Done(usize, usize),
     Refuse(u32, usize),

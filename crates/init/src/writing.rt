@@ -19,7 +19,7 @@ use buffers::{clear, word};
 use numbers::{limit, refusal};
 
 // An item's number by its words, or the number of a refusal and which of the words is at fault.
-#[derive(Drop)]
+#[derive(Clone, Copy)]
 pub enum Value {
     Value(u32),
     Wrong(u32, u8),
@@ -148,7 +148,7 @@ fn value_of(item: Item, a: u32, b: u32) -> Value
 }
 
 // How far a message is written; full where it has passed the room lent, and then no more is.
-#[derive(Drop)]
+#[derive(Clone, Copy)]
 pub struct Ink {
     pub at: usize,
     pub full: bool,
@@ -237,7 +237,7 @@ fn put_zeros(message: &mut [u8], ink: Ink, n: usize) -> Ink
 }
 
 // Where a writing is: the next item, the words of codecs used, and how far the message is written.
-#[derive(Drop)]
+#[derive(Clone, Copy)]
 pub struct Desk {
     pub phase: Phase,
     pub used: usize,
@@ -245,7 +245,7 @@ pub struct Desk {
 }
 
 // What comes of one item: the next state, or number and place of a refusal.
-#[derive(Drop)]
+#[derive(Clone, Copy)]
 pub enum Step {
     Go(Desk),
     Refuse(u32, usize),
@@ -305,7 +305,7 @@ fn width_of(item: Item) -> usize
 }
 
 // The words of codecs used behind an item, or some of its words are missing.
-#[derive(Drop)]
+#[derive(Clone, Copy)]
 pub enum Room {
     Used(usize),
     Missing,
@@ -449,7 +449,7 @@ fn write_words(
 }
 
 // The two words at an item's slot.
-#[derive(Drop)]
+#[derive(Clone, Copy)]
 pub struct Pair(pub u32, pub u32);
 
 fn pair_in(slot: Slot, init: &[u32], codecs: &[u8], n: usize, used: usize) -> Pair
@@ -500,7 +500,7 @@ fn write_item(
 }
 
 // All items written: the words of codecs used and the ink, or number and place of a refusal.
-#[derive(Drop)]
+#[derive(Clone, Copy)]
 pub enum Wrote {
     Done(usize, Ink),
     Refuse(u32, usize),

@@ -1,4 +1,6 @@
 // The listing program: a table, a root and a payload from standard input, the events to standard output.
+#![tactic(auto)]
+
 mod listing; // listing.rt: the input taken apart, and read
 mod text; // text.rt: the lines
 

@@ -1,11 +1,12 @@
 // How a payload is coded, as reader and writer pass it down by value; and in specs/ the definitions that both are held to, with what is proved of
 // each by itself in proofs/.
+#![tactic(auto)]
 
 ghost use Rattle.std.specs.Prelude.{◌≡◌};
 ghost use Rattle.model.specs.Modes.{offers};
 
 // Length coding: never, by a flag, always.
-#[derive(Drop)]
+#[derive(Clone, Copy)]
 pub enum Lengths {
     Never,
     Optional,
@@ -13,7 +14,7 @@ pub enum Lengths {
 }
 
 // What an element may have to choose from: anything, substitutes, derived types. Where there is nothing, an element costs one test.
-#[derive(Drop)]
+#[derive(Clone, Copy)]
 pub struct Choices {
     pub any: bool,
     pub substitutes: bool,
@@ -33,7 +34,7 @@ pub fn offered(substitutes: bool, derived: bool) -> Choices
 }
 
 // A payload's mode by a table: its length coding, and whether the table has substitutes and type codes are sent; and whose marks count.
-#[derive(Drop)]
+#[derive(Clone, Copy)]
 pub struct Mode {
     pub lengths: Lengths,
     pub choices: Choices,

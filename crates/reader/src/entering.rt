@@ -19,7 +19,7 @@ use table::{Content, Particle, inside};
 use wire::Bits;
 
 // Whether a length is coded, where the body begins, and the wall of what is inside.
-#[derive(Drop)]
+#[derive(Clone, Copy)]
 pub struct Extent {
     pub coded: bool,
     pub body: Bits,
@@ -27,7 +27,7 @@ pub struct Extent {
 }
 
 // The number of a wrong head; or what a head says of an element.
-#[derive(Drop)]
+#[derive(Clone, Copy)]
 pub enum Reach {
     Wrong(u32),
     To(Extent),
@@ -35,7 +35,7 @@ pub enum Reach {
 
 // An element that has rows, up to these: where the reading is (first, as in `Entered::Done`, so that the back end keeps it in registers), the rows, so many
 // from one on, each a step past the one before, how many rows are opened around them, whether a length is coded, where its body begins, its wall.
-#[derive(Drop)]
+#[derive(Clone, Copy)]
 pub struct Entry {
     pub cursor: Cursor,
     pub first: u32,
@@ -48,7 +48,7 @@ pub struct Entry {
 }
 
 // What an element came to: refused, or read to its end, or refused once it is in the path, or it has rows.
-#[derive(Drop)]
+#[derive(Clone, Copy)]
 pub enum Entered {
     Refuse(u32, Bits),
     Done(Cursor),

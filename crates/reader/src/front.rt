@@ -6,7 +6,7 @@ use numbers::{limit, mode, refusal};
 use table::rows;
 
 // A mode, or the number of a refusal.
-#[derive(Drop)]
+#[derive(Clone, Copy)]
 pub enum Found {
     Is(Mode),
     Refuse(u32),

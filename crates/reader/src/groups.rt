@@ -18,7 +18,7 @@ use value::reading::{choice, code};
 use wire::{Bits, Read};
 
 // Where the reading is; and rows: so many from one on, each a step past the one before.
-#[derive(Drop)]
+#[derive(Clone, Copy)]
 pub struct Run {
     pub cursor: Cursor,
     pub first: u32,
@@ -27,7 +27,7 @@ pub struct Run {
 }
 
 // A refusal, or the rows.
-#[derive(Drop)]
+#[derive(Clone, Copy)]
 pub enum Group {
     Refuse(u32, Bits),
     Rows(Run),
@@ -82,7 +82,7 @@ pub fn rows_of(payload: &[u8], events: &mut [u32], wall: Bits, c: Cursor, row: P
 }
 
 // An element that is next: where the reading is, its name, type and row, and how many rows may be opened inside it.
-#[derive(Drop)]
+#[derive(Clone, Copy)]
 pub struct Target {
     pub cursor: Cursor,
     pub name: u32,
@@ -92,7 +92,7 @@ pub struct Target {
 }
 
 // What a row came to: refused; read, as it holds none; an element; or rows.
-#[derive(Drop)]
+#[derive(Clone, Copy)]
 pub enum Aim {
     Refuse(u32, Bits),
     Go(Cursor),

@@ -1,4 +1,6 @@
 // The reader: a payload, by a schema table, into events and texts.
+#![tactic(auto)]
+
 mod clear; // clear.rt: lent buffers made zero
 mod cycle; // cycle.rt: elements, what is inside them, particle rows
 mod entering; // entering.rt: an element up to its rows
@@ -34,7 +36,7 @@ use table::{Verdict, check};
 use wire::{Bits, Bytes};
 
 // The whole answer. On acceptance number and place are 0 and the path is empty; on a refusal all but number, place and path is 0.
-#[derive(Drop)]
+#[derive(Clone, Copy)]
 pub struct Answer {
     pub number: u32,
     pub place: usize,

@@ -9,7 +9,7 @@ use reader_parts::{Cursor, Path, Step};
 use wire::Bits;
 
 // Gone on; refused, with number and place, in the innermost open element; or so refused inside one that has told its path, and how many names.
-#[derive(Drop)]
+#[derive(Clone, Copy)]
 pub enum Walk {
     Go(Cursor),
     Refuse(u32, Bits),

@@ -22,7 +22,7 @@ use wire::{Bits, Read};
 
 // A value that is next: where the reading is, and the value's simple kind with its parameters. The cursor stands first, as it does in `Lead::Go`: where
 // cases hold it at one place the back end keeps it in registers.
-#[derive(Drop)]
+#[derive(Clone, Copy)]
 pub struct Due {
     pub cursor: Cursor,
     pub simple: u32,
@@ -31,7 +31,7 @@ pub struct Due {
 }
 
 // What a part came to before its value: refused; read, as it has none; or its value is next.
-#[derive(Drop)]
+#[derive(Clone, Copy)]
 pub enum Lead {
     Refuse(u32, Bits),
     Go(Cursor),

@@ -18,7 +18,7 @@ use value::reading::choice;
 use wire::{Bits, Read};
 
 // A type that was picked, its number in the list (from 1, or 0 where it is not of the list) and the place past its code; or a refusal.
-#[derive(Drop)]
+#[derive(Clone, Copy)]
 pub enum Picked {
     Is(u32, u32, Bits),
     Wrong(u32),

@@ -1,4 +1,6 @@
 // The reader's parts: what it stores, and each part of an element that holds no element. They speak for every path; who opens elements holds it.
+#![tactic(auto)]
+
 pub mod attributes; // attributes.rt: one attribute, and all of a type
 pub mod codes; // codes.rt: an element's substitution code and type code, and their event
 pub mod ends; // ends.rt: the end of an element
@@ -11,7 +13,7 @@ use numbers::limit;
 use wire::Bits;
 
 // Where a reading is: the place in the payload, how many events and how many text bytes are stored.
-#[derive(Drop)]
+#[derive(Clone, Copy)]
 pub struct Cursor {
     pub at: Bits,
     pub count: u32,
@@ -19,21 +21,21 @@ pub struct Cursor {
 }
 
 // A part was read; or the number and the place of a refusal.
-#[derive(Drop)]
+#[derive(Clone, Copy)]
 pub enum Step {
     Go(Cursor),
     Refuse(u32, Bits),
 }
 
 // The names of the open elements, the outermost first. By value: who opened an element has, at its End, the path without it.
-#[derive(Drop)]
+#[derive(Clone, Copy)]
 pub struct Path {
     pub names: [u16; limit::MOST_NAMES],
     pub count: usize,
 }
 
 // An element's head: where its body begins; that and its declared end; or the number of a refusal.
-#[derive(Drop)]
+#[derive(Clone, Copy)]
 pub enum Head {
     Bare(Bits),
     Sized(Bits, Bits),
@@ -41,7 +43,7 @@ pub enum Head {
 }
 
 // An element's codes: its effective type, its substitute (from 1, or 0), the place past them, and whether a flag bit was sent.
-#[derive(Drop)]
+#[derive(Clone, Copy)]
 pub struct Cast {
     pub effective: u32,
     pub substitute: u32,
@@ -50,21 +52,21 @@ pub struct Cast {
 }
 
 // What an element's codes say; or the number of a refusal.
-#[derive(Drop)]
+#[derive(Clone, Copy)]
 pub enum Coded {
     As(Cast),
     Wrong(u32),
 }
 
 // An element that is open: its effective type, and where the reading is.
-#[derive(Drop)]
+#[derive(Clone, Copy)]
 pub struct Inner {
     pub cursor: Cursor,
     pub effective: u32,
 }
 
 // What becomes of an element behind its head: refused; a Blank; refused once it is in the path, for lack of room for its codes' event; open.
-#[derive(Drop)]
+#[derive(Clone, Copy)]
 pub enum Opened {
     Refuse(u32, Bits),
     Blank(Cursor),

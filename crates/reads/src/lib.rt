@@ -1,4 +1,6 @@
 // A payload read over bytes: by the bytes of a table, into events as bytes and texts, with the answer told in the area; or added to a report.
+#![tactic(auto)]
+
 pub mod reports; // reports.rt: what a reading comes to, added
 
 ghost use Rattle.std.specs.Prelude.{◌≡◌, length, ◌*◌, ◌≤◌, min};

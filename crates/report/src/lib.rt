@@ -1,4 +1,6 @@
 // Where the bits go: a report of numbers that is added to, payload by payload.
+#![tactic(auto)]
+
 mod counting; // counting.rt: the events of a payload
 mod eights; // eights.rt: numbers of eight bytes
 mod lines; // lines.rt: a name's line, and sums

@@ -1,4 +1,6 @@
 // Shelf files: records kept on disc in blocks of 512 bytes, each with its own check. A stream is the records one after another.
+#![tactic(auto)]
+
 pub mod answers;
 mod block;
 pub mod calls;

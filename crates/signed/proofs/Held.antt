@@ -30,7 +30,7 @@ widened w f = let h : w < 2 ^ 32 = f.fits in to_z_pos w64 (omega arith)
 
 -- a word's number, as `value` gives it
 pub value-held : (w : ℕ) → Fits w32 w → (x : ℤ) → x ≡ to_z w32 w → held x ≡ to_z w32 w
-value-held w f x e = ap held e ∙ to_z-of_z (sfits_widen {w = w32} tt (sfits_to_z f))
+value-held w f x e = ap held e ∙ to_z-of_z {w = w64} (sfits_widen {w = w32} (tt {0}) (sfits_to_z f))
 
 -- a difference of naturals is no larger than the larger, 0 less one no larger than it, and a sum no larger than its parts together
 pub sub_small : (a b n : ℕ) → a ≤ n → b ≤ n → nat_abs (sub_ℕ a b) ≤ n

@@ -1,5 +1,7 @@
 // Two's complement words: what a word is as a signed number, differences and sums of such numbers, sign and magnitude.
 // The arithmetic is i64's, where no difference and no sum of these functions wraps; a gap is that of two ranks.
+#![tactic(auto)]
+
 mod answers;
 
 ghost use Rattle.std.specs.Prelude.{◌≡◌};

@@ -1,14 +1,14 @@
 // What the functions on a table answer.
 
 // Right, or the place of the first word at fault.
-#[derive(Drop)]
+#[derive(Clone, Copy)]
 pub enum Verdict {
     Right,
     Wrong(usize),
 }
 
 // What a type's elements hold: nothing, one simple value of a kind with its parameters b and c, or a particle row.
-#[derive(Drop)]
+#[derive(Clone, Copy)]
 pub enum Content {
     Empty,
     Simple(u32, u32, u32),
@@ -16,14 +16,14 @@ pub enum Content {
 }
 
 // The attribute rows of a type: the first, and how many.
-#[derive(Drop)]
+#[derive(Clone, Copy)]
 pub struct Span {
     pub first: u32,
     pub count: u32,
 }
 
 // An attribute, with the simple kind and the parameters of its type.
-#[derive(Drop)]
+#[derive(Clone, Copy)]
 pub struct Attribute {
     pub name: u32,
     pub must: bool,
@@ -33,7 +33,7 @@ pub struct Attribute {
 }
 
 // Types that stand in a table's words: the place of the first, whether each is the second word of a pair, and how many there are.
-#[derive(Drop)]
+#[derive(Clone, Copy)]
 pub struct TypeList {
     pub first: usize,
     pub paired: bool,
@@ -41,7 +41,7 @@ pub struct TypeList {
 }
 
 // A particle row: name, type and the row's own number; first child and number of children; child, least and most.
-#[derive(Drop)]
+#[derive(Clone, Copy)]
 pub enum Particle {
     Element(u32, u32, u32),
     Sequence(u32, u32),
@@ -50,7 +50,7 @@ pub enum Particle {
 }
 
 // What became of setting a mark: the number, and the place of the first word at fault.
-#[derive(Drop)]
+#[derive(Clone, Copy)]
 pub struct Setting {
     pub number: u32,
     pub place: usize,

@@ -1,4 +1,6 @@
 // The check of a schema table, a list of 32-bit words; what stands in its rows is in `rows`.
+#![tactic(auto)]
+
 mod answers;
 mod attribute_rows;
 mod cast_rows;

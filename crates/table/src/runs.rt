@@ -4,7 +4,7 @@ ghost use Rattle.table.specs.Runs.{FourAt, SevenAt};
 
 use crate::rows::word;
 
-#[derive(Drop)]
+#[derive(Clone, Copy)]
 pub struct Four {
     pub a: u32,
     pub b: u32,
@@ -12,7 +12,7 @@ pub struct Four {
     pub d: u32,
 }
 
-#[derive(Drop)]
+#[derive(Clone, Copy)]
 pub struct Seven {
     pub a: u32,
     pub b: u32,

@@ -11,7 +11,7 @@ use test_leaves::writing::{
 };
 
 // A reading has its wall in x and its place in y; a writing its value in x. Parameters are a, b and c.
-#[derive(Drop)]
+#[derive(Clone, Copy)]
 pub struct Case {
     pub asked: u8,
     pub x: u32,

@@ -2,6 +2,8 @@
 // A code case is a byte below 32 that says what is asked (`ask`), the number of its bytes, five words, the highest byte first, and the bytes.
 // A payload case is the byte 32, the party's byte, six words (table words, payload bytes, root name, root type, event words and text bytes lent), the table,
 // and the payload (`payload`).
+#![tactic(auto)]
+
 mod ask;
 mod payload;
 

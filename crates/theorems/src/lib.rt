@@ -1,1 +1,2 @@
 // No code: specs/ has the words of the demands' theorems, and proofs/ the theorems.
+#![tactic(auto)]

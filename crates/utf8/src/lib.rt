@@ -1,4 +1,6 @@
 // What is wrong with a text, as a number: ACCEPTED, NOT_UTF8 (RFC 3629), or CONTROL.
+#![tactic(auto)]
+
 mod ascii; // ascii.rt: octets that are printable ASCII, passed 16 at a time
 pub mod slanted; // slanted.rt: a text whose octets begin at any bit of a byte
 
@@ -10,7 +12,7 @@ use numbers::refusal;
 use slanted::text_fault;
 
 // What may come next in a text. It starts in Start, between two characters, and may end there alone.
-#[derive(Drop)]
+#[derive(Clone, Copy)]
 pub enum State {
     Start,
     // So many octets 80 to BF are left of the character.

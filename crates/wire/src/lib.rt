@@ -1,33 +1,35 @@
 // Codes on the wire: bits of a payload, the most significant first; fixed widths, vluimsbf5, vluimsbf8; read below a wall, and written.
+#![tactic(auto)]
+
 pub mod reading; // reading.rt: from a place, below a wall
 pub mod choices; // choices.rt: how many bits tell n choices apart
 pub mod writing; // writing.rt: into a lent buffer, at a place
 mod window; // window.rt: whole words of a payload
 
 // A count of bits, or a place: bits from the payload's start. TheLength is one.
-#[derive(Drop)]
+#[derive(Clone, Copy)]
 pub struct Bits(pub u32);
 
 // A count of bytes: a text's size, room.
-#[derive(Drop)]
+#[derive(Clone, Copy)]
 pub struct Bytes(pub u32);
 
 // A code as a number: the lowest bits of it, so many of them, the highest first.
-#[derive(Drop)]
+#[derive(Clone, Copy)]
 pub struct Coded {
     pub size: u32,
     pub bits: u64,
 }
 
 // A code's value and the place past it, or the number of a refusal.
-#[derive(Drop)]
+#[derive(Clone, Copy)]
 pub enum Read {
     Value(u32, Bits),
     Refuse(u32),
 }
 
 // A number's value, the place past it, and whether it was in shortest form; or the number of a refusal.
-#[derive(Drop)]
+#[derive(Clone, Copy)]
 pub enum Number {
     Value(u32, Bits, bool),
     Refuse(u32),

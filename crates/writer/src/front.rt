@@ -14,7 +14,7 @@ use table::{Verdict, check};
 use writer_parts::Spot;
 
 // Nothing, or number and place of a refusal.
-#[derive(Drop)]
+#[derive(Clone, Copy)]
 pub enum Fault {
     No,
     At(u32, usize),

@@ -12,7 +12,7 @@ use writer_parts::values::{count, pick};
 use writer_parts::{Judgement, Spot};
 
 // Where the walk is; and rows: so many from one on, each a step past the one before.
-#[derive(Drop)]
+#[derive(Clone, Copy)]
 pub struct Run {
     pub cursor: Spot,
     pub first: u32,
@@ -21,7 +21,7 @@ pub struct Run {
 }
 
 // An element that is next: where the walk is, its name, type and row, and how many rows may be opened inside it.
-#[derive(Drop)]
+#[derive(Clone, Copy)]
 pub struct Target {
     pub cursor: Spot,
     pub name: u32,
@@ -31,7 +31,7 @@ pub struct Target {
 }
 
 // What a row came to: an element; rows, which may be none; or number and event of a refusal. No case of its own for no rows: all cases would pay for it.
-#[derive(Drop)]
+#[derive(Clone, Copy)]
 pub enum Aim {
     Element(Target),
     Rows(Run),

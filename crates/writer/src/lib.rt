@@ -1,4 +1,6 @@
 // The writer: a walk over the list of events that judges each and notes its bits, then the pen.
+#![tactic(auto)]
+
 mod cycle; // cycle.rt: elements, what is inside them, particle rows
 mod front; // front.rt: what is judged before the walk, and after it
 mod groups; // groups.rt: what a row comes to
@@ -24,7 +26,7 @@ use writer_parts::opening::NO_ROW;
 use writer_parts::{Judgement, Spot};
 
 // The whole answer; no path, as no element is open. On a refusal all but number and place is 0.
-#[derive(Drop)]
+#[derive(Clone, Copy)]
 pub struct Answer {
     pub number: u32,
     pub place: usize,

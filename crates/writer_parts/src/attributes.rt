@@ -14,7 +14,7 @@ use numbers::{kind, refusal};
 use table::{Content, inside};
 
 // An attribute with a flag event, of a name; or the type's own value, which has no flag. It is valued where a value may come.
-#[derive(Drop)]
+#[derive(Clone, Copy)]
 pub struct Slot {
     pub flagged: bool,
     pub name: u32,
@@ -26,7 +26,7 @@ pub struct Slot {
 }
 
 // A slot's flag judged: its value comes next, or none; or number and event of a refusal.
-#[derive(Drop)]
+#[derive(Clone, Copy)]
 pub enum Marked {
     Value(Spot),
     Nothing(Spot),

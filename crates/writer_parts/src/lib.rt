@@ -1,4 +1,6 @@
 // The writer's parts: what is noted for an event, as one number; each part of an element that holds no element; the pen that writes notes down.
+#![tactic(auto)]
+
 pub mod attributes; // attributes.rt: one attribute, and all of a type
 pub mod codes; // codes.rt: an element's codes, judged and noted
 pub mod ends; // ends.rt: the end of an element
@@ -12,21 +14,21 @@ pub mod values; // values.rt: a simple value with its text, a branch, a count
 use wire::Coded;
 
 // A code as a number, or the number of a refusal.
-#[derive(Drop)]
+#[derive(Clone, Copy)]
 pub enum Spelling {
     Code(Coded),
     Refuse(u32),
 }
 
 // A date's note, and how many bits that is.
-#[derive(Drop)]
+#[derive(Clone, Copy)]
 pub struct SizedNote {
     pub note: u64,
     pub bits: u32,
 }
 
 // Where a walk over the list of events is: the next event, the text bytes used, the bits of what was noted.
-#[derive(Drop)]
+#[derive(Clone, Copy)]
 pub struct Spot {
     pub event: usize,
     pub used: usize,
@@ -34,14 +36,14 @@ pub struct Spot {
 }
 
 // One event judged, or several: where the walk goes on; or number and event of a refusal.
-#[derive(Drop)]
+#[derive(Clone, Copy)]
 pub enum Judgement {
     Go(Spot),
     Refuse(u32, usize),
 }
 
 // An element's codes judged: its effective type, and where the walk goes on; or number and event of a refusal.
-#[derive(Drop)]
+#[derive(Clone, Copy)]
 pub enum Cast {
     To(u32, Spot),
     Refuse(u32, usize),

@@ -10,7 +10,7 @@ use wire::Bits;
 use wire::writing::{coded5, put, put_whole, whole};
 
 // The bytes before one stand; from there on wait the lowest bits of a number, so many of them.
-#[derive(Drop)]
+#[derive(Clone, Copy)]
 pub struct Pen {
     pub next: usize,
     pub waiting: u64,

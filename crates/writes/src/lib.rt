@@ -1,4 +1,6 @@
 // A list written over bytes: by the bytes of a table, from events as bytes and texts, with the answer told in the area.
+#![tactic(auto)]
+
 ghost use Rattle.std.specs.Prelude.{◌≡◌, length};
 ghost use Rattle.numbers.specs.Limit as limit;
 ghost use Rattle.numbers.specs.Limit.{most_event_words, most_table_words};

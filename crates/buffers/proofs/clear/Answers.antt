@@ -1,0 +1,15 @@
+-- `clear`: zeros up to i.
+use Prim.Native.Nat.{◌-◌, ◌≤◌}
+use mathlib.Core.Path.{◌≡◌}
+use mathlib.Core.List.{◌++◌}
+use native.Mathlib.Omega.{arith}
+use lib.ListN.{length, drop, replicate, length-set}
+use Rattle.buffers.proofs.Loops.{cleared_more, cleared-all}
+use borrow.Author.Rules.{rules}
+use Rattle.buffers.proofs.clear.Goals as goal
+
+pub loop-i-preserved : goal.loop-i-preserved
+loop-i-preserved c = let v = c.loop-i in (omega arith, simp length-set (omega arith), cleared_more v.s _ v.i (omega arith) v.invariant.2)
+
+pub returns : goal.returns
+returns c = let v = c.loop-i in cleared-all v.s _ v.i (omega arith) v.invariant.2

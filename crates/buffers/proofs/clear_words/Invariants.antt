@@ -1,0 +1,15 @@
+-- `clear_words`: zeros up to i.
+use Prim.Native.Nat.{◌-◌, ◌≤◌}
+use mathlib.Core.Path.{◌≡◌}
+use mathlib.Core.List.{◌++◌}
+use native.Mathlib.Omega.{arith}
+use lib.ListN.{length, drop, replicate, length-set}
+use Rattle.buffers.proofs.Loops.{cleared_more, cleared-all}
+use borrow.Author.Rules.{rules}
+use Rattle.buffers.proofs.clear_words.Given as goal
+
+abbrev pub invariant-loop-i : goal.invariant-loop-i
+invariant-loop-i l = (l.i ≤ length l.initial.a) × (length l.a ≡ length l.initial.a) × (l.a ≡ replicate l.i 0 ++ drop l.i l.initial.a)
+
+abbrev pub decreases-loop-i : goal.decreases-loop-i
+decreases-loop-i l = length l.initial.a - l.i

@@ -1,0 +1,33 @@
+-- What is left of the parts, at each turn, is what was asked for.
+use Prim.Native.Nat.{◌+◌, ◌-◌}
+use mathlib.Core.Path.{◌≡◌, refl}
+use lib.ListN.{length}
+use Rattle.wire.specs.Bits.{bit_at}
+use Rattle.reader_parts.proofs.AttributeWays.{UpTo, Left, left-all, left-more, left-ways, inside-ways}
+use Rattle.reader_parts.specs.Parts.{before_rows}
+use borrow.Author.Rules.{rules}
+use Rattle.reader_parts.proofs.attributes.before_rows.Goals as goal
+
+pub span-rows-requires : goal.span-rows-requires
+span-rows-requires c = search (rules, inside-ways)
+
+pub overflow_add-end : goal.overflow_add-end
+overflow_add-end c = search (rules, inside-ways)
+
+pub loop-row-init : goal.loop-row-init
+loop-row-init c = (refl, refl, search (rules, left-all))
+
+pub part-s-requires : goal.part-s-requires
+part-s-requires c = search (rules, inside-ways)
+
+pub returns-in_default : goal.returns-in_default
+returns-in_default c = search (rules, left-ways)
+
+pub overflow_add-row : goal.overflow_add-row
+overflow_add-row c = search (rules, inside-ways)
+
+pub loop-row-preserved : goal.loop-row-preserved
+loop-row-preserved c = (search rules, search rules, search (rules, left-more))
+
+pub returns : goal.returns
+returns c = search (rules, left-ways)

@@ -1,0 +1,17 @@
+-- What is left of the parts, at each turn, is what was asked for.
+use Prim.Native.Nat.{◌+◌, ◌-◌}
+use mathlib.Core.Path.{◌≡◌, refl}
+use lib.ListN.{length}
+use Rattle.wire.specs.Bits.{bit_at}
+use Rattle.reader_parts.proofs.AttributeWays.{UpTo, Left, left-all, left-more, left-ways, inside-ways}
+use Rattle.reader_parts.specs.Parts.{before_rows}
+use borrow.Author.Rules.{rules}
+use Rattle.reader_parts.proofs.attributes.before_rows.Given as goal
+
+abbrev pub invariant-loop-row : goal.invariant-loop-row
+invariant-loop-row l = (length l.events ≡ length l.initial.events)
+    × (length l.texts ≡ length l.initial.texts)
+    × Left (bit_at l.payload) l.wall.0 (before_rows l.table l.t) (UpTo l.table l.t l.end l.row) l.initial.cursor l.initial.events l.initial.texts l.cursor l.events l.texts
+
+abbrev pub decreases-loop-row : goal.decreases-loop-row
+decreases-loop-row l = l.end + 1 - l.row

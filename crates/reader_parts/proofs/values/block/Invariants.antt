@@ -1,0 +1,27 @@
+-- The octets are held, and then laid; those seen so far are printable, where `plain` still says so.
+use Prim.Native.Nat.{◌-◌, ◌≤◌}
+use mathlib.Core.Path.{◌≡◌, refl}
+use native.Mathlib.Omega.{arith}
+use lib.ListN.{length, length-set}
+use lib.Seq.{sets}
+use Rattle.utf8.specs.Slanted.{octets_at}
+use Rattle.utf8.proofs.SlantedLaws.{SoFar}
+use Rattle.reader_parts.proofs.TextWays.{Held, held_more, far_none, far-more, laid_none, block-ways}
+use borrow.Author.Rules.{rules}
+use Rattle.reader_parts.proofs.values.block.Given as goal
+
+abbrev pub invariant-loop-j : goal.invariant-loop-j
+invariant-loop-j l = (length l.held ≡ 16) × (l.j ≤ l.n) × Held l.payload l.k l.i l.held l.j × SoFar l.payload l.k l.i l.j l.plain
+
+abbrev pub decreases-loop-j : goal.decreases-loop-j
+decreases-loop-j l = l.n - l.j
+
+abbrev pub invariant-loop-h : goal.invariant-loop-h
+invariant-loop-h l = (length l.texts ≡ length l.initial.texts)
+    × (l.h ≤ l.n)
+    × (l.texts ≡ sets l.initial.texts l.used (octets_at l.payload l.k l.i l.h))
+    × Held l.payload l.k l.i l.held l.n
+    × SoFar l.payload l.k l.i l.n l.plain
+
+abbrev pub decreases-loop-h : goal.decreases-loop-h
+decreases-loop-h l = l.n - l.h

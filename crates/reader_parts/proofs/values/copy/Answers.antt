@@ -1,0 +1,11 @@
+-- No room for the bytes, or they are moved.
+use native.Mathlib.Omega.{arith}
+use Rattle.reader_parts.proofs.TextWays.{copied, copied-not}
+use borrow.Author.Rules.{rules}
+use Rattle.reader_parts.proofs.values.copy.Goals as goal
+
+pub returns-then-room-m : goal.returns-then-room-m
+returns-then-room-m c = copied-not _ _ _ _ _ (omega (arith, c.room_left-room.ensures, c.if-room-m.true))
+
+pub returns : goal.returns
+returns c =     copied _ c.shared_slice_known-1.given _ _ _ _ _ _ c.move_octets.ensures

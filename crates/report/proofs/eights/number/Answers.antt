@@ -1,0 +1,7 @@
+-- `number`: the eight bytes at eight times the index.
+use Rattle.report.proofs.Ways.{at-way}
+use borrow.Author.Rules.{rules}
+use Rattle.report.proofs.eights.number.Goals as goal
+
+pub returns : goal.returns
+returns c = (at-way _ _ _ c.requires.1 c.load.ensures.0, c.load.ensures.1, c.load.ensures.2)

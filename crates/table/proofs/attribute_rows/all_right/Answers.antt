@@ -1,0 +1,37 @@
+-- `all_right`: after a turns the rows before a are right if the joints are small.
+use Prim.Native.Nat.{◌-◌, ◌≤◌}
+use mathlib.Core.Path.{◌≡◌, sym}
+use Rattle.numbers.specs.Limit.{most_name}
+use Rattle.table.specs.Words.{attribute_at, word_at}
+use Rattle.table.specs.Valid.{attribute_row}
+use Rattle.table.proofs.Lines.{attributes-lined}
+use Rattle.table.proofs.Judging.{attribute-turn, no-tells-nothing}
+use Rattle.table.proofs.Turns.{Left, turns-start, turns-done}
+use borrow.Author.Rules.{rules}
+use Rattle.table.proofs.attribute_rows.all_right.Goals as goal
+
+pub loop-a-init : goal.loop-a-init
+loop-a-init c = λ n m z. turns-start (attribute_at _) _ (attributes-lined _ _) _
+
+pub returns-then-types-t : goal.returns-then-types-t
+returns-then-types-t c = no-tells-nothing
+
+pub returns-then-table-simple-ne-SIMPLE : goal.returns-then-table-simple-ne-SIMPLE
+returns-then-table-simple-ne-SIMPLE c = no-tells-nothing
+
+pub loop-a-preserved : goal.loop-a-preserved
+loop-a-preserved c = search attribute-turn
+
+pub returns-then-names-gt-MOST_NAME : goal.returns-then-names-gt-MOST_NAME
+returns-then-names-gt-MOST_NAME c = no-tells-nothing
+
+pub returns-then-musts-gt1 : goal.returns-then-musts-gt1
+returns-then-musts-gt1 c = no-tells-nothing
+
+pub returns-then-counts-ne0 : goal.returns-then-counts-ne0
+returns-then-counts-ne0 c = no-tells-nothing
+
+pub returns : goal.returns
+returns c = λ e.
+    let inv = c.loop-a.invariant c.if-names-gt-MOST_NAME.false c.if-musts-gt1.false c.if-counts-ne0.false in
+    sym (turns-done (attribute_at _) _ (attributes-lined _ _) _ _ inv c.loop-a-test.false)

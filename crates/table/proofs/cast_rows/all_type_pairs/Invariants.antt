@@ -1,0 +1,17 @@
+-- `all_type_pairs`: after t turns the pairs from t on are left, and no stamp is over t.
+use Prim.Native.Nat.{◌-◌}
+use native.Mathlib.Omega.{arith}
+use borrow.Author.Rules.{rules}
+use Rattle.table.specs.Stamps.{Under}
+use Rattle.table.specs.Words.{type_pair_at, word_at}
+use Rattle.table.specs.Valid.{type_pair_row}
+use Rattle.table.proofs.CastRows.{under-clear}
+use Rattle.table.proofs.Lines.{type-pairs-lined}
+use Rattle.table.proofs.Turns.{Left, turns-start, turns-done, turn-wrong, turn-right}
+use Rattle.table.proofs.cast_rows.all_type_pairs.Given as goal
+
+abbrev pub invariant-loop-t : goal.invariant-loop-t
+invariant-loop-t l = Left (type_pair_at l.end l.entries l.swaps) (type_pair_row (word_at l.table) l.end l.entries l.swaps) l.types l.t × Under l.t l.stamps
+
+abbrev pub decreases-loop-t : goal.decreases-loop-t
+decreases-loop-t l = l.types - l.t

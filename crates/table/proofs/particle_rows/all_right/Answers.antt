@@ -1,0 +1,33 @@
+-- `all_right`: after p turns the rows before p are right if the joints are.
+use Prim.Native.Nat.{◌-◌, ◌≤◌}
+use mathlib.Core.Path.{◌≡◌, sym}
+use borrow.Author.Tests.{not-false}
+use Rattle.numbers.specs.Limit.{most_name}
+use Rattle.table.specs.Words.{particle_at, word_at}
+use Rattle.table.specs.Valid.{particle_row}
+use Rattle.table.proofs.Lines.{particles-lined}
+use Rattle.table.proofs.Judging.{judged-turn, no-tells-nothing}
+use Rattle.table.proofs.Turns.{Left, turns-start, turns-done}
+use borrow.Author.Rules.{rules}
+use Rattle.table.proofs.particle_rows.all_right.Goals as goal
+
+pub loop-p-init : goal.loop-p-init
+loop-p-init c = λ s z. turns-start (particle_at _ _) _ (particles-lined _ _ _ _) _
+
+pub returns-then-not-row_right : goal.returns-then-not-row_right
+returns-then-not-row_right c = no-tells-nothing
+
+pub loop-p-preserved : goal.loop-p-preserved
+loop-p-preserved c = λ s z.
+    judged-turn (particle_at _ _) _ (particles-lined _ _ _ _) _ _ _ _ _ _ c.loop-p.invariant c.loop-p-test.true
+    (c.row_right.ensures (not-false _ c.if-not-row_right.false-raw)) s z
+
+pub returns-then-small-gt-MOST_NAME : goal.returns-then-small-gt-MOST_NAME
+returns-then-small-gt-MOST_NAME c = no-tells-nothing
+
+pub returns-then-zeros-ne0 : goal.returns-then-zeros-ne0
+returns-then-zeros-ne0 c = no-tells-nothing
+
+pub returns : goal.returns
+returns c = λ e.
+    sym (turns-done (particle_at _ _) _ (particles-lined _ _ _ _) _ _ (c.loop-p.invariant c.if-small-gt-MOST_NAME.false c.if-zeros-ne0.false) c.loop-p-test.false)

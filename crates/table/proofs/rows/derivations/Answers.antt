@@ -1,0 +1,7 @@
+use borrow.Author.Rules.{rules}
+use Rattle.table.specs.Rows.{table_of}
+use Rattle.table.proofs.rows.derivations.Goals as goal
+
+pub returns : goal.returns
+unfolding table_of
+returns c = cc

@@ -1,0 +1,5 @@
+use borrow.Author.Rules.{rules}
+use Rattle.table.proofs.rows.swaps.Goals as goal
+
+pub returns : goal.returns
+returns c = cc

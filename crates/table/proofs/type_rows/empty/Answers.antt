@@ -1,0 +1,15 @@
+-- `empty`: one test, then those of `unused`.
+use Rattle.table.proofs.Tests.{test-ways}
+use Rattle.table.specs.Valid.{empty_words}
+use Rattle.table.proofs.type_rows.empty.Goals as goal
+
+pub returns-then-a-ne0 : goal.returns-then-a-ne0
+unfolding empty_words
+returns-then-a-ne0 c = search test-ways depth 12
+
+pub unused-requires : goal.unused-requires
+unused-requires c = tt
+
+pub returns : goal.returns
+unfolding empty_words
+returns c = search test-ways depth 12

@@ -1,0 +1,13 @@
+-- The octets passed are printable: the 16 from `at` on are, and those before `at` were passed.
+use Prim.Native.Nat.{◌-◌, ◌≤◌}
+use mathlib.Core.Path.{◌≡◌}
+use Rattle.utf8.specs.Slanted.{Passed}
+use Rattle.utf8.proofs.SlantedLaws.{passed_none, passed-sixteen}
+use borrow.Author.Rules.{rules}
+use Rattle.utf8.proofs.ascii.by_sixteens.Given as goal
+
+abbrev pub invariant-loop-i : goal.invariant-loop-i
+invariant-loop-i l = Passed l.s l.k l.from l.to l.i × (16 ≤ l.to - l.from) × (l.last ≡ l.to - 16)
+
+abbrev pub decreases-loop-i : goal.decreases-loop-i
+decreases-loop-i l = l.to - l.i

@@ -1,0 +1,28 @@
+-- The day number, and then the milliseconds.
+use borrow.Author.Rules.{rules}
+use Rattle.value.proofs.DateWays.{stamp-ways}
+use Rattle.value.proofs.dates.stamp_of.Goals as goal
+
+pub day_of-requires : goal.day_of-requires
+day_of-requires c = search (rules, stamp-ways)
+
+pub enum_told-1 : goal.enum_told-1
+enum_told-1 c = search (rules, stamp-ways)
+
+pub enum_known-days : goal.enum_known-days
+enum_known-days c = search (rules, stamp-ways)
+
+pub returns-then-ms-ge-DAY_MILLISECONDS : goal.returns-then-ms-ge-DAY_MILLISECONDS
+returns-then-ms-ge-DAY_MILLISECONDS c = search (rules, stamp-ways)
+
+pub returns-then-clocked : goal.returns-then-clocked
+returns-then-clocked c = search (rules, stamp-ways)
+
+pub returns-then-ms-gt0 : goal.returns-then-ms-gt0
+returns-then-ms-gt0 c = search (rules, stamp-ways)
+
+pub returns-in-Nothing : goal.returns-in-Nothing
+returns-in-Nothing c = search (rules, stamp-ways)
+
+pub returns-else-ms-gt0 : goal.returns-else-ms-gt0
+returns-else-ms-gt0 c = search (rules, stamp-ways)

@@ -1,0 +1,37 @@
+-- Kind by kind.
+use borrow.Author.Rules.{rules}
+use Rattle.value.proofs.FormWays.{simple-ways}
+use Rattle.value.proofs.forms.simple.Goals as goal
+
+pub range-requires : goal.range-requires
+range-requires c = search (rules, simple-ways)
+
+pub returns-in-0 : goal.returns-in-0
+returns-in-0 c = search (rules, simple-ways)
+
+pub returns-in-1 : goal.returns-in-1
+returns-in-1 c = search (rules, simple-ways)
+
+pub returns-in-2 : goal.returns-in-2
+returns-in-2 c = search (rules, simple-ways)
+
+pub returns-in-3 : goal.returns-in-3
+returns-in-3 c = search (rules, simple-ways)
+
+pub returns-in-4 : goal.returns-in-4
+returns-in-4 c = search (rules, simple-ways)
+
+pub returns-in-5 : goal.returns-in-5
+returns-in-5 c = search (rules, simple-ways)
+
+pub returns-in-6 : goal.returns-in-6
+returns-in-6 c = search (rules, simple-ways)
+
+pub returns-in-7 : goal.returns-in-7
+returns-in-7 c = search (rules, simple-ways)
+
+pub returns-in-8 : goal.returns-in-8
+returns-in-8 c = search (rules, simple-ways)
+
+pub returns-in_default : goal.returns-in_default
+returns-in_default c = search (rules, simple-ways)

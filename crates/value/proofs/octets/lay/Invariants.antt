@@ -1,0 +1,16 @@
+-- The first i bytes stand.
+use Prim.Native.Nat.{◌+◌, ◌-◌, ◌*◌, ◌≤◌}
+use mathlib.Core.Path.{◌≡◌, refl}
+use native.Mathlib.Omega.{arith}
+use lib.ListN.{length, take, length-set}
+use Rattle.wire.specs.Put.{Wrote}
+use Rattle.value.specs.Simple.{bytes}
+use Rattle.value.proofs.LayWays.{lay-start, lay-turn, lay-end}
+use borrow.Author.Rules.{rules}
+use Rattle.value.proofs.octets.lay.Given as goal
+
+abbrev pub invariant-loop-i : goal.invariant-loop-i
+invariant-loop-i l = (length l.buf ≡ length l.initial.buf) × (l.i ≤ length l.text) × Wrote l.initial.buf l.buf (8 * l.q) (bytes (take l.i l.text)) (8 * l.q + 8 * l.i)
+
+abbrev pub decreases-loop-i : goal.decreases-loop-i
+decreases-loop-i l = length l.text - l.i

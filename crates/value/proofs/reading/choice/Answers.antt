@@ -1,0 +1,25 @@
+-- A fixed width, and then the limit.
+use Rattle.value.proofs.ReadWays.{choice-ways}
+use borrow.Author.Rules.{rules}
+use Rattle.value.proofs.reading.choice.Goals as goal
+
+pub width-requires : goal.width-requires
+width-requires c = search (rules, choice-ways)
+
+pub fixed-requires : goal.fixed-requires
+fixed-requires c = search (rules, choice-ways)
+
+pub enum_known-e : goal.enum_known-e
+enum_known-e c = search (rules, choice-ways)
+
+pub enum_known-v : goal.enum_known-v
+enum_known-v c = search (rules, choice-ways)
+
+pub returns-then-v-n : goal.returns-then-v-n
+returns-then-v-n c = search (rules, choice-ways)
+
+pub returns-in-Refuse : goal.returns-in-Refuse
+returns-in-Refuse c = search (rules, choice-ways)
+
+pub returns-else-v-n : goal.returns-else-v-n
+returns-else-v-n c = search (rules, choice-ways)

@@ -1,0 +1,7 @@
+-- The text at its byte and bit.
+use Rattle.value.proofs.OctetsLaws.{text-found}
+use borrow.Author.Rules.{rules}
+use Rattle.value.proofs.reading.text_fault.Goals as goal
+
+pub returns : goal.returns
+returns c = search (rules, text-found c.args.s.now c.shared_slice_known-1.given)
