@@ -1,0 +1,19 @@
+-- Item by item: the state leads to the answer, and each item brings it nearer to the end.
+use Prim.Native.Nat.{◌+◌, ◌-◌, ◌≤◌}
+use mathlib.Core.Path.{◌≡◌, refl}
+use native.Mathlib.Omega.{arith}
+use lib.ListN.{length}
+use Rattle.numbers.specs.Limit.{init_words}
+use Rattle.init.specs.Phases.{reach, rank, ends}
+use Rattle.init.proofs.ReadWays.{start-reads, reads-done, turn-stops, turn-goes}
+use borrow.Author.Rules.{rules}
+use Rattle.init.proofs.reading.read_items.Given as goal
+
+abbrev pub invariant-loop-st : goal.invariant-loop-st
+invariant-loop-st l = (reach l.st.phase ≤ init_words)
+    × (length l.init ≡ length l.initial.init)
+    × (length l.codecs ≡ length l.initial.codecs)
+    × Reads l.message l.initial.codecs l.wall (whole l.message l.initial.codecs l.wall l.initial.init) l.st l.init l.codecs
+
+abbrev pub decreases-loop-st : goal.decreases-loop-st
+decreases-loop-st l = l.wall - l.st.at + rank l.st.phase

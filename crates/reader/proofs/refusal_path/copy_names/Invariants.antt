@@ -1,0 +1,14 @@
+-- `copied` leaves the other names. The invariant: the length is kept, and what was passed is over.
+use Prim.Native.Nat.{◌-◌, ◌≤◌}
+use mathlib.Core.Path.{◌≡◌, sym, ◌∙◌}
+use native.Mathlib.Omega.{arith}
+use borrow.Author.Rules.{rules}
+use lib.ListN.{length, length-set}
+use Rattle.reader.proofs.RefusalPathLaws.{Over, over-more, over-all}
+use Rattle.reader.proofs.refusal_path.copy_names.Given as goal
+
+abbrev pub invariant-loop-i : goal.invariant-loop-i
+invariant-loop-i l = (length l.to ≡ length l.initial.to) × (l.i ≤ length l.to) × Over l.to l.from l.i
+
+abbrev pub decreases-loop-i : goal.decreases-loop-i
+decreases-loop-i l = length l.initial.to - l.i

@@ -1,0 +1,12 @@
+use Rattle.std.proofs.Common.{◌≡◌, ◌+◌, ◌-◌, ◌≤◌, ◌++◌, length, take, drop, refl, arith, length-set, rules}
+use Rattle.shelf.specs.Stream.{byte_at}
+use Rattle.shelf.specs.Block.{bytes_from}
+use Rattle.shelf.proofs.Loops.{copied_none, copied_more}
+use Rattle.shelf.proofs.block.copy_bytes.Lts as lts
+use Rattle.shelf.proofs.block.copy_bytes.Given as goal
+
+abbrev pub invariant-loop-i : goal.invariant-loop-i
+invariant-loop-i l = (l.i ≤ l.k) × (length l.d ≡ length l.initial.d) × (l.d ≡ take l.to l.initial.d ++ bytes_from (byte_at l.s) l.from l.i ++ drop (l.to + l.i) l.initial.d)
+
+abbrev pub decreases-loop-i : goal.decreases-loop-i
+decreases-loop-i l = l.k - l.i

@@ -1,0 +1,16 @@
+use Rattle.shelf.proofs.Ways.{judge-ways}
+use Rattle.std.proofs.Common.{rules}
+use Rattle.shelf.proofs.judge.some_used.Lts as lts
+use Rattle.shelf.proofs.judge.some_used.Goals as goal
+
+pub returns-then-used-eq0 : goal.returns-then-used-eq0
+returns-then-used-eq0 c = search (rules, judge-ways)
+
+pub returns-then-used-gt-BLOCK_DATA : goal.returns-then-used-gt-BLOCK_DATA
+returns-then-used-gt-BLOCK_DATA c = search (rules, judge-ways)
+
+pub returns-then-used-eq-BLOCK_DATA : goal.returns-then-used-eq-BLOCK_DATA
+returns-then-used-eq-BLOCK_DATA c = search (rules, judge-ways)
+
+pub returns : goal.returns
+returns c = search (rules, judge-ways)

@@ -1,0 +1,14 @@
+use Rattle.std.proofs.Common.{◌≡◌, ◌-◌, ◌≤◌, length, rules}
+use Rattle.shelf.specs.Rescue.{told, listing, good_in, Few}
+use Rattle.shelf.proofs.Lists.{goods-at, good-again, good-done, few-end}
+use Rattle.shelf.proofs.rescue.list_stretch.Lts as lts
+use Rattle.shelf.proofs.rescue.list_stretch.Goals as goal
+
+pub list_good-now-requires : goal.list_good-now-requires
+list_good-now-requires c = search (rules, goods-at)
+
+pub loop-i-preserved : goal.loop-i-preserved
+loop-i-preserved c = search (rules, good-again)
+
+pub returns : goal.returns
+returns c = search (rules, good-done, few-end)

@@ -1,0 +1,15 @@
+use Rattle.std.proofs.Common.{◌≡◌, ◌+◌, ◌-◌, ◌*◌, ◌≤◌, min, ◌++◌, length, drop, refl, arith, rules}
+use Rattle.shelf.specs.Stream.{walk}
+use Rattle.shelf.specs.Block.{cut}
+use Rattle.shelf.specs.Judge.{byte_of}
+use Rattle.shelf.proofs.Resealing.{sealed-more, followed-next}
+use Rattle.shelf.proofs.Cutting.{cut-none, cut-end}
+use Rattle.shelf.proofs.Following.{walk_none, followed-at}
+use Rattle.shelf.proofs.reseal.seal_blocks.Lts as lts
+use Rattle.shelf.proofs.reseal.seal_blocks.Given as goal
+
+abbrev pub invariant-loop-i : goal.invariant-loop-i
+invariant-loop-i l = (l.i ≤ l.m) × (length l.file ≡ length l.initial.file) × (l.file ≡ cut (byte_of l.initial.file) l.n l.i ++ drop (512 * l.i) l.initial.file) × (l.w ≡ walk (byte_of l.initial.file) (min (498 * l.i) l.n) 0 0)
+
+abbrev pub decreases-loop-i : goal.decreases-loop-i
+decreases-loop-i l = l.m - l.i

@@ -1,0 +1,14 @@
+use Rattle.std.proofs.Common.{◌≡◌, ◌-◌, ◌≤◌, rules}
+use Rattle.shelf.specs.Stream.{byte_at, walk}
+use Rattle.shelf.proofs.Loops.{follow-stop, follow-over, follow-on}
+use Rattle.shelf.proofs.stream.walk_stream.Lts as lts
+use Rattle.shelf.proofs.stream.walk_stream.Goals as goal
+
+pub returns-then-n-gt-MOST_PAYLOAD : goal.returns-then-n-gt-MOST_PAYLOAD
+returns-then-n-gt-MOST_PAYLOAD c = search (rules, follow-over)
+
+pub loop-next-preserved : goal.loop-next-preserved
+loop-next-preserved c = search (rules, follow-on)
+
+pub returns : goal.returns
+returns c = search (rules, follow-stop)

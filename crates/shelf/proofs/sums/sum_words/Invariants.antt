@@ -1,0 +1,18 @@
+use Rattle.std.proofs.Common.{◌≡◌, ◌-◌, ◌≤◌, arith, rules}
+use Rattle.shelf.specs.Block.{sum_to}
+use Rattle.shelf.proofs.Loops.{summed-more}
+use Rattle.shelf.proofs.Lanes.{Lanes, lanes-none, lanes-more, lanes-sum}
+use Rattle.shelf.proofs.sums.sum_words.Lts as lts
+use Rattle.shelf.proofs.sums.sum_words.Given as goal
+
+abbrev pub invariant-loop-i : goal.invariant-loop-i
+invariant-loop-i l = (l.i ≤ 120) × Lanes l.s l.from l.i l.even l.odd
+
+abbrev pub decreases-loop-i : goal.decreases-loop-i
+decreases-loop-i l = 120 - l.i
+
+abbrev pub invariant-loop-i-2 : goal.invariant-loop-i-2
+invariant-loop-i-2 l = (l.i ≤ 127) × (l.sum ≡ sum_to l.s l.from l.i)
+
+abbrev pub decreases-loop-i-2 : goal.decreases-loop-i-2
+decreases-loop-i-2 l = 127 - l.i

@@ -1,0 +1,17 @@
+-- The loop: the first i types of the list are passed, and p is none of them.
+use Prim.Native.Nat.{◌≤◌, ◌-◌}
+use Rattle.writer_parts.proofs.CodeWays.{Passed, place-ways}
+use borrow.Author.Rules.{rules}
+use Rattle.writer_parts.proofs.codes.place_in.Goals as goal
+
+pub loop-i-init : goal.loop-i-init
+loop-i-init c = search (rules, place-ways)
+
+pub returns-then-p-one : goal.returns-then-p-one
+returns-then-p-one c = search (rules, place-ways)
+
+pub loop-i-preserved : goal.loop-i-preserved
+loop-i-preserved c = search (rules, place-ways)
+
+pub returns : goal.returns
+returns c = search (rules, place-ways)

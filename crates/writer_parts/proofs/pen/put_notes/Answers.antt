@@ -1,0 +1,49 @@
+-- The loop: the first i notes are drawn.
+use Prim.Native.Nat.{◌-◌, ◌≤◌}
+use mathlib.Core.Path.{◌≡◌, refl, ap, ◌∙◌}
+use mathlib.Core.Logic.{⊎_elim}
+use native.Mathlib.Omega.{arith}
+use lib.ListN.{length}
+use Rattle.writer_parts.specs.Notes.{spells}
+use Rattle.writer_parts.specs.Pen.{Drawn}
+use Rattle.writer_parts.proofs.PenWays.{put-notes-ways, notes-turn, notes-pass}
+use borrow.Author.Rules.{rules}
+use Rattle.writer_parts.proofs.pen.put_notes.Goals as goal
+
+pub begin-p-requires : goal.begin-p-requires
+begin-p-requires c = search (rules, put-notes-ways)
+
+pub loop-i-init : goal.loop-i-init
+loop-i-init c = search (rules, put-notes-ways)
+
+pub offset_bounds-notes-i : goal.offset_bounds-notes-i
+offset_bounds-notes-i c = search (rules, put-notes-ways)
+
+pub bounds-notes-i : goal.bounds-notes-i
+bounds-notes-i c = search (rules, put-notes-ways)
+
+pub put_note-p-requires : goal.put_note-p-requires
+put_note-p-requires c = search (rules, put-notes-ways)
+
+pub overflow_add-i : goal.overflow_add-i
+overflow_add-i c = search (rules, put-notes-ways)
+
+pub loop-i-smaller : goal.loop-i-smaller
+loop-i-smaller c = search (rules, put-notes-ways)
+
+pub loop-i-preserved : goal.loop-i-preserved
+loop-i-preserved c =     let l = c.loop-i in
+    let b = c.begin-p in
+    ⊎_elim
+    (λ w. (ap length w.5 ∙ w.2.kept.0 ∙ l.invariant.0, omega arith, rw (w.5, w.6) (notes-turn _ _ _ _ _ b.ensures _ c.requires.0 _ _ _ l.invariant.0 l.invariant.2 _ refl _ _ w.2.ensures)))
+    (λ w. (ap length w.1 ∙ l.invariant.0, omega arith, rw (w.1, w.2) (notes-pass _ _ _ _ _ b.ensures _ c.requires.0 _ _ _ l.invariant.0 l.invariant.2 _ refl w.0.left)))
+    c.if-x-gt0.branch
+
+pub end-requires : goal.end-requires
+end-requires c = search (rules, put-notes-ways)
+
+pub shape_of-payload : goal.shape_of-payload
+shape_of-payload c = search (rules, put-notes-ways)
+
+pub returns : goal.returns
+returns c = search (rules, put-notes-ways)

@@ -1,0 +1,15 @@
+-- The loop: the first i bytes are drawn.
+use Prim.Native.Nat.{◌-◌, ◌≤◌}
+use mathlib.Core.Path.{◌≡◌}
+use lib.ListN.{length, take, drop}
+use Rattle.value.specs.Simple.{bytes}
+use Rattle.writer_parts.specs.Pen.{Drawn}
+use Rattle.writer_parts.proofs.PenWays.{rest-ways}
+use borrow.Author.Rules.{rules}
+use Rattle.writer_parts.proofs.pen.put_rest.Given as goal
+
+abbrev pub invariant-loop-i : goal.invariant-loop-i
+invariant-loop-i l = (length l.payload ≡ length l.initial.payload) × (l.i ≤ l.n) × Drawn l.initial.payload l.payload l.initial.q l.q (bytes (take l.i (drop l.from l.texts)))
+
+abbrev pub decreases-loop-i : goal.decreases-loop-i
+decreases-loop-i l = l.n - l.i

@@ -1,0 +1,9 @@
+-- `tell_written`: no names.
+use mathlib.Core.Path.{refl}
+use Rattle.call_parts.specs.Area.{area_of}
+use borrow.Author.Rules.{rules}
+use Rattle.writes.proofs.tell_written.Goals as goal
+
+pub returns : goal.returns
+unfolding area_of
+returns c = (refl, c.tell.ensures)
