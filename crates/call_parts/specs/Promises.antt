@@ -1,6 +1,6 @@
 -- What the functions under the calls for C promise of the slices that they are given and lent.
 use Rattle.std.specs.Prelude.{ℕ, ◌+◌, ◌*◌, ◌/◌, ◌%◌, ◌≤◌, ◌<◌, ◌≡◌, List, length, set}
-use Rattle.std.specs.Borrow.{Bor}
+use Rattle.std.specs.Borrow.{Bor, MutBor}
 use denote.Triple.Both.{Both}
 use Rattle.numbers.specs.Limit as limit
 use Rattle.model.specs.Whole.{Outcome}
@@ -9,12 +9,21 @@ use Rattle.table.specs.declared.answers.Setting as setting
 use Rattle.call_parts.specs.Area.{area_of}
 use Rattle.call_parts.specs.Calls.{set_outcome, table_left}
 
--- a slice at a moment; and a slice as a promise has it, when the function was called and when it returned
+-- a slice that is given, and one that is lent, at a moment; and as a promise has them, when the function was called and when it returned
 abbrev pub Slice : Type 0
 Slice = Bor (List ℕ)
 
+abbrev pub LentSlice : Type 0
+LentSlice = MutBor (List ℕ)
+
+abbrev pub Given : Type 0
+Given = Both Slice Slice
+
 abbrev pub Lent : Type 0
-Lent = Both Slice Slice
+Lent = Both LentSlice LentSlice
+
+abbrev pub given : Given → List ℕ
+given s = s.entry.now
 
 abbrev pub before : Lent → List ℕ
 before s = s.entry.now
@@ -27,7 +36,7 @@ abbrev pub Told : Lent → Outcome → ℕ → Type 0
 Told area o r = (r ≡ o.number) × (after area ≡ area_of o)
 
 -- what is asked of a table's bytes or of a list's, and of the area: whole units, and no more words than there is room for
-pub record Fits (unit : ℕ) (bytes area : Slice) (room : ℕ) : Type 0 where
+pub record Fits (unit : ℕ) (bytes : Slice) (area : LentSlice) (room : ℕ) : Type 0 where
   pub whole : length bytes.now % unit ≡ 0
   pub few : length bytes.now / 4 ≤ room
   pub told : length area.now ≡ limit.area

@@ -10,7 +10,7 @@ use Rattle.report.specs.Places.{report_bytes}
 use Rattle.report.specs.Report.{added}
 use Rattle.report.specs.Sums.{numbers_in}
 use Rattle.call_parts.specs.Calls.{zeros, read_bytes}
-use Rattle.call_parts.specs.Promises.{Lent, before, after}
+use Rattle.call_parts.specs.Promises.{Given, Lent, given, before, after}
 use Rattle.call_parts.specs.declared.asked.Asked.{Asked}
 
 pub record Reported : Type 0 where
@@ -35,14 +35,14 @@ pub record AddedBy (R : Reply) (n : ℕ) (B : List ℕ) (r : ℕ) (B' : List ℕ
   pub number : r ≡ (outcome R).number
   pub report : B' ≡ bytes_of (added n R (numbers_in B))
 
-abbrev pub AddedBytes : (table : Lent) → Asked → (payload report : Lent) → ℕ → Type 0
+abbrev pub AddedBytes : (table : Given) → Asked → (payload : Given) → (report : Lent) → ℕ → Type 0
 AddedBytes table by payload report r =
-    AddedBy (read_for_report (before table) by.party by.name by.ty (before payload)) (length (before payload)) (before report) r (after report)
+    AddedBy (read_for_report (given table) by.party by.name by.ty (given payload)) (length (given payload)) (before report) r (after report)
 
 -- a payload read into W words and X bytes by the first n words of a table's bytes: the answer, the words and bytes after
 abbrev pub ReadLent : (t : List ℕ) (n party name type : ℕ) (s : List ℕ) (W X : ℕ) → Answer → List ℕ → List ℕ → Type 0
 ReadLent t n party name type s W X r E T = Replies (reading (take n (words_of t)) party name type s W X) W X r E T
 
-abbrev pub ReadInWords : (table : Lent) → ℕ → Asked → (payload list texts : Lent) → Answer → Type 0
+abbrev pub ReadInWords : (table : Given) → ℕ → Asked → (payload : Given) → (list texts : Lent) → Answer → Type 0
 ReadInWords table n by payload list texts r =
-    ReadLent (before table) n by.party by.name by.ty (before payload) (length (before list)) (length (before texts)) r (after list) (after texts)
+    ReadLent (given table) n by.party by.name by.ty (given payload) (length (before list)) (length (before texts)) r (after list) (after texts)

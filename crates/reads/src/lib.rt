@@ -75,9 +75,9 @@ fn read_into(
     texts: Out,
     area: Out,
 ) -> u32
-    requires fits { 4 * length list.now ≤ length events.now }
-    requires told { length area.now ≡ limit.area }
-    ensures { ReadInto words by payload (length list.entry.now) events texts area result }
+    requires fits { 4 * length list.old ≤ length events.old }
+    requires told { length area.old ≡ limit.area }
+    ensures { ReadInto words by payload (length list.old) events texts area result }
 {
     let a = read(words, by.party, by.name, by.ty, payload, list, texts);
     let k = 4 * (a.events as usize);
@@ -96,7 +96,7 @@ fn try_room(
     texts: Out,
     area: Out,
 ) -> u32
-    requires { length area.now ≡ limit.area }
+    requires { length area.old ≡ limit.area }
     ensures { ReadIfRoom words by payload room events texts area result }
 {
     let m = smaller(slot_words(events.len()), room.len());
@@ -113,7 +113,7 @@ fn read_in_room(
     texts: Out,
     area: Out,
 ) -> u32
-    requires { Slots events area (length room.now) }
+    requires { Slots events area (length room.old) }
     ensures { ReadByWords words by payload events texts area result }
 {
     try_room(words, by, payload, room, events, texts, area)
@@ -178,7 +178,7 @@ fn read_events_by_rungs(
 
 // Reads with room for few events; and again, with room for all, where it does not suffice.
 fn read_few_first(words: Words, by: Asked, payload: In, events: Out, texts: Out, area: Out) -> u32
-    requires { length area.now ≡ limit.area }
+    requires { length area.old ≡ limit.area }
     ensures { ReadByWords words by payload events texts area result }
 {
     let mut room = [0u32; FEW_EVENT_WORDS];
@@ -191,7 +191,7 @@ fn read_few_first(words: Words, by: Asked, payload: In, events: Out, texts: Out,
 
 // Reads with the least room, and again where it does not suffice.
 fn read_least_first(words: Words, by: Asked, payload: In, events: Out, texts: Out, area: Out) -> u32
-    requires { length area.now ≡ limit.area }
+    requires { length area.old ≡ limit.area }
     ensures { ReadByWords words by payload events texts area result }
 {
     let mut room = [0u32; LEAST_EVENT_WORDS];
@@ -211,7 +211,7 @@ fn read_with_event_room(
     texts: Out,
     area: Out,
 ) -> u32
-    requires { length area.now ≡ limit.area }
+    requires { length area.old ≡ limit.area }
     ensures { ReadByWords words by payload events texts area result }
 {
     if payload.len() <= LEAST_PAYLOAD {
@@ -237,7 +237,7 @@ fn read_with_table_room(
     texts: Out,
     area: Out,
 ) -> u32
-    requires { Fits 4 table area (length room.now) }
+    requires { Fits 4 table area (length room.old) }
     ensures { ReadByBytes table by payload events texts area result }
 {
     let n = table.len() / 4;
@@ -321,7 +321,7 @@ fn read_whole(table: In, by: Asked, payload: In, events: Out, texts: Out, area: 
 
 // Reads by a table's bytes, and refuses those of which there are too many, or no whole words.
 pub fn read_bytes(table: In, by: Asked, payload: In, events: Out, texts: Out, area: Out) -> u32
-    requires { length area.now ≡ limit.area }
+    requires { length area.old ≡ limit.area }
     ensures { ReadByBytes table by payload events texts area result }
 {
     if is_whole(table.len()) {

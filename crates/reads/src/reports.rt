@@ -29,7 +29,7 @@ fn read_in_room(
     list: Room,
     texts: Out,
 ) -> Answer
-    requires { Lends n (length table.now) (length room.now) }
+    requires { Lends n (length table.now) (length room.old) }
     ensures { ReadInWords table n by payload list texts result }
 {
     load(table, room, n);
@@ -56,7 +56,7 @@ fn read_words(table: In, n: usize, by: Asked, payload: In, list: Room, texts: Ou
 // Reads by a table's bytes, with room for every event that has a place, and adds what was read. The table's words and the reader's frames have
 // ended where the report's begin, so that the stack holds the one or the other.
 pub fn add_bytes(table: In, by: Asked, payload: In, report: Out) -> u32
-    requires { length report.now ≡ report_bytes }
+    requires { length report.old ≡ report_bytes }
     ensures { AddedBytes table by payload report result }
 {
     let mut list = [0u32; limit::MOST_EVENT_WORDS];

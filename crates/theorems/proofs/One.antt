@@ -51,6 +51,7 @@ is-under at_done nothing = nothing
 is-under (at_item u) (an_item {v} h j) = an_item h (is-under (u v) j)
 is-under (at_element u s) (an_element {t} h d z g m j) = an_element h d z (is-under (u t) g) m (is-under s j)
 is-under (at_element u s) (a_blank w h d z b j) = a_blank w h d z b (is-under s j)
+is-under (at_deep {Q = Q}) i = elim i [ ]
 
 abbrev Over : (Row → Plan → Plan) → (Row → Plan → Plan) → Type 0
 Over f g = (row : Row) (P Q : Plan) → Under P Q → Under (f row P) (g row Q)

@@ -1,8 +1,8 @@
 -- Each event's words are a function of its own bits and its row; an absent attribute has no Value.
 use Prim.Native.Nat.{ℕ}
-use mathlib.Core.Path.{◌≡◌, ap}
+use mathlib.Core.Path.{◌≡◌, refl, ap, subst}
 use mathlib.Core.Bool.{Bool}
-use mathlib.Core.List.{List, ◌∷◌}
+use mathlib.Core.List.{List, [], ◌∷◌}
 use native.Mathlib.Omega.{arith}
 use lib.ListN.{length}
 use Rattle.numbers.specs.Kind as kinds
@@ -28,7 +28,24 @@ item-own i w {v} {v'} {ts} {ts'} h k =
     let e : v ≡ v' = ap (λ (r : ℕ × List ℕ × ℕ). r.0) z in
     record { values = e; texts = ap (λ (r : ℕ × List ℕ × ℕ). r.1) z; events = ap (λ (x : ℕ). event_of i x (length w)) e }
 
+abbrev rest_of : List Bare → List Bare
+rest_of [] = []
+rest_of (e ∷ es) = es
+
+abbrev head_q : List Bare → ℕ
+head_q [] = 0
+head_q (e ∷ es) = e.q
+
+one≢zero : ◌≡◌ {A = ℕ} 1 0 → ⊥
+one≢zero e = omega arith
+
+no-value : {T : Table} {mode : Lengths} {held : ℕ → Bool} {d : ℕ} {a : Attribute} {l : List Attribute} {K : List Bare} {X : List ℕ} (L : List Bare)
+    → Model T mode held d (attributes (a ∷ l)) K X → K ≡ word kinds.attribute a.name 0 ∷ L → Model T mode held d (attributes l) L X
+no-value {T} {mode} {held} {d} {a} {l} {K} {X} L (Model.absent e m) p =
+    subst (λ (y : List Bare). Model T mode held d (attributes l) y X) (ap rest_of p) m
+no-value L (Model.present v m) p = absurd (one≢zero (ap head_q p))
+
 -- an absent attribute has no Value: after its event come the events of the attributes after it, with all the texts
 pub absent-no-value : {T : Table} {mode : Lengths} {held : ℕ → Bool} {d : ℕ} {a : Attribute} {l : List Attribute} {L : List Bare} {X : List ℕ}
     → Model T mode held d (attributes (a ∷ l)) (word kinds.attribute a.name 0 ∷ L) X → Model T mode held d (attributes l) L X
-absent-no-value (Model.absent e m) = m
+absent-no-value {L = L} m = no-value L m refl

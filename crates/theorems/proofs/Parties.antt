@@ -160,7 +160,7 @@ by-others : (party : ℕ) (l : List ℕ) (S : List Change) → ByOthers party S 
 unfolding settings
 by-others party l [] h = stays party l
 by-others party l (c ∷ S) h =
-    both party l _ _ (by-other party l c.party c.type c.mark h.0 _ (went l c.party c.type c.mark)) (by-others party _ S h.1)
+    both party l _ _ (by-other party l c.party c.type c.mark h.0 _ (went l c.party c.type c.mark)) (by-others party (setting l c.party c.type c.mark).words S h.1)
 
 -- own
 own : (l : List ℕ) (party type mark : ℕ) → (setting l party type mark).number ≡ 0 → Sets l party type mark (setting l party type mark).words

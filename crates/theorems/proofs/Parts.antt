@@ -80,6 +80,8 @@ module _ (mode : Lengths) (held : ℕ → Bool) where
       }
 
   -- nothing stands where nothing more may come; and nothing is a row too many
+  is-split deep i = elim i [ ]
+
   pub done_none : {at : ℕ} {ns : Nodes} {w : List ℕ} → Is mode held done at ns w → ns ≡ none
   done_none nothing = refl
 

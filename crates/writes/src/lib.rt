@@ -35,7 +35,7 @@ fn tell_written(area: &mut [u8], a: Answer) -> u32
 
 // Refuses bytes that are no list: one word is none either, and is refused where they are. The place of NO_READING is n.
 fn refuse_unlisted(n: usize, words: Words, by: Order, texts: In, payload: Out, area: Out) -> u32
-    requires { length area.now ≡ limit.area }
+    requires { length area.old ≡ limit.area }
     ensures { Unlisted n words by texts payload area result }
 {
     let none = [0u32; 1];
@@ -59,7 +59,7 @@ fn write_in_room(
     payload: Out,
     area: Out,
 ) -> u32
-    requires { Fits limit.event events area (length room.now) }
+    requires { Fits limit.event events area (length room.old) }
     ensures { WrittenByWords words by events texts payload area result }
 {
     let k = events.len() / 4;
@@ -143,7 +143,7 @@ fn write_with_event_room(
     payload: Out,
     area: Out,
 ) -> u32
-    requires { length area.now ≡ limit.area }
+    requires { length area.old ≡ limit.area }
     ensures { WrittenByWords words by events texts payload area result }
 {
     let size = events.len();
@@ -177,7 +177,7 @@ fn write_with_table_room(
     payload: Out,
     area: Out,
 ) -> u32
-    requires { Fits 4 table area (length room.now) }
+    requires { Fits 4 table area (length room.old) }
     ensures { WrittenByBytes table by events texts payload area result }
 {
     let n = table.len() / 4;
@@ -261,7 +261,7 @@ fn write_whole(table: In, by: Order, events: In, texts: In, payload: Out, area: 
 
 // Writes by a table's bytes, and refuses those of which there are too many, or no whole words.
 pub fn write_bytes(table: In, by: Order, events: In, texts: In, payload: Out, area: Out) -> u32
-    requires { length area.now ≡ limit.area }
+    requires { length area.old ≡ limit.area }
     ensures { WrittenByBytes table by events texts payload area result }
 {
     if is_whole(table.len()) {

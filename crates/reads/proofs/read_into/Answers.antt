@@ -34,5 +34,5 @@ tell_answer-requires c =     let r = c.read in
 
 pub returns : goal.returns
 returns c =     let r = c.read in
-    words-read _ _ _ _ _ _ c.args.events.now _ _ _ _ r.ensures.answer r.ensures.events_left_lem r.ensures.texts_left_lem r.auto.1.1.1.1.1.0 c.requires.0
+    words-read _ _ _ _ _ _ c.args.events.now _ _ _ _ r.ensures.answer r.ensures.events_left_lem r.ensures.texts_left_lem r.auto.1.1.1.1.1.0 c.requires.fits
     c.store.ensures c.clear.ensures c.tell_answer.ensures

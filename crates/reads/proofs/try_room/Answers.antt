@@ -9,7 +9,7 @@ pub slice_bounds-read_into-end-2 : goal.slice_bounds-read_into-end-2
 slice_bounds-read_into-end-2 c = simp length-take (omega arith)
 
 pub read_into-requires : goal.read_into-requires
-read_into-requires c = (simp length-take (omega arith), search rules)
+read_into-requires c = record { fits = simp length-take (omega arith); told = search rules }
 
 pub returns : goal.returns
 returns c = room-read _ _ _ _ _ _ _ _ (simp length-take (omega arith)) c.read_into.ensures

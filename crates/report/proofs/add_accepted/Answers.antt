@@ -6,9 +6,9 @@ use borrow.Author.Rules.{rules}
 use Rattle.report.proofs.add_accepted.Goals as goal
 
 pub returns-then-ok : goal.returns-then-ok
-returns-then-ok c =     accepted-goes _ c.requires.0 c.copy.ensures.1 c.requires.1.1.1.1.1 _ _ _ (names-fit _ (λ k. omega (arith, c.shared-slice-known.given k)) 0 _) _ _ c.accept-ok.ensures
-    c.if-ok.true (c.accept-ok.auto.s ∙ c.requires.0) (λ k. omega (arith, c.slice_known-2-1.given k))
+returns-then-ok c =     accepted-goes _ c.requires.size c.copy.ensures.1 c.requires.goes _ _ _ (names-fit _ (λ k. omega (arith, c.shared_slice_known-1.given k)) 0 _) _ _ c.accept-ok.ensures
+    c.if-ok.true (c.accept-ok.auto.s ∙ c.requires.size) (λ k. omega (arith, c.slice_known-2-1.given k))
 
 pub returns : goal.returns
-returns c =     accepted-stops _ c.requires.0 c.copy.ensures.1 c.requires.1.1.1.1.1 _ _ _ (names-fit _ (λ k. omega (arith, c.shared-slice-known.given k)) 0 _) _ _ c.accept-ok.ensures _ _ _
+returns c =     accepted-stops _ c.requires.size c.copy.ensures.1 c.requires.goes _ _ _ (names-fit _ (λ k. omega (arith, c.shared_slice_known-1.given k)) 0 _) _ _ c.accept-ok.ensures _ _ _
     c.if-ok.false c.copy.ensures.0 c.copy-2.ensures.0 c.put_number.ensures.bytes

@@ -12,4 +12,4 @@ pub returns-else-was : goal.returns-else-was
 returns-else-was c = search (rules, refused-counts)
 
 pub returns-else-answer-lt-ANSWERS : goal.returns-else-answer-lt-ANSWERS
-returns-else-answer-lt-ANSWERS c = let p = c.requires in refused-nowhere _ p.0 (λ i. omega (arith, c.slice_known-1.given i)) p.1.1 _ p.1.0 0 0 [] (omega arith)
+returns-else-answer-lt-ANSWERS c = let p = c.requires in refused-nowhere _ p.size (λ i. omega (arith, c.slice_known-1.given i)) p.goes _ p.refused 0 0 [] (omega arith)

@@ -19,7 +19,7 @@ loop-i-preserved c = let a = c.args in
     let v = c.loop-i in
     let p = c.put_half in (
       omega arith,
-      omega (arith, p.auto.0),
+      omega (arith, p.auto.s),
       names_more (take a.count a.names.now) a.s.now (omega (arith, length-take a.count a.names.now)) (omega arith) v.s _ v.i _ (omega arith)
           c.name_at.ensures v.invariant.2 p.ensures,
     )

@@ -10,4 +10,4 @@ slice_bounds-set_held-end-2 c = simp length-take (omega arith)
 
 pub returns : goal.returns
 returns c =     let r = c.set_held in
-    front-set c.args.n c.args.words.now r.new.0 r.result _ _ _ c.requires r.auto.0 r.ensures
+    front-set c.args.n c.args.words.now r.new.table r.result _ _ _ c.requires r.auto.table r.ensures

@@ -4,7 +4,7 @@ use borrow.Author.Rules.{rules}
 use Rattle.call_parts.proofs.tables.judge_and_tell.Goals as goal
 
 pub returns-in-Right : goal.returns-in-Right
-returns-in-Right c = right-told _ _ _ c.check_bytes.ensures c.enum_told-1.given.1 c.tell_place.ensures
+returns-in-Right c = right-told _ _ _ c.check_bytes.ensures c.in-Right.is c.tell_place.ensures
 
 pub returns-in-Wrong : goal.returns-in-Wrong
-returns-in-Wrong c = wrong-told _ _ _ c.check_bytes.ensures _ c.i-1.given.1 c.tell_place-in-Wrong.ensures
+returns-in-Wrong c = wrong-told _ _ _ c.check_bytes.ensures _ c.in-Wrong.is c.tell_place-in-Wrong.ensures

@@ -13,7 +13,7 @@ pub loop-i-init : goal.loop-i-init
 loop-i-init c = (omega arith, omega arith, refl, refl, lines-begin _, events-begin _ _ _ _)
 
 pub loop-i-preserved : goal.loop-i-preserved
-loop-i-preserved c =     (search rules, search rules, search rules, search rules, search (rules, lines-again), events-again _ _ _ _ _ _ _ c.loop.invariant.5 _ _ _ _ _ (omega arith) c.long.ensures.0 c.long2.ensures.0 c.line_for-line.ensures.line c.count_event-ok.ensures _ _ c.if-ok.true c.Open-after.ensures.0)
+loop-i-preserved c =     (search rules, search rules, search rules, search rules, search (rules, lines-again), events-again _ _ _ _ _ _ _ c.loop-i.invariant.5 _ _ _ _ _ (omega arith) c.long-name.ensures.0 c.long-bits.ensures.0 c.line_for-line.ensures.line c.count_event-ok.ensures _ _ c.if-ok.true c.open_after-depth.ensures.open)
 
 pub returns-else-ok : goal.returns-else-ok
 returns-else-ok c = search (rules, events-stopped)

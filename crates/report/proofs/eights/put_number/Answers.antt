@@ -4,4 +4,4 @@ use borrow.Author.Rules.{rules}
 use Rattle.report.proofs.eights.put_number.Goals as goal
 
 pub returns : goal.returns
-returns c = (search (rules, put-way), search rules)
+returns c = record { numbers = search (rules, put-way); bytes = search rules }
