@@ -1,5 +1,5 @@
 -- The reader accepts a file exactly where no block of it is bad and its first number, if it has one, is 0.
-use Rattle.std.proofs.Common.{◌≡◌, ℕ, zero, suc, ◌+◌, ◌-◌, ◌%◌, ◌≤◌, Bool, true, false, cond, eqb, ◌⊎◌, List, [], ◌∷◌, ◌++◌, length, sym, refl, ap, ◌∙◌, inl, inr, ⊎_elim, arith, le-ltb, lt-ltb, eq-eqb, eqb-true}
+use Rattle.std.proofs.Common.{◌≡◌, ℕ, zero, suc, ◌+◌, ◌-◌, ◌%◌, ◌≤◌, Bool, true, false, cond, eqb, List, [], ◌∷◌, ◌++◌, length, sym, refl, ap, ◌∙◌, inl, inr, ⊎_elim, arith, le-ltb, lt-ltb, eq-eqb, eqb-true}
 use borrow.Author.Tests.{eqb-false}
 use Rattle.shelf.specs.declared.answers.Stepped.{Stepped}
 use Rattle.shelf.specs.declared.answers.Stepped.TheVariants.{Off, On}

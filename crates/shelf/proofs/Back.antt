@@ -8,7 +8,7 @@ use Rattle.shelf.specs.declared.answers.Walk.{Walk}
 use Rattle.shelf.specs.declared.answers.Walk.TheVariants.{To}
 use Rattle.shelf.specs.Stream.{byte_at, walk, first_from}
 use Rattle.shelf.specs.Block.{bytes_from, sum_to, head_of, block, used_in, name_after, first_in, block_in, cut, blocks_for}
-use Rattle.shelf.specs.Judge.{place_of, byte_of, blocks, used_at, first_at, end_at, some_used, rest_zero, alone}
+use Rattle.shelf.specs.Judge.{place_of, byte_of, blocks, used_at, first_at, end_at, some_used, rest_zero}
 use Rattle.shelf.specs.Theorems.{Octets}
 use Rattle.shelf.proofs.Sides.{less}
 use Rattle.shelf.proofs.Walks.{walk-stop, longer-to}

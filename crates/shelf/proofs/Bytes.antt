@@ -1,5 +1,5 @@
 -- Bytes from a place on: how many, which, one run after another, and those of another list.
-use Rattle.std.proofs.Common.{◌≡◌, ℕ, zero, suc, ◌+◌, ◌-◌, ◌<◌, ◌≤◌, List, [], ◌∷◌, ◌++◌, length, get_or, take, drop, sym, refl, ap, ◌∙◌, ⊎_elim, append_assoc, append-nil, arith, length-append, length-drop, get_or-drop, take_all, take-suc, get_or-append-add}
+use Rattle.std.proofs.Common.{◌≡◌, ℕ, zero, suc, ◌+◌, ◌<◌, ◌≤◌, List, [], ◌∷◌, ◌++◌, length, get_or, take, drop, sym, refl, ap, ◌∙◌, ⊎_elim, append_assoc, append-nil, arith, length-append, length-drop, get_or-drop, take_all, take-suc, get_or-append-add}
 use lib.ListN.{get_or-append}
 use Rattle.shelf.proofs.Sides.{less}
 use Rattle.shelf.specs.Stream.{byte_at}

@@ -6,7 +6,7 @@ use Rattle.shelf.specs.declared.answers.Walk.TheVariants.{Over, To}
 use Rattle.shelf.specs.declared.answers.Scan.TheVariants.{Refused, Whole}
 use Rattle.shelf.specs.Stream.{next, walk, judged, fault, named, first_from}
 use Rattle.shelf.specs.Block.{bytes_from, sum_to, block, used_in, name_after, first_in, block_in, cut, blocks_for}
-use Rattle.shelf.specs.Judge.{byte_of, blocks, last, ends, number_at, used_at, first_at, sum_at, end_at, some_used, first_inside, zero_first, alone, reason, closes, walked, in_step}
+use Rattle.shelf.specs.Judge.{byte_of, blocks, last, number_at, used_at, first_at, sum_at, end_at, some_used, first_inside, zero_first, alone, reason, closes, walked, in_step}
 use Rattle.shelf.specs.Shelf.{onward, scan_by, scan}
 use Rattle.shelf.specs.Theorems.{verdict}
 use Rattle.shelf.proofs.Sides.{less, same}

@@ -7,7 +7,6 @@ use Rattle.shelf.specs.declared.answers.Stepped.{Stepped}
 use Rattle.shelf.specs.declared.answers.Stepped.TheVariants.{Off, On}
 use Rattle.shelf.specs.declared.answers.Known.{Known}
 use Rattle.shelf.specs.declared.answers.Known.TheVariants.{Lost, From}
-use Rattle.shelf.specs.declared.answers.Judged.{Judged}
 use Rattle.shelf.specs.declared.answers.Judged.TheVariants.{Bad, Good}
 use Rattle.shelf.specs.Stream.{walk}
 use Rattle.shelf.specs.Judge.{byte_of, blocks, number_at, used_at, first_at, end_at, some_used, rest_zero, first_inside, zero_first, alone, reason, closes, walked, in_step}

@@ -8,7 +8,7 @@ use Rattle.shelf.specs.Judge.{byte_of, blocks, number_at, first_at, sum_at, end_
 use Rattle.shelf.specs.Theorems.{entry_bytes, stream_of, AllRight}
 use Rattle.shelf.specs.Salvage.{Turn, Known, Judged, Stretch, wanted, stepped, taken, judge, kept_by, ending, stretch, onward, stretches_by, stretches, kept_of, count_of}
 use Rattle.shelf.specs.Saved.{Record, Damaged, untouched, Untouched}
-use Rattle.shelf.proofs.Sides.{less, same}
+use Rattle.shelf.proofs.Sides.{less}
 use Rattle.shelf.proofs.Walks.{walked-so, reached, longer-to, walk-alike-from}
 use Rattle.shelf.proofs.Bytes.{bytes-alike}
 use Rattle.shelf.proofs.Cutting.{used-within, cut-long}

@@ -1,5 +1,5 @@
 -- What is proved of the shelf. A list of records has one file, and a file one list.
-use Rattle.std.specs.Prelude.{◌≡◌, ℕ, ◌+◌, ◌/◌, ◌<◌, ◌≤◌, List, [], ◌∷◌, ◌++◌, length, slice_index}
+use Rattle.std.specs.Prelude.{◌≡◌, ℕ, ◌/◌, ◌<◌, ◌≤◌, List, [], ◌∷◌, ◌++◌, length, slice_index}
 use Rattle.numbers.specs.Limit.{most_payload, block_bytes, most_blocks}
 use Rattle.numbers.specs.Refusal.{block_layout}
 use Rattle.buffers.specs.Bytes.{two}

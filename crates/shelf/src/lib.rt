@@ -51,7 +51,7 @@ fn blocks_for(n: usize) -> usize
 }
 
 // What a stream is refused for whose blocks find no room.
-fn no_room_lem(records: &[u8]) -> Answer
+fn no_room(records: &[u8]) -> Answer
     ensures { result ≡ lacking (fault (byte_at records.now) (length records.now)) }
 {
     match soundness(records) {
@@ -70,11 +70,11 @@ pub fn write(records: &[u8], file: &mut [u8]) -> Answer
     let m = blocks_for(n);
     if file.len() / limit::BLOCK_BYTES < m {
         clear(file);
-        return no_room_lem(records);
+        return no_room(records);
     }
     if limit::MOST_BLOCKS < m {
         clear(file);
-        return no_room_lem(records);
+        return no_room(records);
     }
     let w = cut_blocks(records, file, m);
     match judged(records, w) {

@@ -1,8 +1,6 @@
-use Rattle.std.proofs.Common.{◌≡◌, ◌+◌, ◌-◌, ◌*◌, ◌≤◌, ◌++◌, length, drop, refl, arith, rules}
+use Rattle.std.proofs.Common.{◌≡◌, ◌-◌, ◌*◌, ◌≤◌, ◌++◌, length, drop}
 use Rattle.shelf.specs.Block.{bytes_from}
 use Rattle.shelf.specs.Judge.{byte_of}
-use Rattle.shelf.proofs.Scanning.{gathered-more, gathered-long}
-use Rattle.shelf.proofs.gather.Lts as lts
 use Rattle.shelf.proofs.gather.Given as goal
 
 abbrev pub invariant-loop-at : goal.invariant-loop-at

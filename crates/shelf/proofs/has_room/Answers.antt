@@ -1,6 +1,5 @@
 use Rattle.shelf.proofs.Lists.{room_small, room-many, room-list}
 use Rattle.std.proofs.Common.{rules}
-use Rattle.shelf.proofs.has_room.Lts as lts
 use Rattle.shelf.proofs.has_room.Goals as goal
 
 pub returns-then-room-m : goal.returns-then-room-m

@@ -1,7 +1,6 @@
 use Rattle.std.proofs.Common.{length, refl, arith, rules}
 use Rattle.shelf.proofs.Scans.{scan-within}
 use Rattle.shelf.proofs.Entries.{read-refused, read_small, read_done}
-use Rattle.shelf.proofs.read.Lts as lts
 use Rattle.shelf.proofs.read.Goals as goal
 
 pub returns-then-records-n : goal.returns-then-records-n
@@ -15,5 +14,5 @@ returns-in-Refused c = search (rules, read-refused)
 
 pub returns-else-records-n : goal.returns-else-records-n
 returns-else-records-n c = let a = c.args in
-    read_done a.file.now (length a.records.now) c.scan.ensures c.n-1.given.1 a.records.now _ _ _ refl (omega arith)
+    read_done a.file.now (length a.records.now) c.scan.ensures c.in-Whole.is a.records.now _ _ _ refl (omega arith)
     c.gather.ensures refl c.clear-in-Whole.ensures

@@ -1,6 +1,5 @@
 use Rattle.std.proofs.Common.{◌≡◌, true, refl, rules}
 use Rattle.shelf.proofs.Salvaging.{saved-bytes, saved-within, saved-list, saved-fits, saved-numbered, saved_rows, saved-none, saved-done}
-use Rattle.shelf.proofs.salvage.Lts as lts
 use Rattle.shelf.proofs.salvage.Goals as goal
 
 pub seal_blocks-requires : goal.seal_blocks-requires
@@ -30,7 +29,7 @@ returns-then-has_room c = let a = c.args in
     let r = c.has_room in
     let s = c.seal_blocks in
     let h : r.result ≡ true = search rules in
-    saved-done a.file.now a.fresh.now a.list.now k.ensures c.blocks_for-m.ensures r.ensures h s.new.0 _ c.clear.new.s _ c.clear-then-has_room.new.s s.ensures refl c.clear.ensures refl c.clear-then-has_room.ensures
+    saved-done a.file.now a.fresh.now a.list.now k.ensures c.blocks_for-m.ensures r.ensures h s.new.file _ c.clear.new.s _ c.clear-then-has_room.new.s s.ensures refl c.clear.ensures refl c.clear-then-has_room.ensures
 
 pub returns : goal.returns
 returns c = search (rules, saved-none)

@@ -1,6 +1,5 @@
 use Rattle.std.proofs.Common.{length, refl, arith, rules}
 use Rattle.shelf.proofs.Entries.{write-undone, write-small, write-many, write_done}
-use Rattle.shelf.proofs.write.Lts as lts
 use Rattle.shelf.proofs.write.Goals as goal
 
 pub returns-then-file-m : goal.returns-then-file-m
@@ -14,5 +13,5 @@ returns-in-Faulty c = search (rules, write-undone)
 
 pub returns-in-Sound : goal.returns-in-Sound
 returns-in-Sound c = let a = c.args in
-    write_done a.records.now c.judged.ensures (length a.file.now) c.count-1.given.1 c.blocks_for-m.ensures a.file.now _ _ _ refl
+    write_done a.records.now c.judged.ensures (length a.file.now) c.in-Sound.is c.blocks_for-m.ensures a.file.now _ _ _ refl
     (omega arith) (omega arith) c.cut_blocks-w.ensures.made refl c.clear-in-Sound.ensures

@@ -1,8 +1,5 @@
-use Rattle.std.proofs.Common.{◌≡◌, ◌+◌, ◌-◌, ◌≤◌, ◌++◌, length, take, drop, refl, arith, length-set, rules}
-use Rattle.shelf.specs.Stream.{byte_at}
-use Rattle.shelf.specs.Block.{bytes_from}
+use Rattle.std.proofs.Common.{◌≡◌, refl, arith, length-set}
 use Rattle.shelf.proofs.Loops.{copied_none, copied_more}
-use Rattle.shelf.proofs.block.copy_bytes.Lts as lts
 use Rattle.shelf.proofs.block.copy_bytes.Goals as goal
 
 pub loop-i-init : goal.loop-i-init

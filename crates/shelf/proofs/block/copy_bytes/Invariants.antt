@@ -1,8 +1,6 @@
-use Rattle.std.proofs.Common.{◌≡◌, ◌+◌, ◌-◌, ◌≤◌, ◌++◌, length, take, drop, refl, arith, length-set, rules}
+use Rattle.std.proofs.Common.{◌≡◌, ◌+◌, ◌-◌, ◌≤◌, ◌++◌, length, take, drop}
 use Rattle.shelf.specs.Stream.{byte_at}
 use Rattle.shelf.specs.Block.{bytes_from}
-use Rattle.shelf.proofs.Loops.{copied_none, copied_more}
-use Rattle.shelf.proofs.block.copy_bytes.Lts as lts
 use Rattle.shelf.proofs.block.copy_bytes.Given as goal
 
 abbrev pub invariant-loop-i : goal.invariant-loop-i

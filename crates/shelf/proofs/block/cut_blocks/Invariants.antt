@@ -1,10 +1,6 @@
-use Rattle.std.proofs.Common.{◌≡◌, ◌+◌, ◌-◌, ◌*◌, ◌≤◌, min, ◌++◌, length, drop, refl, ◌∙◌, arith, rules}
-use borrow.Rule.Slice.PartMut.{mid_len}
+use Rattle.std.proofs.Common.{◌≡◌, ◌-◌, ◌*◌, ◌≤◌, min, ◌++◌, length, drop}
 use Rattle.shelf.specs.Stream.{byte_at, walk}
 use Rattle.shelf.specs.Block.{cut}
-use Rattle.shelf.proofs.Cutting.{cut-none, cut-same, cut-more, cut-end}
-use Rattle.shelf.proofs.Following.{walk_none, walk_at, on-next, on-end}
-use Rattle.shelf.proofs.block.cut_blocks.Lts as lts
 use Rattle.shelf.proofs.block.cut_blocks.Given as goal
 
 abbrev pub invariant-loop-i : goal.invariant-loop-i

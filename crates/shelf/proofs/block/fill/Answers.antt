@@ -1,6 +1,5 @@
 use Rattle.shelf.proofs.Sealing.{filled_is}
 use Rattle.std.proofs.Common.{rules}
-use Rattle.shelf.proofs.block.fill.Lts as lts
 use Rattle.shelf.proofs.block.fill.Goals as goal
 
 pub returns : goal.returns

@@ -1,6 +1,5 @@
 use Rattle.shelf.proofs.Sealing.{head-put}
 use Rattle.std.proofs.Common.{rules}
-use Rattle.shelf.proofs.block.put_head.Lts as lts
 use Rattle.shelf.proofs.block.put_head.Goals as goal
 
 pub returns : goal.returns

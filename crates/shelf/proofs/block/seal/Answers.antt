@@ -1,6 +1,5 @@
 use Rattle.shelf.proofs.Sealing.{sealed}
 use Rattle.std.proofs.Common.{rules}
-use Rattle.shelf.proofs.block.seal.Lts as lts
 use Rattle.shelf.proofs.block.seal.Goals as goal
 
 pub returns : goal.returns

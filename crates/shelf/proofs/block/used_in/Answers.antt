@@ -1,6 +1,5 @@
 use Rattle.shelf.proofs.Ways.{judge-ways}
 use Rattle.std.proofs.Common.{rules}
-use Rattle.shelf.proofs.block.used_in.Lts as lts
 use Rattle.shelf.proofs.block.used_in.Goals as goal
 
 pub returns-then-left-lt-BLOCK_DATA : goal.returns-then-left-lt-BLOCK_DATA

@@ -1,6 +1,5 @@
 use Rattle.shelf.proofs.Calling.{read-other, read_told_lem}
 use Rattle.std.proofs.Common.{rules}
-use Rattle.shelf.proofs.calls.call_read.Lts as lts
 use Rattle.shelf.proofs.calls.call_read.Goals as goal
 
 pub returns-then-area-ne-SHELF_AREA : goal.returns-then-area-ne-SHELF_AREA

@@ -1,6 +1,5 @@
 use Rattle.shelf.proofs.Salvaging.{salvage-other, salvage-told}
 use Rattle.std.proofs.Common.{rules}
-use Rattle.shelf.proofs.calls.call_salvage.Lts as lts
 use Rattle.shelf.proofs.calls.call_salvage.Goals as goal
 
 pub returns-then-area-ne-SHELF_AREA : goal.returns-then-area-ne-SHELF_AREA

@@ -1,6 +1,5 @@
 use Rattle.shelf.proofs.Calling.{told}
 use Rattle.std.proofs.Common.{rules}
-use Rattle.shelf.proofs.calls.tell.Lts as lts
 use Rattle.shelf.proofs.calls.tell.Goals as goal
 
 pub returns : goal.returns

@@ -1,7 +1,6 @@
 use Rattle.shelf.proofs.Ways.{used-most}
 use Rattle.shelf.proofs.Ways.{judge-ways}
 use Rattle.std.proofs.Common.{rules}
-use Rattle.shelf.proofs.judge.alone.Lts as lts
 use Rattle.shelf.proofs.judge.alone.Goals as goal
 
 pub rest_zero-requires : goal.rest_zero-requires

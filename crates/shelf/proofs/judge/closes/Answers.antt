@@ -1,6 +1,5 @@
 use Rattle.shelf.proofs.Ways.{judge-ways}
 use Rattle.std.proofs.Common.{rules}
-use Rattle.shelf.proofs.judge.closes.Lts as lts
 use Rattle.shelf.proofs.judge.closes.Goals as goal
 
 pub returns-then-used_at-lt-BLOCK_DATA : goal.returns-then-used_at-lt-BLOCK_DATA

@@ -1,6 +1,5 @@
 use Rattle.shelf.proofs.Ways.{judge-ways}
 use Rattle.std.proofs.Common.{rules}
-use Rattle.shelf.proofs.judge.first_in_file.Lts as lts
 use Rattle.shelf.proofs.judge.first_in_file.Goals as goal
 
 pub returns-then-p-lo : goal.returns-then-p-lo

@@ -1,6 +1,5 @@
 use Rattle.shelf.proofs.Ways.{judge-ways}
 use Rattle.std.proofs.Common.{rules}
-use Rattle.shelf.proofs.judge.first_inside.Lts as lts
 use Rattle.shelf.proofs.judge.first_inside.Goals as goal
 
 pub returns-then-first-used_at : goal.returns-then-first-used_at

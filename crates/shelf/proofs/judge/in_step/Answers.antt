@@ -1,6 +1,5 @@
 use Rattle.shelf.proofs.Ways.{judge-ways}
 use Rattle.std.proofs.Common.{rules}
-use Rattle.shelf.proofs.judge.in_step.Lts as lts
 use Rattle.shelf.proofs.judge.in_step.Goals as goal
 
 pub returns-then-first_at-first_in_file : goal.returns-then-first_at-first_in_file

@@ -1,6 +1,5 @@
 use Rattle.shelf.proofs.Ways.{judge-ways}
 use Rattle.std.proofs.Common.{rules}
-use Rattle.shelf.proofs.judge.reason.Lts as lts
 use Rattle.shelf.proofs.judge.reason.Goals as goal
 
 pub returns-then-alone : goal.returns-then-alone

@@ -1,6 +1,5 @@
 use Rattle.shelf.proofs.Ways.{judge-ways}
 use Rattle.std.proofs.Common.{rules}
-use Rattle.shelf.proofs.judge.rest_zero.Lts as lts
 use Rattle.shelf.proofs.judge.rest_zero.Goals as goal
 
 pub returns-then-used-eq-BLOCK_DATA : goal.returns-then-used-eq-BLOCK_DATA

@@ -1,8 +1,5 @@
-use Rattle.std.proofs.Common.{◌≡◌, ◌+◌, ◌-◌, ◌*◌, ◌<◌, ◌≤◌, arith, rules}
-use Rattle.shelf.specs.Shelf as shelf
-use Rattle.shelf.specs.Shelf.{scan_by}
+use Rattle.std.proofs.Common.{arith, rules}
 use Rattle.shelf.proofs.Scanning.{scan-refuse, scan-off, scan-end, scan-part, scan-on, next-fewer, next_past, scan-start, used-none-so, used-most-so}
-use Rattle.shelf.proofs.judge.scan.Lts as lts
 use Rattle.shelf.proofs.judge.scan.Goals as goal
 
 pub loop-i-init : goal.loop-i-init
@@ -12,7 +9,13 @@ pub returns-then-number-ne-ACCEPTED : goal.returns-then-number-ne-ACCEPTED
 returns-then-number-ne-ACCEPTED c = search (rules, scan-refuse)
 
 pub in_step-s-requires : goal.in_step-s-requires
-in_step-s-requires c =     (search rules, (search (rules, used-none-so), (search (rules, used-most-so), (search rules, c.loop-i.invariant.2 (omega arith)))))
+in_step-s-requires c = record {
+  block = search rules;
+  used = search (rules, used-none-so);
+  most = search (rules, used-most-so);
+  first = search rules;
+  reached = c.loop-i.invariant.2 (omega arith);
+}
 
 pub returns-in_default : goal.returns-in_default
 returns-in_default c = search (rules, scan-off)

@@ -1,8 +1,6 @@
-use Rattle.std.proofs.Common.{◌≡◌, ◌+◌, ◌-◌, ◌*◌, ◌<◌, ◌≤◌, arith, rules}
+use Rattle.std.proofs.Common.{◌≡◌, ◌+◌, ◌-◌, ◌*◌, ◌<◌, ◌≤◌}
 use Rattle.shelf.specs.Shelf as shelf
 use Rattle.shelf.specs.Shelf.{scan_by}
-use Rattle.shelf.proofs.Scanning.{scan-refuse, scan-off, scan-end, scan-part, scan-on, next-fewer, next_past, scan-start, used-none-so, used-most-so}
-use Rattle.shelf.proofs.judge.scan.Lts as lts
 use Rattle.shelf.proofs.judge.scan.Given as goal
 
 abbrev pub invariant-loop-i : goal.invariant-loop-i

@@ -1,6 +1,5 @@
 use Rattle.shelf.proofs.Ways.{judge-ways}
 use Rattle.std.proofs.Common.{rules}
-use Rattle.shelf.proofs.judge.some_used.Lts as lts
 use Rattle.shelf.proofs.judge.some_used.Goals as goal
 
 pub returns-then-used-eq0 : goal.returns-then-used-eq0

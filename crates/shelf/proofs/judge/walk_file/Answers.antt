@@ -1,8 +1,5 @@
-use Rattle.std.proofs.Common.{◌≡◌, ◌-◌, ◌≤◌, rules}
-use Rattle.shelf.specs.Stream.{walk}
-use Rattle.shelf.specs.Judge.{byte_of}
+use Rattle.std.proofs.Common.{rules}
 use Rattle.shelf.proofs.Loops.{follow-stop, follow-over, follow-on}
-use Rattle.shelf.proofs.judge.walk_file.Lts as lts
 use Rattle.shelf.proofs.judge.walk_file.Goals as goal
 
 pub returns-then-n-gt-MOST_PAYLOAD : goal.returns-then-n-gt-MOST_PAYLOAD

@@ -1,8 +1,6 @@
-use Rattle.std.proofs.Common.{◌≡◌, ◌-◌, ◌≤◌, rules}
+use Rattle.std.proofs.Common.{◌≡◌, ◌-◌, ◌≤◌}
 use Rattle.shelf.specs.Stream.{walk}
 use Rattle.shelf.specs.Judge.{byte_of}
-use Rattle.shelf.proofs.Loops.{follow-stop, follow-over, follow-on}
-use Rattle.shelf.proofs.judge.walk_file.Lts as lts
 use Rattle.shelf.proofs.judge.walk_file.Given as goal
 
 abbrev pub invariant-loop-next : goal.invariant-loop-next

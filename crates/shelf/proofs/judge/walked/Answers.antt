@@ -1,6 +1,5 @@
 use Rattle.shelf.proofs.Ways.{judge-ways}
 use Rattle.std.proofs.Common.{rules}
-use Rattle.shelf.proofs.judge.walked.Lts as lts
 use Rattle.shelf.proofs.judge.walked.Goals as goal
 
 pub returns-in_default : goal.returns-in_default

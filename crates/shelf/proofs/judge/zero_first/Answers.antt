@@ -1,6 +1,5 @@
 use Rattle.shelf.proofs.Ways.{judge-ways}
 use Rattle.std.proofs.Common.{rules}
-use Rattle.shelf.proofs.judge.zero_first.Lts as lts
 use Rattle.shelf.proofs.judge.zero_first.Goals as goal
 
 pub returns-then-number_at-eq0 : goal.returns-then-number_at-eq0

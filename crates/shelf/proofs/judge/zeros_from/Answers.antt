@@ -1,7 +1,5 @@
-use Rattle.std.proofs.Common.{◌≡◌, ◌+◌, ◌-◌, ◌≤◌, false, cond, eqb, arith, rules}
-use Rattle.shelf.specs.Judge.{zeros_from}
+use Rattle.std.proofs.Common.{◌≡◌, ◌+◌, ◌-◌, arith, rules}
 use Rattle.shelf.proofs.Loops.{zeros-end, zeros-on}
-use Rattle.shelf.proofs.judge.zeros_from.Lts as lts
 use Rattle.shelf.proofs.judge.zeros_from.Goals as goal
 
 pub loop-at-init : goal.loop-at-init

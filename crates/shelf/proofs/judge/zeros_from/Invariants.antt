@@ -1,7 +1,5 @@
-use Rattle.std.proofs.Common.{◌≡◌, ◌+◌, ◌-◌, ◌≤◌, false, cond, eqb, arith, rules}
+use Rattle.std.proofs.Common.{◌≡◌, ◌-◌, ◌≤◌, false, cond, eqb}
 use Rattle.shelf.specs.Judge.{zeros_from}
-use Rattle.shelf.proofs.Loops.{zeros-end, zeros-on}
-use Rattle.shelf.proofs.judge.zeros_from.Lts as lts
 use Rattle.shelf.proofs.judge.zeros_from.Given as goal
 
 abbrev pub invariant-loop-at : goal.invariant-loop-at

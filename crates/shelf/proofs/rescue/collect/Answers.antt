@@ -1,8 +1,5 @@
-use Rattle.std.proofs.Common.{◌≡◌, ◌-◌, ◌≤◌, length, refl, arith, rules}
-use Rattle.shelf.specs.Salvage.{stretches}
-use Rattle.shelf.specs.Rescue.{held, gathered, nothing, to_come, Stands}
+use Rattle.std.proofs.Common.{refl, arith, rules}
 use Rattle.shelf.proofs.Gathers.{stands-start, come-start, come-on, come-end, goods-end, ready-end}
-use Rattle.shelf.proofs.rescue.collect.Lts as lts
 use Rattle.shelf.proofs.rescue.collect.Goals as goal
 
 pub loop-i-init : goal.loop-i-init

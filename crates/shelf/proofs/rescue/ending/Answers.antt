@@ -1,6 +1,5 @@
 use Rattle.shelf.proofs.Keeps.{ending-some, ending-none}
 use Rattle.std.proofs.Common.{rules}
-use Rattle.shelf.proofs.rescue.ending.Lts as lts
 use Rattle.shelf.proofs.rescue.ending.Goals as goal
 
 pub returns-then-first-last : goal.returns-then-first-last

@@ -1,6 +1,5 @@
 use Rattle.shelf.proofs.Lists.{entered-put, entered-not}
 use Rattle.std.proofs.Common.{rules}
-use Rattle.shelf.proofs.rescue.enter.Lts as lts
 use Rattle.shelf.proofs.rescue.enter.Goals as goal
 
 pub returns-then-entries-list : goal.returns-then-entries-list

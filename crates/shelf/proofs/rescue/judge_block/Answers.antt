@@ -1,7 +1,6 @@
 use Rattle.shelf.proofs.Takes.{fine-some, fine-most}
 use Rattle.shelf.proofs.Takes.{take-ways}
 use Rattle.std.proofs.Common.{rules}
-use Rattle.shelf.proofs.rescue.judge_block.Lts as lts
 use Rattle.shelf.proofs.rescue.judge_block.Goals as goal
 
 pub taken-requires : goal.taken-requires

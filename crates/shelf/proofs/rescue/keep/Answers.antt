@@ -1,6 +1,5 @@
 use Rattle.shelf.proofs.Keeps.{keeps-none, keeps-some, ending-within, ready-within}
 use Rattle.std.proofs.Common.{rules}
-use Rattle.shelf.proofs.rescue.keep.Lts as lts
 use Rattle.shelf.proofs.rescue.keep.Goals as goal
 
 pub returns-in_default : goal.returns-in_default

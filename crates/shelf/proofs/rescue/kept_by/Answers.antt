@@ -1,8 +1,5 @@
-use Rattle.std.proofs.Common.{◌≡◌, ◌-◌, ◌*◌, ◌≤◌, refl, arith, rules}
-use Rattle.shelf.specs.Judge.{byte_of, blocks}
-use Rattle.shelf.specs.Salvage.{kept_by}
+use Rattle.std.proofs.Common.{refl, arith, rules}
 use Rattle.shelf.proofs.Keeps.{keep-stop, keep-cut, keep-on}
-use Rattle.shelf.proofs.rescue.kept_by.Lts as lts
 use Rattle.shelf.proofs.rescue.kept_by.Goals as goal
 
 pub loop-next-init : goal.loop-next-init

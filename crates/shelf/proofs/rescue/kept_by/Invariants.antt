@@ -1,8 +1,6 @@
-use Rattle.std.proofs.Common.{◌≡◌, ◌-◌, ◌*◌, ◌≤◌, refl, arith, rules}
+use Rattle.std.proofs.Common.{◌≡◌, ◌-◌, ◌*◌, ◌≤◌}
 use Rattle.shelf.specs.Judge.{byte_of, blocks}
 use Rattle.shelf.specs.Salvage.{kept_by}
-use Rattle.shelf.proofs.Keeps.{keep-stop, keep-cut, keep-on}
-use Rattle.shelf.proofs.rescue.kept_by.Lts as lts
 use Rattle.shelf.proofs.rescue.kept_by.Given as goal
 
 abbrev pub invariant-loop-next : goal.invariant-loop-next

@@ -1,8 +1,6 @@
-use Rattle.std.proofs.Common.{◌≡◌, ◌+◌, ◌-◌, ◌≤◌, length, ap, ◌∙◌, arith, rules}
-use Rattle.shelf.specs.Judge.{place_of, byte_of}
-use Rattle.shelf.specs.Rescue.{laid}
+use Rattle.std.proofs.Common.{◌+◌, length, ap, ◌∙◌, arith, rules}
+use Rattle.shelf.specs.Judge.{byte_of}
 use Rattle.shelf.proofs.Lays.{laid-long, place-few-at, laid_none, laid_more, next_place, laid_end, place-start, place-in, place-few}
-use Rattle.shelf.proofs.rescue.lay.Lts as lts
 use Rattle.shelf.proofs.rescue.lay.Goals as goal
 
 pub loop-i-init : goal.loop-i-init

@@ -1,6 +1,5 @@
 use Rattle.shelf.proofs.Takes.{left-none, left-some}
 use Rattle.std.proofs.Common.{rules}
-use Rattle.shelf.proofs.rescue.left_over.Lts as lts
 use Rattle.shelf.proofs.rescue.left_over.Goals as goal
 
 pub returns-then-f-eq0 : goal.returns-then-f-eq0

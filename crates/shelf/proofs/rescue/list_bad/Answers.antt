@@ -1,6 +1,5 @@
 use Rattle.shelf.proofs.Lists.{bad-not, few-still, bad-entered, bad-few}
 use Rattle.std.proofs.Common.{rules}
-use Rattle.shelf.proofs.rescue.list_bad.Lts as lts
 use Rattle.shelf.proofs.rescue.list_bad.Goals as goal
 
 pub returns-then-reason-eq-ACCEPTED : goal.returns-then-reason-eq-ACCEPTED

@@ -1,6 +1,5 @@
 use Rattle.shelf.proofs.Lists.{good-not, few-still, good-entered, good-few}
 use Rattle.std.proofs.Common.{rules}
-use Rattle.shelf.proofs.rescue.list_good.Lts as lts
 use Rattle.shelf.proofs.rescue.list_good.Goals as goal
 
 pub returns-then-n-eq0 : goal.returns-then-n-eq0

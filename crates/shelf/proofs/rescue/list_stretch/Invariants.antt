@@ -1,7 +1,5 @@
-use Rattle.std.proofs.Common.{◌≡◌, ◌-◌, ◌≤◌, length, rules}
+use Rattle.std.proofs.Common.{◌≡◌, ◌-◌, ◌≤◌, length}
 use Rattle.shelf.specs.Rescue.{told, listing, good_in, Few}
-use Rattle.shelf.proofs.Lists.{goods-at, good-again, good-done, few-end}
-use Rattle.shelf.proofs.rescue.list_stretch.Lts as lts
 use Rattle.shelf.proofs.rescue.list_stretch.Given as goal
 
 abbrev pub invariant-loop-i : goal.invariant-loop-i

@@ -1,6 +1,5 @@
 use Rattle.shelf.proofs.Gathers.{passed-bad, passed-good, stands-first, stands_good}
 use Rattle.std.proofs.Common.{rules}
-use Rattle.shelf.proofs.rescue.pass_block.Lts as lts
 use Rattle.shelf.proofs.rescue.pass_block.Goals as goal
 
 pub returns-in-Bad : goal.returns-in-Bad

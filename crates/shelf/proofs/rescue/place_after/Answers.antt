@@ -1,6 +1,5 @@
 use Rattle.shelf.proofs.Lays.{after_last, after-other}
 use Rattle.std.proofs.Common.{rules}
-use Rattle.shelf.proofs.rescue.place_after.Lts as lts
 use Rattle.shelf.proofs.rescue.place_after.Goals as goal
 
 pub returns-then-place-eq505 : goal.returns-then-place-eq505

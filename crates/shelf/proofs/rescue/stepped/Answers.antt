@@ -1,6 +1,5 @@
 use Rattle.shelf.proofs.Takes.{take-ways}
 use Rattle.std.proofs.Common.{rules}
-use Rattle.shelf.proofs.rescue.stepped.Lts as lts
 use Rattle.shelf.proofs.rescue.stepped.Goals as goal
 
 pub returns-in_default : goal.returns-in_default

@@ -1,6 +1,5 @@
 use Rattle.shelf.proofs.Takes.{take-ways}
 use Rattle.std.proofs.Common.{rules}
-use Rattle.shelf.proofs.rescue.take_up.Lts as lts
 use Rattle.shelf.proofs.rescue.take_up.Goals as goal
 
 pub returns-then-first-eq-NO_START : goal.returns-then-first-eq-NO_START

@@ -1,7 +1,6 @@
 use Rattle.shelf.proofs.Takes.{next-fewer, next_past}
 use Rattle.shelf.proofs.Takes.{take-ways}
 use Rattle.std.proofs.Common.{rules}
-use Rattle.shelf.proofs.rescue.taken.Lts as lts
 use Rattle.shelf.proofs.rescue.taken.Goals as goal
 
 pub returns-in_default : goal.returns-in_default

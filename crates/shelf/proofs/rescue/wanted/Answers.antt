@@ -1,6 +1,5 @@
 use Rattle.shelf.proofs.Takes.{take-ways}
 use Rattle.std.proofs.Common.{rules}
-use Rattle.shelf.proofs.rescue.wanted.Lts as lts
 use Rattle.shelf.proofs.rescue.wanted.Goals as goal
 
 pub returns-then-first-i : goal.returns-then-first-i

@@ -1,6 +1,5 @@
 use Rattle.shelf.proofs.Following.{follow-ways, followed-past, name-small}
 use Rattle.std.proofs.Common.{rules}
-use Rattle.shelf.proofs.reseal.name_after.Lts as lts
 use Rattle.shelf.proofs.reseal.name_after.Goals as goal
 
 pub returns-in_default : goal.returns-in_default

@@ -1,11 +1,7 @@
-use Rattle.std.proofs.Common.{◌≡◌, ◌+◌, ◌-◌, ◌*◌, ◌≤◌, min, ◌++◌, length, drop, refl, arith, rules}
-use Rattle.shelf.specs.Stream.{walk}
-use Rattle.shelf.specs.Block.{cut}
-use Rattle.shelf.specs.Judge.{byte_of}
+use Rattle.std.proofs.Common.{refl, arith, rules}
 use Rattle.shelf.proofs.Resealing.{sealed-more, followed-next}
 use Rattle.shelf.proofs.Cutting.{cut-none, cut-end}
 use Rattle.shelf.proofs.Following.{walk_none, followed-at}
-use Rattle.shelf.proofs.reseal.seal_blocks.Lts as lts
 use Rattle.shelf.proofs.reseal.seal_blocks.Goals as goal
 
 pub loop-i-init : goal.loop-i-init

@@ -1,6 +1,5 @@
 use Rattle.shelf.proofs.Following.{follow-ways, fewer-so}
 use Rattle.std.proofs.Common.{rules}
-use Rattle.shelf.proofs.reseal.walk_on.Lts as lts
 use Rattle.shelf.proofs.reseal.walk_on.Goals as goal
 
 pub returns-in_default : goal.returns-in_default

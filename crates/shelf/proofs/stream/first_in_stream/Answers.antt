@@ -1,6 +1,5 @@
 use Rattle.shelf.proofs.Ways.{judge-ways}
 use Rattle.std.proofs.Common.{rules}
-use Rattle.shelf.proofs.stream.first_in_stream.Lts as lts
 use Rattle.shelf.proofs.stream.first_in_stream.Goals as goal
 
 pub returns-then-p-lo : goal.returns-then-p-lo

@@ -1,6 +1,5 @@
 use Rattle.shelf.proofs.Ways.{judge-ways}
 use Rattle.std.proofs.Common.{rules}
-use Rattle.shelf.proofs.stream.name_start.Lts as lts
 use Rattle.shelf.proofs.stream.name_start.Goals as goal
 
 pub returns-then-p-hi : goal.returns-then-p-hi

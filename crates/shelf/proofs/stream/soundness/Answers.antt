@@ -1,6 +1,5 @@
 use Rattle.shelf.proofs.Ways.{judge-ways}
 use Rattle.std.proofs.Common.{rules}
-use Rattle.shelf.proofs.stream.soundness.Lts as lts
 use Rattle.shelf.proofs.stream.soundness.Goals as goal
 
 pub returns-then-n-eq0 : goal.returns-then-n-eq0

@@ -1,7 +1,5 @@
-use Rattle.std.proofs.Common.{◌≡◌, ◌-◌, ◌≤◌, rules}
-use Rattle.shelf.specs.Stream.{byte_at, walk}
+use Rattle.std.proofs.Common.{rules}
 use Rattle.shelf.proofs.Loops.{follow-stop, follow-over, follow-on}
-use Rattle.shelf.proofs.stream.walk_stream.Lts as lts
 use Rattle.shelf.proofs.stream.walk_stream.Goals as goal
 
 pub returns-then-n-gt-MOST_PAYLOAD : goal.returns-then-n-gt-MOST_PAYLOAD

@@ -1,7 +1,5 @@
-use Rattle.std.proofs.Common.{◌≡◌, ◌-◌, ◌≤◌, rules}
+use Rattle.std.proofs.Common.{◌≡◌, ◌-◌, ◌≤◌}
 use Rattle.shelf.specs.Stream.{byte_at, walk}
-use Rattle.shelf.proofs.Loops.{follow-stop, follow-over, follow-on}
-use Rattle.shelf.proofs.stream.walk_stream.Lts as lts
 use Rattle.shelf.proofs.stream.walk_stream.Given as goal
 
 abbrev pub invariant-loop-next : goal.invariant-loop-next

@@ -1,6 +1,5 @@
 use Rattle.shelf.proofs.Lanes.{wrapped}
 use Rattle.std.proofs.Common.{rules}
-use Rattle.shelf.proofs.sums.sum_lanes.Lts as lts
 use Rattle.shelf.proofs.sums.sum_lanes.Goals as goal
 
 pub returns : goal.returns

@@ -1,8 +1,6 @@
-use Rattle.std.proofs.Common.{◌≡◌, ◌-◌, ◌≤◌, arith, rules}
-use Rattle.shelf.specs.Block.{sum_to}
+use Rattle.std.proofs.Common.{◌≡◌, arith, rules}
 use Rattle.shelf.proofs.Loops.{summed-more}
-use Rattle.shelf.proofs.Lanes.{Lanes, lanes-none, lanes-more, lanes-sum}
-use Rattle.shelf.proofs.sums.sum_words.Lts as lts
+use Rattle.shelf.proofs.Lanes.{lanes-none, lanes-more, lanes-sum}
 use Rattle.shelf.proofs.sums.sum_words.Goals as goal
 
 pub loop-i-init : goal.loop-i-init

@@ -1,8 +1,6 @@
-use Rattle.std.proofs.Common.{◌≡◌, ◌-◌, ◌≤◌, arith, rules}
+use Rattle.std.proofs.Common.{◌≡◌, ◌-◌, ◌≤◌}
 use Rattle.shelf.specs.Block.{sum_to}
-use Rattle.shelf.proofs.Loops.{summed-more}
-use Rattle.shelf.proofs.Lanes.{Lanes, lanes-none, lanes-more, lanes-sum}
-use Rattle.shelf.proofs.sums.sum_words.Lts as lts
+use Rattle.shelf.proofs.Lanes.{Lanes}
 use Rattle.shelf.proofs.sums.sum_words.Given as goal
 
 abbrev pub invariant-loop-i : goal.invariant-loop-i
