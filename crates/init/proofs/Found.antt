@@ -13,7 +13,6 @@ use Rattle.numbers.specs.Limit.{most_schemas, init_words}
 use Rattle.wire.specs.Res.{Res, got, fault, ◌>>=◌, ◌>>◌}
 use Rattle.init.specs.declared.Item.{Item}
 use Rattle.init.specs.declared.Item.TheVariants as item
-use Rattle.init.specs.declared.Slot.TheVariants as slot
 use Rattle.init.specs.declared.Phase.{Phase}
 use Rattle.init.specs.declared.Phase.TheVariants.{Profile, UnitByte, NoFlags, Length, Flags, Schemas, Uri, Hint, Codecs, Codec, Types, OneType, Formats, NoFormats, Description, End}
 use Rattle.init.specs.Items.{Head, byte_at, second_at, number_at, head_of, head_at, before, body, after, rest_at, item_at, two}

@@ -33,7 +33,7 @@ use Rattle.init.specs.Plan.Plan.{done}
 use Rattle.init.specs.Phases.{item_of, slot_of, rest_of, ends, goes, plan_of, reach, grown, rank, spare}
 use Rattle.init.specs.Promises.{Follows}
 use Rattle.init.specs.Reads.{slot_index}
-use Rattle.init.specs.Write.{Value, Writing, value_of, content_of, lies_of, content, bytes_for, on_value, index, word_in, there_of, used_by, emit, write}
+use Rattle.init.specs.Write.{Writing, value_of, content_of, lies_of, content, bytes_for, on_value, index, word_in, there_of, used_by, emit, write}
 use Rattle.init.specs.Write.Value.{value, wrong}
 use Rattle.init.specs.Write.Writing.{refused}
 use Rattle.init.specs.Writes.{value_is, value_in, most_of, Page, ink_is, page, inked, UsesIs, Put, Worded, Writes, Onward, Stepped, Finished, wholly, desk}

@@ -25,7 +25,7 @@ use Rattle.buffers.specs.Bytes.{word_from, words_of}
 use Rattle.buffers.proofs.BytesLaws.{word_at, words-length}
 use Rattle.init.specs.Items.{head_of, head_bytes, bytes8, two}
 use Rattle.init.specs.Reads.{slot_index}
-use Rattle.init.specs.Write.{Value, within, value_of, index, width, word_in, there_of, used_by}
+use Rattle.init.specs.Write.{within, value_of, index, width, word_in, there_of, used_by}
 use Rattle.init.specs.Writes.{UsesIs, value_is, value_in, most_of, Page, ink_is, dot, inked}
 
 -- how great a number is

@@ -1,5 +1,5 @@
 -- What the operations give back: the answer, and the final content of each buffer that they write.
-use Rattle.std.specs.Prelude.{ℕ, ◌+◌, ◌-◌, ◌*◌, ◌≡◌, cond, List, ◌++◌, ltb, length, set, replicate}
+use Rattle.std.specs.Prelude.{ℕ, ◌-◌, ◌*◌, ◌≡◌, cond, List, ◌++◌, ltb, length, set, replicate}
 use Rattle.buffers.specs.Bytes.{bytes_of}
 use Rattle.numbers.specs.Refusal.{accepted, left_over}
 use Rattle.numbers.specs.Limit.{init_words}

@@ -25,4 +25,4 @@ pub returns-then-f-ne-ACCEPTED : goal.returns-then-f-ne-ACCEPTED
 returns-then-f-ne-ACCEPTED c = search (rules, rest-ways, small-ways)
 
 pub returns : goal.returns
-returns c = (search (rules, rest-ways), search (rules, small-ways))
+returns c = record { is = search (rules, rest-ways); small = search (rules, small-ways) }

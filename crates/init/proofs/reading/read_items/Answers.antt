@@ -1,10 +1,7 @@
 -- Item by item: the state leads to the answer, and each item brings it nearer to the end.
-use Prim.Native.Nat.{◌+◌, ◌-◌, ◌≤◌}
-use mathlib.Core.Path.{◌≡◌, refl}
+use mathlib.Core.Path.{refl}
 use native.Mathlib.Omega.{arith}
-use lib.ListN.{length}
-use Rattle.numbers.specs.Limit.{init_words}
-use Rattle.init.specs.Phases.{reach, rank, ends}
+use Rattle.init.specs.Phases.{reach, ends}
 use Rattle.init.proofs.ReadWays.{start-reads, reads-done, turn-stops, turn-goes}
 use borrow.Author.Rules.{rules}
 use Rattle.init.proofs.reading.read_items.Goals as goal
@@ -19,13 +16,13 @@ returns-then-is_end c = let v = c.loop-st in reads-done _ _ _ _ v.st _ _ (search
 
 pub read_item-requires : goal.read_item-requires
 unfolding ends
-read_item-requires c = (search rules, (search rules, (search rules, search rules)))
+read_item-requires c = record { wall = search rules; room = search rules; lies = search rules; goes = search rules }
 
 pub returns-in-Refuse : goal.returns-in-Refuse
 returns-in-Refuse c = let v = c.loop-st in turn-stops _ _ _ _ v.st c.read_item.result _ _ (c.read_item.ensures _ _ v.invariant.3) _ (search rules) v.invariant.3.within
 
 pub loop-st-smaller : goal.loop-st-smaller
-loop-st-smaller c = let v = c.loop-st in (turn-goes _ _ _ _ v.st c.read_item.result _ _ (c.read_item.ensures _ _ v.invariant.3) c.s-1.given.0.0 (search rules)).falls
+loop-st-smaller c = let v = c.loop-st in (turn-goes _ _ _ _ v.st c.read_item.result _ _ (c.read_item.ensures _ _ v.invariant.3) c.in-Go.s (search rules)).falls
 
 pub loop-st-preserved : goal.loop-st-preserved
-loop-st-preserved c = let v = c.loop-st in let g = turn-goes _ _ _ _ v.st c.read_item.result _ _ (c.read_item.ensures _ _ v.invariant.3) c.s-1.given.0.0 (search rules) in (g.lies, omega (arith, c.read_item.auto), omega (arith, c.read_item.auto), g.reads)
+loop-st-preserved c = let v = c.loop-st in let g = turn-goes _ _ _ _ v.st c.read_item.result _ _ (c.read_item.ensures _ _ v.invariant.3) c.in-Go.s (search rules) in (g.lies, omega arith, omega arith, g.reads)

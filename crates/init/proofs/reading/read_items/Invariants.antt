@@ -1,12 +1,10 @@
 -- Item by item: the state leads to the answer, and each item brings it nearer to the end.
 use Prim.Native.Nat.{◌+◌, ◌-◌, ◌≤◌}
-use mathlib.Core.Path.{◌≡◌, refl}
-use native.Mathlib.Omega.{arith}
+use mathlib.Core.Path.{◌≡◌}
 use lib.ListN.{length}
 use Rattle.numbers.specs.Limit.{init_words}
-use Rattle.init.specs.Phases.{reach, rank, ends}
-use Rattle.init.proofs.ReadWays.{start-reads, reads-done, turn-stops, turn-goes}
-use borrow.Author.Rules.{rules}
+use Rattle.init.specs.Phases.{reach, rank}
+use Rattle.init.specs.Reads.{Reads, whole}
 use Rattle.init.proofs.reading.read_items.Given as goal
 
 abbrev pub invariant-loop-st : goal.invariant-loop-st

@@ -9,7 +9,7 @@ pub refuse-requires : goal.refuse-requires
 refuse-requires c = (search (rules, read-ways), search (rules, read-ways))
 
 pub finish-requires : goal.finish-requires
-finish-requires c = (search (rules, read-ways), search (rules, read-ways))
+finish-requires c = record { at = search (rules, read-ways); room = search (rules, read-ways) }
 
 pub returns-in-Refuse : goal.returns-in-Refuse
 returns-in-Refuse c = search (rules, read-ways)

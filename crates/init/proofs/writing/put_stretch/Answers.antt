@@ -1,8 +1,5 @@
-use Prim.Native.Nat.{◌-◌, ◌≤◌}
 use mathlib.Core.Path.{◌≡◌, refl}
 use native.Mathlib.Omega.{arith}
-use lib.ListN.{length, take, drop}
-use Rattle.init.specs.Writes.{ink_is, inked}
 use Rattle.init.proofs.WriteWays.{none_yet, stretch-more}
 use borrow.Author.Rules.{rules}
 use Rattle.init.proofs.writing.put_stretch.Goals as goal
@@ -13,8 +10,9 @@ loop-i-init c = (omega arith, search rules, none_yet _)
 pub loop-i-preserved : goal.loop-i-preserved
 loop-i-preserved c = let v = c.loop-i in (
   omega arith,
-  omega (arith, c.put-p.auto),
+  omega arith,
   stretch-more _ _ _ c.args.given.now c.args.from c.args.n v.i _ c.requires c.loop-i-test.true refl v.invariant.2 c.put-p.ensures,
+)
 
 pub returns : goal.returns
 returns c = let v = c.loop-i in let e : v.i ≡ c.args.n = omega arith in rw e at v.invariant.2

@@ -1,10 +1,7 @@
 use Prim.Native.Nat.{◌-◌, ◌≤◌}
-use mathlib.Core.Path.{◌≡◌, refl}
-use native.Mathlib.Omega.{arith}
+use mathlib.Core.Path.{◌≡◌}
 use lib.ListN.{length, take, drop}
 use Rattle.init.specs.Writes.{ink_is, inked}
-use Rattle.init.proofs.WriteWays.{none_yet, stretch-more}
-use borrow.Author.Rules.{rules}
 use Rattle.init.proofs.writing.put_stretch.Given as goal
 
 abbrev pub invariant-loop-i : goal.invariant-loop-i

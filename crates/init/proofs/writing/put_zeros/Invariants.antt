@@ -1,10 +1,7 @@
 use Prim.Native.Nat.{◌-◌, ◌≤◌}
 use mathlib.Core.Path.{◌≡◌}
-use native.Mathlib.Omega.{arith}
 use lib.ListN.{length, replicate}
 use Rattle.init.specs.Writes.{ink_is, inked}
-use Rattle.init.proofs.WriteWays.{none_yet, zeros-more}
-use borrow.Author.Rules.{rules}
 use Rattle.init.proofs.writing.put_zeros.Given as goal
 
 abbrev pub invariant-loop-i : goal.invariant-loop-i

@@ -15,7 +15,7 @@ pub clear-requires : goal.clear-requires
 clear-requires c = search (rules, clear-ways)
 
 pub write_cleared-requires : goal.write_cleared-requires
-write_cleared-requires c = ((search rules, search rules), ((search rules, search rules), search (rules, clear-ways)))
+write_cleared-requires c = record { codecs = search rules; init = search rules; zeros = search (rules, clear-ways) }
 
 pub returns : goal.returns
 returns c = search (rules, clear-ways)

@@ -15,7 +15,7 @@ pub index-at-requires : goal.index-at-requires
 index-at-requires c = search (rules, step-ways)
 
 pub write_words-requires : goal.write_words-requires
-write_words-requires c = (search (rules, step-ways), (search rules, search (rules, step-ways)))
+write_words-requires c = record { item = search (rules, step-ways); lies = search rules; at = search (rules, step-ways) }
 
 pub returns-in-Missing : goal.returns-in-Missing
 returns-in-Missing c = search (rules, step-ways)
@@ -24,5 +24,5 @@ pub returns-in-Used : goal.returns-in-Used
 returns-in-Used c = let pre = c.requires in
     let r = c.row-r in
     let w = c.pair_in-w in
-    item-steps _ _ _ _ _ _ _ r.ensures.0 r.ensures.1 pre.0.0 pre.1.1.1.1 c.uses.result c.uses.ensures _ _ _ _ _ _ c.write_words.result w.ensures.0 w.ensures.1
-    c.index-at.ensures pre.1.1.0 c.write_words.ensures (search rules)
+    item-steps _ _ _ _ _ _ _ r.ensures.item r.ensures.slot pre.codecs.0 pre.goes c.uses.result c.uses.ensures _ _ _ _ _ _ c.write_words.result w.ensures.first w.ensures.second
+    c.index-at.ensures pre.used c.write_words.ensures (search rules)

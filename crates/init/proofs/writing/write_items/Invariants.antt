@@ -1,14 +1,11 @@
 -- Item by item: the state leads to the answer, and each item brings it nearer to the end.
 use Prim.Native.Nat.{◌+◌, ◌-◌, ◌≤◌}
-use mathlib.Core.Path.{◌≡◌, refl}
-use native.Mathlib.Omega.{arith}
+use mathlib.Core.Path.{◌≡◌}
 use lib.ListN.{length, take}
 use Rattle.buffers.specs.Bytes.{words_of}
 use Rattle.numbers.specs.Limit.{init_words}
-use Rattle.init.specs.Phases.{reach, rank, ends}
+use Rattle.init.specs.Phases.{reach, rank}
 use Rattle.init.specs.Writes.{Writes, wholly}
-use Rattle.init.proofs.StepWays.{start-writes, writes-done, step-stops, step-goes}
-use borrow.Author.Rules.{rules}
 use Rattle.init.proofs.writing.write_items.Given as goal
 
 abbrev pub invariant-loop-st : goal.invariant-loop-st
