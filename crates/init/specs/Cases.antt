@@ -170,9 +170,9 @@ codec-type : init_write (words1) (set codecs1 4 16384) m1 26 ≡ writing.refused
 unfolding head_of bytes8 head_bytes two types codecs schemas formats features plan value_of content_of lies_of content on_value index word_in there_of used_by emit write closed init_write m1 words1 codecs1
 codec-type = refl
 
-no_room_lem : init_write (words1) (codecs1) m1 25 ≡ writing.refused 21 0
+no-room : init_write (words1) (codecs1) m1 25 ≡ writing.refused 21 0
 unfolding head_of bytes8 head_bytes two types codecs schemas formats features plan value_of content_of lies_of content on_value index word_in there_of used_by emit write closed init_write m1 words1 codecs1
-no_room_lem = refl
+no-room = refl
 
 first-stepped : init_write (0 ∷ 0 ∷ 0 ∷ 9 ∷ 4 ∷ 1 ∷ 1 ∷ 0 ∷ 11 ∷ 0 ∷ 12 ∷ 0 ∷ 7 ∷ 1 ∷ 9 ∷ 0 ∷ 0 ∷ 0 ∷ 0 ∷ 0 ∷ 0 ∷ 0 ∷ 0 ∷ 0 ∷ 0 ∷ 0 ∷ 0 ∷ 0 ∷ 0 ∷ 0 ∷ 0 ∷ 0 ∷ []) [] (0 ∷ 15 ∷ 2 ∷ 9 ∷ 255 ∷ 1 ∷ 1 ∷ 117 ∷ 0 ∷ 0 ∷ 0 ∷ 0 ∷ []) 12 ≡ writing.refused 20 5
 unfolding head_of bytes8 head_bytes two types codecs schemas formats features plan value_of content_of lies_of content on_value index word_in there_of used_by emit write closed init_write m1 words1 codecs1
