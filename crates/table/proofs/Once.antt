@@ -10,8 +10,9 @@ use lib.ListN.{get_or, set, length-set}
 use lib.Seq.{get_or-set_same, get_or-set_other}
 use Rattle.numbers.specs.Limit.{most_types}
 use Rattle.table.proofs.FirstLaws.{both_true}
-use Rattle.table.specs.Stamps.{Under}
+use Rattle.table.specs.Stamps.{Stamped, Under}
 use Rattle.table.specs.Valid.{among, once, words_from}
+use Rattle.table.specs.Words.{word_at}
 
 -- n words in two parts, with the one between them
 words-split : (w : ℕ → ℕ) (i n k m : ℕ) → n ≡ k + suc m → words_from w i n ≡ words_from w i k ++ (w (i + k) ∷ words_from w (i + k + 1) m)
@@ -116,3 +117,7 @@ module _ (w : ℕ → ℕ) (t i : ℕ) where
 
     pub once-next : (get_or stamps y 0 ≡ stamp → ⊥) → once (t ∷ words_from w i k) ≡ true → once (t ∷ words_from w i (k + 1)) ≡ true
     once-next n e = rw grown (once-end (t ∷ words_from w i k) y e (sym (so.tells y known) ∙ ne_eqb _ _ n))
+
+-- an entry that was read has a stamp
+pub entry-known : (l : List ℕ) (i n k y : ℕ) → Stamped l i n → k < n → y ≡ word_at l (i + k) → y < most_types
+entry-known l i n k y s h e = omega (arith, e, s.each k h)

@@ -1,7 +1,6 @@
 -- `every_row`: the three kinds of rows, one after the other.
 use Rattle.table.proofs.Order.{rows-ways}
 use native.Mathlib.Omega.{arith}
-use borrow.Author.Rules.{rules}
 use Rattle.table.proofs.every_row.Goals as goal
 
 pub all-t-requires : goal.all-t-requires

@@ -1,6 +1,5 @@
 -- `every_word`: the rows, then what stands behind them.
 use Rattle.table.proofs.Order.{words-ways}
-use borrow.Author.Rules.{rules}
 use Rattle.table.proofs.every_word.Goals as goal
 
 pub returns-in_default : goal.returns-in_default

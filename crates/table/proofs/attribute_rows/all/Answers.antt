@@ -1,16 +1,13 @@
 -- `all`: after a turns the rows from a on are left.
-use Prim.Native.Nat.{◌-◌}
 use mathlib.Core.Path.{sym}
 use native.Mathlib.Omega.{arith}
-use borrow.Author.Rules.{rules}
-use Rattle.table.specs.Words.{attribute_at, word_at}
-use Rattle.table.specs.Valid.{attribute_row}
+use Rattle.table.specs.Words.{attribute_at}
 use Rattle.table.proofs.Lines.{attributes-lined}
-use Rattle.table.proofs.Turns.{Left, turns-start, turns-done, turn-wrong, turn-right}
+use Rattle.table.proofs.Turns.{turns-start, turns-done, turn-wrong, turn-right}
 use Rattle.table.proofs.attribute_rows.all.Goals as goal
 
 pub returns-then-all_right : goal.returns-then-all_right
-returns-then-all_right c = sym (c.All-right.ensures c.if-all_right.true)
+returns-then-all_right c = sym (c.all_right.ensures c.if-all_right.true)
 
 pub loop-a-init : goal.loop-a-init
 loop-a-init c = turns-start (attribute_at _) _ (attributes-lined _ _) _
@@ -19,13 +16,13 @@ pub row-r-requires : goal.row-r-requires
 row-r-requires c = tt
 
 pub returns-in_default : goal.returns-in_default
-returns-in_default c =     turn-wrong (attribute_at _) _ (attributes-lined _ _) _ _ c.loop-a.invariant c.loop-a-test.true _ c.row-r.ensures _ c.enum_told-in_default-1.given.1
+returns-in_default c = turn-wrong (attribute_at _) _ (attributes-lined _ _) _ _ c.loop-a.invariant c.loop-a-test.true _ c.row-r.ensures _ c.in_default.is
 
 pub overflow_add-a : goal.overflow_add-a
 overflow_add-a c = omega arith
 
 pub loop-a-preserved : goal.loop-a-preserved
-loop-a-preserved c =     turn-right (attribute_at _) _ (attributes-lined _ _) _ _ c.loop-a.invariant c.loop-a-test.true _ c.row-r.ensures c.enum_told-1.given.1
+loop-a-preserved c = turn-right (attribute_at _) _ (attributes-lined _ _) _ _ c.loop-a.invariant c.loop-a-test.true _ c.row-r.ensures c.in-Right.is
 
 pub returns : goal.returns
 returns c = turns-done (attribute_at _) _ (attributes-lined _ _) _ _ c.loop-a.invariant c.loop-a-test.false

@@ -1,12 +1,8 @@
 -- `all`: after a turns the rows from a on are left.
 use Prim.Native.Nat.{◌-◌}
-use mathlib.Core.Path.{sym}
-use native.Mathlib.Omega.{arith}
-use borrow.Author.Rules.{rules}
 use Rattle.table.specs.Words.{attribute_at, word_at}
 use Rattle.table.specs.Valid.{attribute_row}
-use Rattle.table.proofs.Lines.{attributes-lined}
-use Rattle.table.proofs.Turns.{Left, turns-start, turns-done, turn-wrong, turn-right}
+use Rattle.table.proofs.Turns.{Left}
 use Rattle.table.proofs.attribute_rows.all.Given as goal
 
 abbrev pub invariant-loop-a : goal.invariant-loop-a

@@ -1,13 +1,9 @@
 -- `all_right`: after a turns the rows before a are right if the joints are small.
-use Prim.Native.Nat.{◌-◌, ◌≤◌}
-use mathlib.Core.Path.{◌≡◌, sym}
-use Rattle.numbers.specs.Limit.{most_name}
-use Rattle.table.specs.Words.{attribute_at, word_at}
-use Rattle.table.specs.Valid.{attribute_row}
+use mathlib.Core.Path.{sym}
+use Rattle.table.specs.Words.{attribute_at}
 use Rattle.table.proofs.Lines.{attributes-lined}
 use Rattle.table.proofs.Judging.{attribute-turn, no-tells-nothing}
-use Rattle.table.proofs.Turns.{Left, turns-start, turns-done}
-use borrow.Author.Rules.{rules}
+use Rattle.table.proofs.Turns.{turns-start, turns-done}
 use Rattle.table.proofs.attribute_rows.all_right.Goals as goal
 
 pub loop-a-init : goal.loop-a-init

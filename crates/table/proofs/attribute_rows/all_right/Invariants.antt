@@ -1,13 +1,10 @@
 -- `all_right`: after a turns the rows before a are right if the joints are small.
 use Prim.Native.Nat.{◌-◌, ◌≤◌}
-use mathlib.Core.Path.{◌≡◌, sym}
+use mathlib.Core.Path.{◌≡◌}
 use Rattle.numbers.specs.Limit.{most_name}
 use Rattle.table.specs.Words.{attribute_at, word_at}
 use Rattle.table.specs.Valid.{attribute_row}
-use Rattle.table.proofs.Lines.{attributes-lined}
-use Rattle.table.proofs.Judging.{attribute-turn, no-tells-nothing}
-use Rattle.table.proofs.Turns.{Left, turns-start, turns-done}
-use borrow.Author.Rules.{rules}
+use Rattle.table.proofs.Turns.{Left}
 use Rattle.table.proofs.attribute_rows.all_right.Given as goal
 
 abbrev pub invariant-loop-a : goal.invariant-loop-a

@@ -1,6 +1,5 @@
 -- `all`: by the form.
 use Rattle.table.proofs.Order.{form-ways}
-use borrow.Author.Rules.{rules}
 use Rattle.table.proofs.cast_rows.all.Goals as goal
 
 pub returns-then-word-ne-CAST_FORM : goal.returns-then-word-ne-CAST_FORM

@@ -1,11 +1,8 @@
 -- `all_entries`: after i turns the derived entries from i on are left.
 use Prim.Native.Nat.{◌-◌}
-use native.Mathlib.Omega.{arith}
-use borrow.Author.Rules.{rules}
 use Rattle.table.specs.Words.{derived_at, word_at}
 use Rattle.table.specs.Valid.{derived_row}
-use Rattle.table.proofs.Lines.{derived-lined}
-use Rattle.table.proofs.Turns.{Left, turns-start, turns-done, turn-wrong, turn-right}
+use Rattle.table.proofs.Turns.{Left}
 use Rattle.table.proofs.cast_rows.all_entries.Given as goal
 
 abbrev pub invariant-loop-i : goal.invariant-loop-i

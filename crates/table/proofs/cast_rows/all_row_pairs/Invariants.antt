@@ -1,11 +1,8 @@
 -- `all_row_pairs`: after p turns the pairs from p on are left.
 use Prim.Native.Nat.{◌-◌}
-use native.Mathlib.Omega.{arith}
-use borrow.Author.Rules.{rules}
 use Rattle.table.specs.Words.{row_pair_at, word_at}
 use Rattle.table.specs.Valid.{row_pair_row}
-use Rattle.table.proofs.Lines.{row-pairs-lined}
-use Rattle.table.proofs.Turns.{Left, turns-start, turns-done, turn-wrong, turn-right}
+use Rattle.table.proofs.Turns.{Left}
 use Rattle.table.proofs.cast_rows.all_row_pairs.Given as goal
 
 abbrev pub invariant-loop-p : goal.invariant-loop-p

@@ -1,11 +1,8 @@
 -- `all_substitutes`: after i turns the substitutes from i on are left.
 use Prim.Native.Nat.{◌-◌}
-use native.Mathlib.Omega.{arith}
-use borrow.Author.Rules.{rules}
 use Rattle.table.specs.Words.{substitute_at, word_at}
 use Rattle.table.specs.Valid.{substitute_row}
-use Rattle.table.proofs.Lines.{substitutes-lined}
-use Rattle.table.proofs.Turns.{Left, turns-start, turns-done, turn-wrong, turn-right}
+use Rattle.table.proofs.Turns.{Left}
 use Rattle.table.proofs.cast_rows.all_substitutes.Given as goal
 
 abbrev pub invariant-loop-i : goal.invariant-loop-i

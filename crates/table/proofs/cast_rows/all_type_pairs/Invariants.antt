@@ -1,13 +1,9 @@
 -- `all_type_pairs`: after t turns the pairs from t on are left, and no stamp is over t.
 use Prim.Native.Nat.{◌-◌}
-use native.Mathlib.Omega.{arith}
-use borrow.Author.Rules.{rules}
 use Rattle.table.specs.Stamps.{Under}
 use Rattle.table.specs.Words.{type_pair_at, word_at}
 use Rattle.table.specs.Valid.{type_pair_row}
-use Rattle.table.proofs.CastRows.{under-clear}
-use Rattle.table.proofs.Lines.{type-pairs-lined}
-use Rattle.table.proofs.Turns.{Left, turns-start, turns-done, turn-wrong, turn-right}
+use Rattle.table.proofs.Turns.{Left}
 use Rattle.table.proofs.cast_rows.all_type_pairs.Given as goal
 
 abbrev pub invariant-loop-t : goal.invariant-loop-t

@@ -1,15 +1,11 @@
 -- `each_once`: after i turns the type and i entries have the stamp, and no other number; none of them stands twice.
-use Prim.Native.Nat.{◌-◌, ◌≤◌, ◌<◌}
-use mathlib.Core.Path.{◌≡◌, sym}
+use Prim.Native.Nat.{◌-◌, ◌≤◌}
+use mathlib.Core.Path.{◌≡◌}
 use mathlib.Core.List.{◌∷◌}
 use mathlib.Core.Bool.{true}
-use native.Mathlib.Omega.{arith}
-use Rattle.numbers.specs.Limit.{most_types}
 use Rattle.table.specs.Words.{word_at}
 use Rattle.table.specs.Valid.{once, words_from}
-use Rattle.table.proofs.Once.{Tells, once-first, stamped-first, repeated, stamped-next, once-next}
-use borrow.Author.Rules.{rules}
-use Rattle.table.proofs.cast_rows.each_once.Lts as lts
+use Rattle.table.proofs.Once.{Tells}
 use Rattle.table.proofs.cast_rows.each_once.Given as goal
 
 abbrev pub invariant-loop-i : goal.invariant-loop-i

@@ -1,5 +1,4 @@
 -- `entry`: one word, and its test.
-use borrow.Author.Rules.{rules}
 use Rattle.table.proofs.CastRows.{entry-ways}
 use Rattle.table.proofs.cast_rows.entry.Goals as goal
 

@@ -1,5 +1,4 @@
 -- `size`: by the form.
-use borrow.Author.Rules.{rules}
 use Rattle.table.proofs.Order.{plain_size, cast-size}
 use Rattle.table.proofs.cast_rows.size.Goals as goal
 

@@ -1,5 +1,4 @@
 -- `substitute`: two words, and their tests.
-use borrow.Author.Rules.{rules}
 use Rattle.table.proofs.CastRows.{substitute-ways}
 use Rattle.table.proofs.cast_rows.substitute.Goals as goal
 

@@ -1,7 +1,6 @@
 -- `given`: the four header words, one after another.
 use Rattle.table.proofs.Given.{header-ways}
 use Rattle.table.specs.Valid.{header_words}
-use borrow.Author.Rules.{rules}
 use Rattle.table.proofs.header.given.Goals as goal
 
 pub within-form-requires : goal.within-form-requires

@@ -1,7 +1,6 @@
 -- `within`: a header word is judged where it is given.
 use native.Mathlib.Omega.{arith}
 use Rattle.table.proofs.Given.{given-ways}
-use borrow.Author.Rules.{rules}
 use Rattle.table.proofs.header.within.Goals as goal
 
 pub returns-then-table-i : goal.returns-then-table-i

@@ -2,7 +2,6 @@
 use mathlib.Core.Path.{refl}
 use Rattle.table.specs.Rows.{table_of}
 use Rattle.table.proofs.Decoded.{read-ways, read-particles}
-use borrow.Author.Rules.{rules}
 use Rattle.table.proofs.inside.content.Goals as goal
 
 pub returns-then-kind-eq-EMPTY : goal.returns-then-kind-eq-EMPTY
@@ -15,4 +14,4 @@ returns-then-kind-eq-SIMPLE c = search read-ways
 
 pub returns : goal.returns
 unfolding table_of
-returns c =     read-particles c.args.table.now _ _ _ _ 0 0 c.type_at-base.ensures refl refl c.if-kind-eq-EMPTY.false c.if-kind-eq-SIMPLE.false
+returns c = read-particles c.args.table.now _ _ _ _ 0 0 c.type_at-base.ensures refl refl c.if-kind-eq-EMPTY.false c.if-kind-eq-SIMPLE.false

@@ -1,6 +1,5 @@
 -- `held`: a bit of the type row's first word.
 use Rattle.table.specs.Rows.{held_of}
-use borrow.Author.Rules.{rules}
 use Rattle.table.proofs.inside.held.Goals as goal
 
 pub returns : goal.returns

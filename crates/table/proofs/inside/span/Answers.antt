@@ -1,6 +1,5 @@
 -- `span`: two words of the type row.
 use Rattle.table.specs.Rows.{first_of, count_of}
-use borrow.Author.Rules.{rules}
 use Rattle.table.proofs.inside.span.Goals as goal
 
 pub returns : goal.returns

@@ -1,12 +1,8 @@
 -- `all`: after p turns the rows from p on are left.
 use Prim.Native.Nat.{◌-◌}
-use mathlib.Core.Path.{sym}
-use native.Mathlib.Omega.{arith}
-use borrow.Author.Rules.{rules}
 use Rattle.table.specs.Words.{particle_at, word_at}
 use Rattle.table.specs.Valid.{particle_row}
-use Rattle.table.proofs.Lines.{particles-lined}
-use Rattle.table.proofs.Turns.{Left, turns-start, turns-done, turn-wrong, turn-right}
+use Rattle.table.proofs.Turns.{Left}
 use Rattle.table.proofs.particle_rows.all.Given as goal
 
 abbrev pub invariant-loop-p : goal.invariant-loop-p

@@ -1,14 +1,9 @@
 -- `all_right`: after p turns the rows before p are right if the joints are.
-use Prim.Native.Nat.{◌-◌, ◌≤◌}
-use mathlib.Core.Path.{◌≡◌, sym}
-use borrow.Author.Tests.{not-false}
-use Rattle.numbers.specs.Limit.{most_name}
-use Rattle.table.specs.Words.{particle_at, word_at}
-use Rattle.table.specs.Valid.{particle_row}
+use mathlib.Core.Path.{sym}
+use Rattle.table.specs.Words.{particle_at}
 use Rattle.table.proofs.Lines.{particles-lined}
 use Rattle.table.proofs.Judging.{judged-turn, no-tells-nothing}
-use Rattle.table.proofs.Turns.{Left, turns-start, turns-done}
-use borrow.Author.Rules.{rules}
+use Rattle.table.proofs.Turns.{turns-start, turns-done}
 use Rattle.table.proofs.particle_rows.all_right.Goals as goal
 
 pub loop-p-init : goal.loop-p-init
@@ -20,7 +15,7 @@ returns-then-not-row_right c = no-tells-nothing
 pub loop-p-preserved : goal.loop-p-preserved
 loop-p-preserved c = λ s z.
     judged-turn (particle_at _ _) _ (particles-lined _ _ _ _) _ _ _ _ _ _ c.loop-p.invariant c.loop-p-test.true
-    (c.row_right.ensures (not-false _ c.if-not-row_right.false-raw)) s z
+    (c.row_right.ensures c.if-not-row_right.false) s z
 
 pub returns-then-small-gt-MOST_NAME : goal.returns-then-small-gt-MOST_NAME
 returns-then-small-gt-MOST_NAME c = no-tells-nothing

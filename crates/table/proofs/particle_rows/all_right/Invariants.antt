@@ -1,14 +1,10 @@
 -- `all_right`: after p turns the rows before p are right if the joints are.
 use Prim.Native.Nat.{◌-◌, ◌≤◌}
-use mathlib.Core.Path.{◌≡◌, sym}
-use borrow.Author.Tests.{not-false}
+use mathlib.Core.Path.{◌≡◌}
 use Rattle.numbers.specs.Limit.{most_name}
 use Rattle.table.specs.Words.{particle_at, word_at}
 use Rattle.table.specs.Valid.{particle_row}
-use Rattle.table.proofs.Lines.{particles-lined}
-use Rattle.table.proofs.Judging.{judged-turn, no-tells-nothing}
-use Rattle.table.proofs.Turns.{Left, turns-start, turns-done}
-use borrow.Author.Rules.{rules}
+use Rattle.table.proofs.Turns.{Left}
 use Rattle.table.proofs.particle_rows.all_right.Given as goal
 
 abbrev pub invariant-loop-p : goal.invariant-loop-p

@@ -1,7 +1,6 @@
 -- `group`: three tests, the first two of several parts.
 use Rattle.table.proofs.Tests.{test-ways}
 use Rattle.table.specs.Valid.{group_words}
-use borrow.Author.Rules.{rules}
 use Rattle.table.proofs.particle_rows.group.Goals as goal
 
 pub returns-then-start-p : goal.returns-then-start-p

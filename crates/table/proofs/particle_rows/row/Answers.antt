@@ -1,6 +1,5 @@
 -- `row`: the four words read, the verdict on them, and the row's own place added.
 use Rattle.table.proofs.OneRow.{particle-row-ways}
-use borrow.Author.Rules.{rules}
 use Rattle.table.proofs.particle_rows.row.Goals as goal
 
 pub overflow_add-place : goal.overflow_add-place

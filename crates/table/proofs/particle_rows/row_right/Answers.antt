@@ -1,7 +1,6 @@
 -- `row_right`: by the kind.
 use borrow.Author.Tests.{ltb-true, leb-true}
 use Rattle.table.proofs.Judging.{judging-ways, group-judged, no-tells-nothing}
-use borrow.Author.Rules.{rules}
 use Rattle.table.proofs.particle_rows.row_right.Goals as goal
 
 pub returns-then-kind-eq-ELEMENT : goal.returns-then-kind-eq-ELEMENT

@@ -1,4 +1,3 @@
-use borrow.Author.Rules.{rules}
 use Rattle.table.specs.Rows.{table_of}
 use Rattle.table.proofs.rows.derivations.Goals as goal
 

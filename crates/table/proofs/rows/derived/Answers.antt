@@ -1,4 +1,3 @@
-use borrow.Author.Rules.{rules}
 use native.Mathlib.Omega.{arith}
 use Rattle.table.proofs.Casts.{derived-listed}
 use Rattle.table.proofs.rows.derived.Goals as goal

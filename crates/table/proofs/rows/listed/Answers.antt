@@ -1,4 +1,3 @@
-use borrow.Author.Rules.{rules}
 use Rattle.table.proofs.Casts.{one-paired, one-alone}
 use Rattle.table.proofs.rows.listed.Goals as goal
 

@@ -1,7 +1,9 @@
-use borrow.Author.Rules.{rules}
 use native.Mathlib.Omega.{arith}
 use Rattle.table.proofs.Casts.{substitutes-listed}
 use Rattle.table.proofs.rows.substitutes.Goals as goal
 
-pub returns : goal.returns
-returns c = (search substitutes-listed, omega arith)
+pub returns-clause-listed : goal.returns-clause-listed
+returns-clause-listed c = search substitutes-listed
+
+pub returns-clause-small : goal.returns-clause-small
+returns-clause-small c = omega arith

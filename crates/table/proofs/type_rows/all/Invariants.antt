@@ -1,11 +1,8 @@
 -- `all`: after t turns the rows from t on are left.
 use Prim.Native.Nat.{◌-◌}
-use native.Mathlib.Omega.{arith}
-use borrow.Author.Rules.{rules}
 use Rattle.table.specs.Words.{type_at, word_at}
 use Rattle.table.specs.Valid.{type_row}
-use Rattle.table.proofs.Lines.{types-lined}
-use Rattle.table.proofs.Turns.{Left, turns-start, turns-done, turn-wrong, turn-right}
+use Rattle.table.proofs.Turns.{Left}
 use Rattle.table.proofs.type_rows.all.Given as goal
 
 abbrev pub invariant-loop-t : goal.invariant-loop-t

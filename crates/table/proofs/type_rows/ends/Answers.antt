@@ -1,6 +1,5 @@
 -- `ends`: b is free, and the gap tells whether c lies under it.
 use Rattle.table.proofs.Choices.{ends-ways}
-use borrow.Author.Rules.{rules}
 use Rattle.table.proofs.type_rows.ends.Goals as goal
 
 pub gap-requires : goal.gap-requires
