@@ -1,3 +1,2 @@
 mod Ways
-mod Held
 mod Laws
