@@ -28,10 +28,12 @@ ascend-le ends = omega arith
 ascend-le (goes l h a) = omega (arith, ascend-le a)
 
 among-from : {k m lo hi : ℕ} {s : State} {rs : List Row} → Ascend k m rs → Among (lo to hi leads s) rs → k ≤ lo
+among-from {lo = lo} {hi = hi} {s = s} (ends {k = k}) x5 = elim x5 [ ]
 among-from (goes l h a) here = l
 among-from (goes l h a) (there i) = omega (arith, among-from a i)
 
 look-among : {k m lo hi x : ℕ} {s : State} {rs : List Row} → Ascend k m rs → Among (lo to hi leads s) rs → In lo hi x → s ≡ look rs x
+look-among {lo = lo} {hi = hi} {s = s} (ends {k = k}) x13 w = elim x13 [ ]
 look-among (goes l h a) here w = look-here _ _ _ _ _ w.0 w.1
 look-among (goes l h a) (there i) w = look-past _ _ _ _ _ _ (look-among a i w) (omega (arith, among-from a i))
 

@@ -1,6 +1,4 @@
 -- The octets passed are printable.
-use Prim.Native.Nat.{◌-◌}
-use Rattle.utf8.specs.Slanted.{Passed}
 use Rattle.utf8.proofs.SlantedLaws.{passed_none, passed-one}
 use borrow.Author.Rules.{rules}
 use Rattle.utf8.proofs.ascii.by_ones.Goals as goal

@@ -1,8 +1,6 @@
 -- The octets passed are printable.
 use Prim.Native.Nat.{◌-◌}
 use Rattle.utf8.specs.Slanted.{Passed}
-use Rattle.utf8.proofs.SlantedLaws.{passed_none, passed-one}
-use borrow.Author.Rules.{rules}
 use Rattle.utf8.proofs.ascii.by_ones.Given as goal
 
 abbrev pub invariant-loop-i : goal.invariant-loop-i

@@ -1,7 +1,4 @@
 -- The octets passed are printable: the 16 from `at` on are, and those before `at` were passed.
-use Prim.Native.Nat.{◌-◌, ◌≤◌}
-use mathlib.Core.Path.{◌≡◌}
-use Rattle.utf8.specs.Slanted.{Passed}
 use Rattle.utf8.proofs.SlantedLaws.{passed_none, passed-sixteen}
 use borrow.Author.Rules.{rules}
 use Rattle.utf8.proofs.ascii.by_sixteens.Goals as goal

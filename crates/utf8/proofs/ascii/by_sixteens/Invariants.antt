@@ -2,8 +2,6 @@
 use Prim.Native.Nat.{◌-◌, ◌≤◌}
 use mathlib.Core.Path.{◌≡◌}
 use Rattle.utf8.specs.Slanted.{Passed}
-use Rattle.utf8.proofs.SlantedLaws.{passed_none, passed-sixteen}
-use borrow.Author.Rules.{rules}
 use Rattle.utf8.proofs.ascii.by_sixteens.Given as goal
 
 abbrev pub invariant-loop-i : goal.invariant-loop-i

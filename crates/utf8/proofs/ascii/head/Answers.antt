@@ -1,11 +1,10 @@
 -- The bits in front tell, where they are there: what is behind them makes no octet of 20 to 7F another.
 use native.Mathlib.Omega.{arith}
 use Rattle.utf8.proofs.SlantedLaws.{octet-head, octet-exact}
-use borrow.Author.Rules.{rules}
 use Rattle.utf8.proofs.ascii.head.Goals as goal
 
 pub returns-then-k-lt6 : goal.returns-then-k-lt6
-returns-then-k-lt6 c = octet-head _ c.shared_slice_known-then-k-lt6-1.given _ _ (omega arith)
+returns-then-k-lt6 c = octet-head _ c.type_inv.s _ _ (omega arith)
 
 pub returns : goal.returns
-returns c = octet-exact _ c.shared_slice_known-1.given _ _ _ c.octet.ensures
+returns c = octet-exact _ c.type_inv.s _ _ _ c.octet.ensures

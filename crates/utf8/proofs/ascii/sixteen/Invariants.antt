@@ -1,9 +1,6 @@
 -- So far all are printable, where `all` still says so.
 use Prim.Native.Nat.{◌-◌, ◌≤◌}
-use mathlib.Core.Logic.{⊎_elim}
-use native.Mathlib.Omega.{arith}
-use Rattle.utf8.proofs.SlantedLaws.{SoFar, so-far-none, so-far-not, so_far_more, so-far-all}
-use borrow.Author.Rules.{rules}
+use Rattle.utf8.proofs.SlantedLaws.{SoFar}
 use Rattle.utf8.proofs.ascii.sixteen.Given as goal
 
 abbrev pub invariant-loop-j : goal.invariant-loop-j

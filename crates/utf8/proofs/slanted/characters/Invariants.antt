@@ -1,8 +1,6 @@
 -- What is passed are whole characters.
 use Prim.Native.Nat.{◌-◌}
 use Rattle.utf8.specs.Slanted.{Went}
-use Rattle.utf8.proofs.SlantedLaws.{went-none, went-passed, went-more, pair-there}
-use borrow.Author.Rules.{rules}
 use Rattle.utf8.proofs.slanted.characters.Given as goal
 
 abbrev pub invariant-loop-k : goal.invariant-loop-k

@@ -9,8 +9,8 @@ pub returns-then-k-eq0 : goal.returns-then-k-eq0
 returns-then-k-eq0 c = search (rules, octet-whole)
 
 pub overflow_add-result : goal.overflow_add-result
-overflow_add-result c =     let a = c.args in
-    let bytes = c.shared_slice_known-3-1.given in
+overflow_add-result c = let a = c.args in
+    let bytes = c.type_inv.s in
     record { fits = joined-fits _ _ (bytes a.i).fits (bytes (a.i + 1)).fits a.k (omega arith) (omega arith) }
 
 pub returns : goal.returns

@@ -4,7 +4,6 @@ use mathlib.Core.Path.{refl}
 use native.Mathlib.Omega.{arith}
 use Rattle.utf8.proofs.Look.{refuted}
 use Rattle.utf8.proofs.SlantedLaws.{went-pair}
-use borrow.Author.Rules.{rules}
 use Rattle.utf8.proofs.slanted.pair.Goals as goal
 
 pub returns-then-to-i-lt2 : goal.returns-then-to-i-lt2
