@@ -7,12 +7,11 @@ use native.Mathlib.Omega.{arith}
 use borrow.Author.Tests.{le-leb, lt-leb, lt-ltb, le-ltb, eq-eqb, ne_eqb}
 use Rattle.numbers.specs.Simple as simple
 use Rattle.numbers.specs.Limit.{most_fixed, most_times, most_word, unbounded}
-use Rattle.signed.specs.Words.{Gap, gap_of}
+use Rattle.signed.specs.Words.{gap_of}
 use Rattle.signed.specs.Views.{gap_is}
 use Rattle.signed.proofs.Laws.{met_by, met-under}
 use Rattle.signed.specs.declared.answers.Gap as gap_t
 use Rattle.signed.specs.declared.answers.Gap.TheVariants.{Under, By}
-use Rattle.value.specs.Code.{Code}
 use Rattle.value.specs.Simple.{span_code, range_code, unbounded_code, bounded_code, times_code, simple_of}
 use Rattle.value.specs.Answer.{inner_is, code_is, form_is}
 use Rattle.value.specs.declared.Inner.TheVariants as iv

@@ -19,7 +19,7 @@ use Rattle.signed.specs.Views.{gap_is}
 use Rattle.signed.specs.declared.answers.Gap as gap_t
 use Rattle.signed.specs.declared.answers.Gap.TheVariants.{Under, By}
 use Rattle.value.specs.Code.{Code, choice, five, signed, stamp, choice_at, number_at, code_at}
-use Rattle.value.specs.Simple.{Simple, plain, text, dated, first_word, second_word, nothing, range_code, simple_of, simple_at, words_of}
+use Rattle.value.specs.Simple.{Simple, plain, dated, first_word, second_word, nothing, range_code, simple_of, simple_at, words_of}
 use Rattle.value.proofs.SimpleLaws.{bytes-none, words-got, words-fault}
 use Rattle.value.specs.Answer.{inner_is, code_is, form_is, value_is}
 use Rattle.value.proofs.FormWays.{range-under, range-near, range-far}

@@ -11,7 +11,6 @@ use mir.Syntax.{w32}
 use lib.ListN.{length, get_or, take, length-append}
 use lib.Seq.{take-suc, take_all}
 use Rattle.wire.specs.declared.Bits.{Bits}
-use Rattle.wire.specs.declared.Read.TheVariants as read
 use Rattle.wire.specs.Res.{Res, got, fault, ◌>>◌, guard}
 use Rattle.wire.proofs.Res.{tested-then, tested-fault}
 use Rattle.wire.specs.Bits.{bit_at, digits}

@@ -3,20 +3,8 @@ use borrow.Author.Rules.{rules}
 use Rattle.value.proofs.DateWays.{clock-ways}
 use Rattle.value.proofs.dates.clock.Goals as goal
 
-pub fixed-requires : goal.fixed-requires
-fixed-requires c = search (rules, clock-ways)
-
-pub enum_known-e : goal.enum_known-e
-enum_known-e c = search (rules, clock-ways)
-
-pub enum_known-ms : goal.enum_known-ms
-enum_known-ms c = search (rules, clock-ways)
-
 pub returns-then-ms-ge-DAY_MILLISECONDS : goal.returns-then-ms-ge-DAY_MILLISECONDS
 returns-then-ms-ge-DAY_MILLISECONDS c = search (rules, clock-ways)
-
-pub in_words-requires : goal.in_words-requires
-in_words-requires c = search (rules, clock-ways)
 
 pub returns-in-Refuse : goal.returns-in-Refuse
 returns-in-Refuse c = search (rules, clock-ways)

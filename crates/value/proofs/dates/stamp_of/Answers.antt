@@ -3,15 +3,6 @@ use borrow.Author.Rules.{rules}
 use Rattle.value.proofs.DateWays.{stamp-ways}
 use Rattle.value.proofs.dates.stamp_of.Goals as goal
 
-pub day_of-requires : goal.day_of-requires
-day_of-requires c = search (rules, stamp-ways)
-
-pub enum_told-1 : goal.enum_told-1
-enum_told-1 c = search (rules, stamp-ways)
-
-pub enum_known-days : goal.enum_known-days
-enum_known-days c = search (rules, stamp-ways)
-
 pub returns-then-ms-ge-DAY_MILLISECONDS : goal.returns-then-ms-ge-DAY_MILLISECONDS
 returns-then-ms-ge-DAY_MILLISECONDS c = search (rules, stamp-ways)
 

@@ -15,9 +15,6 @@ overflow_add-result-then-least-eq0 c = search (rules, bound-ways)
 pub returns-then-least-eq0 : goal.returns-then-least-eq0
 returns-then-least-eq0 c = search (rules, bound-ways)
 
-pub less-requires : goal.less-requires
-less-requires c = search (rules, bound-ways)
-
 pub overflow_add-result-2 : goal.overflow_add-result-2
 overflow_add-result-2 c = search (rules, bound-ways)
 

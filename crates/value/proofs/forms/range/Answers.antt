@@ -3,15 +3,6 @@ use Rattle.value.proofs.FormWays.{range-ways}
 use borrow.Author.Rules.{rules}
 use Rattle.value.proofs.forms.range.Goals as goal
 
-pub gap-requires : goal.gap-requires
-gap-requires c = search (rules, range-ways)
-
-pub enum_told-1 : goal.enum_told-1
-enum_told-1 c = search (rules, range-ways)
-
-pub enum_known-k : goal.enum_known-k
-enum_known-k c = search (rules, range-ways)
-
 pub overflow_add-result : goal.overflow_add-result
 overflow_add-result c = search (rules, range-ways)
 

@@ -3,9 +3,6 @@ use borrow.Author.Rules.{rules}
 use Rattle.value.proofs.FormWays.{simple-ways}
 use Rattle.value.proofs.forms.simple.Goals as goal
 
-pub range-requires : goal.range-requires
-range-requires c = search (rules, simple-ways)
-
 pub returns-in-0 : goal.returns-in-0
 returns-in-0 c = search (rules, simple-ways)
 

@@ -12,14 +12,8 @@ returns-then-least-gt-MOST_TIMES c = search (rules, times-ways)
 pub returns-then-most-gt-UNBOUNDED : goal.returns-then-most-gt-UNBOUNDED
 returns-then-most-gt-UNBOUNDED c = search (rules, times-ways)
 
-pub unbounded-requires : goal.unbounded-requires
-unbounded-requires c = search (rules, times-ways)
-
 pub returns-then-most-eq-UNBOUNDED : goal.returns-then-most-eq-UNBOUNDED
 returns-then-most-eq-UNBOUNDED c = search (rules, times-ways)
-
-pub bounded-requires : goal.bounded-requires
-bounded-requires c = search (rules, times-ways)
 
 pub returns : goal.returns
 returns c = search (rules, times-ways)

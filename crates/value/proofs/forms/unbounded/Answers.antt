@@ -6,8 +6,5 @@ use Rattle.value.proofs.forms.unbounded.Goals as goal
 pub returns-then-least-eq0 : goal.returns-then-least-eq0
 returns-then-least-eq0 c = search (rules, open-ways)
 
-pub less-requires : goal.less-requires
-less-requires c = search (rules, open-ways)
-
 pub returns : goal.returns
 returns c = search (rules, open-ways)

@@ -3,23 +3,8 @@ use Rattle.value.proofs.KindWays.{kind-ways}
 use borrow.Author.Rules.{rules}
 use Rattle.value.proofs.kinds.by_kind.Goals as goal
 
-pub choice-requires : goal.choice-requires
-choice-requires c = search (rules, kind-ways)
-
-pub ranged-requires : goal.ranged-requires
-ranged-requires c = search (rules, kind-ways)
-
-pub number-requires : goal.number-requires
-number-requires c = search (rules, kind-ways)
-
-pub signed_number-requires : goal.signed_number-requires
-signed_number-requires c = search (rules, kind-ways)
-
 pub choice-requires-in-4 : goal.choice-requires-in-4
 choice-requires-in-4 c = search (rules, kind-ways)
-
-pub fixed-requires : goal.fixed-requires
-fixed-requires c = search (rules, kind-ways)
 
 pub choice-requires-in_default : goal.choice-requires-in_default
 choice-requires-in_default c = search (rules, kind-ways)

@@ -3,9 +3,6 @@ use borrow.Author.Rules.{rules}
 use Rattle.value.proofs.KindWays.{date-ways}
 use Rattle.value.proofs.kinds.date.Goals as goal
 
-pub read-requires : goal.read-requires
-read-requires c = search (rules, date-ways)
-
 pub returns-then-simple-eq-DATE_TIME : goal.returns-then-simple-eq-DATE_TIME
 returns-then-simple-eq-DATE_TIME c = search (rules, date-ways)
 
@@ -14,15 +11,6 @@ read-requires-then-simple-eq-DATE c = search (rules, date-ways)
 
 pub returns-then-simple-eq-DATE : goal.returns-then-simple-eq-DATE
 returns-then-simple-eq-DATE c = search (rules, date-ways)
-
-pub choice-requires : goal.choice-requires
-choice-requires c = search (rules, date-ways)
-
-pub enum_known-e : goal.enum_known-e
-enum_known-e c = search (rules, date-ways)
-
-pub enum_known-v : goal.enum_known-v
-enum_known-v c = search (rules, date-ways)
 
 pub returns-in-Refuse : goal.returns-in-Refuse
 returns-in-Refuse c = search (rules, date-ways)

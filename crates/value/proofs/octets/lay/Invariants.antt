@@ -1,12 +1,9 @@
 -- The first i bytes stand.
 use Prim.Native.Nat.{◌+◌, ◌-◌, ◌*◌, ◌≤◌}
-use mathlib.Core.Path.{◌≡◌, refl}
-use native.Mathlib.Omega.{arith}
-use lib.ListN.{length, take, length-set}
+use mathlib.Core.Path.{◌≡◌}
+use lib.ListN.{length, take}
 use Rattle.wire.specs.Put.{Wrote}
 use Rattle.value.specs.Simple.{bytes}
-use Rattle.value.proofs.LayWays.{lay-start, lay-turn, lay-end}
-use borrow.Author.Rules.{rules}
 use Rattle.value.proofs.octets.lay.Given as goal
 
 abbrev pub invariant-loop-i : goal.invariant-loop-i

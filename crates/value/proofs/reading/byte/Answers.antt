@@ -4,4 +4,4 @@ use borrow.Author.Rules.{rules}
 use Rattle.value.proofs.reading.byte.Goals as goal
 
 pub returns : goal.returns
-returns c = search (rules, byte-found c.args.s.now c.shared_slice_known-1.given)
+returns c = search (rules, byte-found c.args.s.now c.type_inv.s)

@@ -3,18 +3,6 @@ use Rattle.value.proofs.ReadWays.{choice-ways}
 use borrow.Author.Rules.{rules}
 use Rattle.value.proofs.reading.choice.Goals as goal
 
-pub width-requires : goal.width-requires
-width-requires c = search (rules, choice-ways)
-
-pub fixed-requires : goal.fixed-requires
-fixed-requires c = search (rules, choice-ways)
-
-pub enum_known-e : goal.enum_known-e
-enum_known-e c = search (rules, choice-ways)
-
-pub enum_known-v : goal.enum_known-v
-enum_known-v c = search (rules, choice-ways)
-
 pub returns-then-v-n : goal.returns-then-v-n
 returns-then-v-n c = search (rules, choice-ways)
 

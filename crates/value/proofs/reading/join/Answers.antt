@@ -3,9 +3,6 @@ use Rattle.value.proofs.ReadWays.{join-ways}
 use borrow.Author.Rules.{rules}
 use Rattle.value.proofs.reading.join.Goals as goal
 
-pub with_sign-requires : goal.with_sign-requires
-with_sign-requires c = search (rules, join-ways)
-
 pub returns-then-magnitude-lt2147483648 : goal.returns-then-magnitude-lt2147483648
 returns-then-magnitude-lt2147483648 c = search (rules, join-ways)
 
@@ -17,9 +14,6 @@ returns-then-magnitude-gt2147483648 c = search (rules, join-ways)
 
 pub returns-then-magnitude-eq0 : goal.returns-then-magnitude-eq0
 returns-then-magnitude-eq0 c = search (rules, join-ways)
-
-pub with_sign-requires-2 : goal.with_sign-requires-2
-with_sign-requires-2 c = search (rules, join-ways)
 
 pub returns : goal.returns
 returns c = search (rules, join-ways)

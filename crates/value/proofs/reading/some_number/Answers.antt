@@ -3,26 +3,8 @@ use Rattle.value.proofs.ReadWays.{some-ways}
 use borrow.Author.Rules.{rules}
 use Rattle.value.proofs.reading.some_number.Goals as goal
 
-pub choice-requires : goal.choice-requires
-choice-requires c = search (rules, some-ways)
-
-pub enum_known-e : goal.enum_known-e
-enum_known-e c = search (rules, some-ways)
-
-pub enum_known-flag : goal.enum_known-flag
-enum_known-flag c = search (rules, some-ways)
-
 pub returns-then-flag-eq0 : goal.returns-then-flag-eq0
 returns-then-flag-eq0 c = search (rules, some-ways)
-
-pub inner-requires : goal.inner-requires
-inner-requires c = search (rules, some-ways)
-
-pub enum_known-e-in-Refuse-inner : goal.enum_known-e-in-Refuse-inner
-enum_known-e-in-Refuse-inner c = search (rules, some-ways)
-
-pub enum_known-v : goal.enum_known-v
-enum_known-v c = search (rules, some-ways)
 
 pub returns-then-v-eq0 : goal.returns-then-v-eq0
 returns-then-v-eq0 c = search (rules, some-ways)

@@ -13,9 +13,6 @@ overflow_mul-n c = search (rules, text-ways)
 pub returns-then-e-from-2 : goal.returns-then-e-from-2
 returns-then-e-from-2 c = search (rules, text-ways)
 
-pub text_fault-wrong-requires : goal.text_fault-wrong-requires
-text_fault-wrong-requires c = search (rules, text-ways)
-
 pub returns-then-wrong-gt0 : goal.returns-then-wrong-gt0
 returns-then-wrong-gt0 c = search (rules, text-ways)
 
@@ -26,4 +23,4 @@ pub overflow_add-q : goal.overflow_add-q
 overflow_add-q c = search (rules, text-ways)
 
 pub returns : goal.returns
-returns c =     way-text-read _ _ _ _ c.if-e-from.false c.if-e-from-2.false _ c.text_fault-wrong.ensures _ _ c.if-wrong-gt0.false refl refl
+returns c = way-text-read _ _ _ _ c.if-e-from.false c.if-e-from-2.false _ c.text_fault-wrong.ensures _ _ c.if-wrong-gt0.false refl refl

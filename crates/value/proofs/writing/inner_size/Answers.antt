@@ -3,20 +3,8 @@ use Rattle.value.proofs.WriteWays.{inner-size-ways}
 use borrow.Author.Rules.{rules}
 use Rattle.value.proofs.writing.inner_size.Goals as goal
 
-pub enum_known-i : goal.enum_known-i
-enum_known-i c = search (rules, inner-size-ways)
-
-pub width-requires : goal.width-requires
-width-requires c = search (rules, inner-size-ways)
-
 pub returns-then-v-n : goal.returns-then-v-n
 returns-then-v-n c = search (rules, inner-size-ways)
-
-pub enum_known-i-in-Five-1 : goal.enum_known-i-in-Five-1
-enum_known-i-in-Five-1 c = search (rules, inner-size-ways)
-
-pub size5-requires : goal.size5-requires
-size5-requires c = search (rules, inner-size-ways)
 
 pub returns-then-v-most : goal.returns-then-v-most
 returns-then-v-most c = search (rules, inner-size-ways)

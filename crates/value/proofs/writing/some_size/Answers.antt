@@ -6,15 +6,6 @@ use Rattle.value.proofs.writing.some_size.Goals as goal
 pub returns-then-v-eq0 : goal.returns-then-v-eq0
 returns-then-v-eq0 c = search (rules, some-size-ways)
 
-pub inner_size-requires : goal.inner_size-requires
-inner_size-requires c = search (rules, some-size-ways)
-
-pub enum_known-e : goal.enum_known-e
-enum_known-e c = search (rules, some-size-ways)
-
-pub enum_known-n : goal.enum_known-n
-enum_known-n c = search (rules, some-size-ways)
-
 pub overflow_add-more : goal.overflow_add-more
 overflow_add-more c = search (rules, some-size-ways)
 
