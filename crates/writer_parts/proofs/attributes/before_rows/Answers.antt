@@ -31,7 +31,7 @@ pub loop-i-smaller : goal.loop-i-smaller
 loop-i-smaller c = search (rules, before-rows-ways)
 
 pub loop-i-preserved : goal.loop-i-preserved
-loop-i-preserved c =     (search (rules, before-rows-ways), search (rules, before-rows-ways), search (rules, before-rows-ways), search (before-rows-again, c.loop-i.invariant.3, c.loop-i-test.true, c.slot_at-z.ensures, c.part-r.ensures, c.r-1.given.1))
+loop-i-preserved c =     (search (rules, before-rows-ways), search (rules, before-rows-ways), search (rules, before-rows-ways), search (before-rows-again, c.loop-i.invariant.3, c.loop-i-test.true, c.slot_at-z.ensures, c.part-r.ensures, c.in-Go.is))
 
 pub returns : goal.returns
 returns c = search (rules, before-rows-ways)

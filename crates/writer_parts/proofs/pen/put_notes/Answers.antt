@@ -1,7 +1,6 @@
 -- The loop: the first i notes are drawn.
 use Prim.Native.Nat.{◌-◌, ◌≤◌}
 use mathlib.Core.Path.{◌≡◌, refl, ap, ◌∙◌}
-use mathlib.Core.Logic.{⊎_elim}
 use native.Mathlib.Omega.{arith}
 use lib.ListN.{length}
 use Rattle.writer_parts.specs.Notes.{spells}
@@ -9,6 +8,7 @@ use Rattle.writer_parts.specs.Pen.{Drawn}
 use Rattle.writer_parts.proofs.PenWays.{put-notes-ways, notes-turn, notes-pass}
 use borrow.Author.Rules.{rules}
 use Rattle.writer_parts.proofs.pen.put_notes.Goals as goal
+use Rattle.writer_parts.proofs.pen.put_notes.Goals.{then-x-gt0, else-x-gt0}
 
 pub begin-p-requires : goal.begin-p-requires
 begin-p-requires c = search (rules, put-notes-ways)
@@ -32,12 +32,17 @@ pub loop-i-smaller : goal.loop-i-smaller
 loop-i-smaller c = search (rules, put-notes-ways)
 
 pub loop-i-preserved : goal.loop-i-preserved
-loop-i-preserved c =     let l = c.loop-i in
+loop-i-preserved c =
+    let l = c.loop-i in
     let b = c.begin-p in
-    ⊎_elim
-    (λ w. (ap length w.5 ∙ w.2.kept.0 ∙ l.invariant.0, omega arith, rw (w.5, w.6) (notes-turn _ _ _ _ _ b.ensures _ c.requires.0 _ _ _ l.invariant.0 l.invariant.2 _ refl _ _ w.2.ensures)))
-    (λ w. (ap length w.1 ∙ l.invariant.0, omega arith, rw (w.1, w.2) (notes-pass _ _ _ _ _ b.ensures _ c.requires.0 _ _ _ l.invariant.0 l.invariant.2 _ refl w.0.left)))
-    c.if-x-gt0.branch
+    elim c.if-x-gt0.branch [
+      | then-x-gt0 w ↦
+          (ap length w.payload-is ∙ w.put_note-p.auto.payload ∙ l.invariant.0, omega arith,
+          rw (w.payload-is, w.p-is) (notes-turn _ _ _ _ _ b.ensures _ c.requires.0 _ _ _ l.invariant.0 l.invariant.2 _ refl _ _ w.put_note-p.ensures))
+      | else-x-gt0 w ↦
+          (ap length w.payload-is ∙ l.invariant.0, omega arith,
+          rw (w.payload-is, w.p-is) (notes-pass _ _ _ _ _ b.ensures _ c.requires.0 _ _ _ l.invariant.0 l.invariant.2 _ refl w.if-x-gt0.false))
+    ]
 
 pub end-requires : goal.end-requires
 end-requires c = search (rules, put-notes-ways)

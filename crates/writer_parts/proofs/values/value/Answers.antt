@@ -20,5 +20,4 @@ pub returns-in-Text : goal.returns-in-Text
 returns-in-Text c = search (rules, value-ways)
 
 pub returns-in-Dated : goal.returns-in-Dated
-returns-in-Dated c =     let small = (c.shared_slice_known-1.given (4 * c.args.c.event + 2)).fits in
-    search (rules, value-ways, small)
+returns-in-Dated c = search (rules, value-ways, (c.type_inv.events (4 * c.args.c.event + 2)).fits)
