@@ -212,14 +212,14 @@ module _ (L X : List ℕ) (c : Spot) (N : List ℕ) (r : Ready L X N c) (t : Lis
       typed = element-is ∙ g.out behind ∙ rw g.texts
 
       module _ (h : Bool) (e : h ≡ held_of t mode.party ty) where
-        pub element-unheld : not h ≡ true → Walks L X (element· t mode d name y) c N (Refuse not_held c.event) M
+        pub element-unheld : h ≡ false → Walks L X (element· t mode d name y) c N (Refuse not_held c.event) M
         unfolding allowed
-        element-unheld u = let f : h ≡ false = not-true h u in record { is = record { out = typed ∙ rw (← e, f, left_is); inside = r.inside } }
+        element-unheld f = record { is = record { out = typed ∙ rw (← e, f, left_is); inside = r.inside } }
 
-        module _ (v : not h ≡ false) (s : Judgement) (K : List ℕ) (i : Walks L X (inside· t mode d ty) f M s K) where
+        module _ (v : h ≡ true) (s : Judgement) (K : List ℕ) (i : Walks L X (inside· t mode d ty) f M s K) where
           held-is : element· t mode d name y (events_at L c.event) (texts_at X c.used) ≡ after
           unfolding allowed
-          held-is = let f : h ≡ true = not-false h v in typed ∙ rw (← e, f)
+          held-is = typed ∙ rw (← e, v)
 
           pub element-stop : (n at : ℕ) → s ≡ Refuse n at → Walks L X (element· t mode d name y) c N s K
           unfolding sealed
@@ -250,12 +250,6 @@ module _ (L X : List ℕ) (c : Spot) (N : List ℕ) (r : Ready L X N c) (t : Lis
                 earlier (Refuse n at) x = record { is = x.is }
 
 pub ruleset element-ways = (element-unlike, element-ready, element-next, element-word, element-uncast)
-
--- a content with another tag than that of particles
-pub no_rows : (f : content_t.Content → ℕ) → ((i : ℕ) → f (ov.Particles i) ≡ 2) → (o : content_t.Content) → (f o ≡ 0) ⊎ (f o ≡ 1) → (i : ℕ) → o ≡ ov.Particles i → ⊥
-no_rows f z o g i e =
-    let w : f o ≡ 2 = rw e (z i) in
-    absurd (elim g [ inl n ↦ omega (arith, w, n) | inr n ↦ omega (arith, w, n) ])
 
 -- inside an element: what stands before its rows, and then its content row, where it has one
 module _ (L X : List ℕ) (c : Spot) (N : List ℕ) (t : List ℕ) (mode : Mode) (d ty : ℕ) where

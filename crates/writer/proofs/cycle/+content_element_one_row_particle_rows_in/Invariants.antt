@@ -1,26 +1,11 @@
--- The cycle: each need by the ways of its function; the measure is the rows still allowed open.
-use Prim.Native.Nat.{ℕ, ◌<◌, ◌≤◌, ◌+◌, ◌-◌, ◌*◌}
-use mathlib.Core.Path.{◌≡◌, refl, ap, ◌∙◌}
-use mathlib.Core.Logic.{⊎_elim}
-use native.Mathlib.Omega.{arith}
+-- The measure is the rows still allowed open; the loop: what is walked from here on is what was to be walked from the first row on.
+use Prim.Native.Nat.{◌≤◌, ◌+◌, ◌-◌, ◌*◌}
+use mathlib.Core.Path.{◌≡◌}
 use lib.ListN.{length}
-use borrow.Author.Rules.{rules}
-use Rattle.writer_parts.specs.Walk.{events_at, texts_at, Ready, Walks, past}
-use denote.Enum.Declared
-use Rattle.table.specs.declared.answers.Content as contents
-use Rattle.table.specs.contracts.answers.Content as content-code
-use Rattle.table.proofs.RowsInside.{type-inside, particle-inside}
-use Rattle.model.specs.Modes.{types_by}
-use Rattle.writer_parts.specs.declared.Judgement.TheVariants.{Go}
-use Rattle.writer_parts.specs.Codes as codes_p
-use Rattle.writer_parts.specs.Opening.{row_choices}
-use Rattle.writer.specs.Meaning.{inside·, list·}
+use Rattle.writer_parts.specs.Walk.{events_at, texts_at, Ready}
+use Rattle.writer.specs.Meaning.{list·}
 use Rattle.writer_parts.proofs.Leads.{Leads}
-use Rattle.writer.proofs.CycleWays.{content-ways, element-ways, one-row-ways, particle-ways, rows-ways, left_r, row-chosen, cast-went, uncast-went, element-ready, element-uncast, element-unheld, element-stop, element-sealing, element-kept, element-go, inside-stop, inside-rows, inside-none, no_rows, content-row, rows-known, particle-fits}
-use Rattle.writer.proofs.GroupWays.{given-fits, aim-refused, target-type, target-owned, target-depth, target-ready, target-walked, run-within, run-ready, run-walked, run_none, opened-within, opened-walked}
-use Rattle.writer_parts.proofs.AttributeWays.{ready_on}
-use Rattle.writer.proofs.cycle.+content_element_one_row_particle_rows_in.{
-  statement,
+use Rattle.writer.proofs.CycleWays.{left_r}
 use Rattle.writer.proofs.cycle.+content_element_one_row_particle_rows_in.Given as goal
 
 abbrev pub decreases-content : goal.decreases-content

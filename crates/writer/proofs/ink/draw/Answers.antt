@@ -17,4 +17,4 @@ shape_of-payload c = c.put_notes.auto.payload ∙ simp length-set
 
 pub returns : goal.returns
 returns c =     let g = c.requires in
-    draw-done _ _ c.args.mode _ _ _ g.0 c.first-x.ensures g.1 _ _ c.put_notes.ensures c.put_notes.auto.payload (λ i. omega (arith, c.slice_known-2-1.given i))
+    draw-done _ _ c.args.mode _ _ _ g.0 c.first-x.ensures g.1 _ _ c.put_notes.ensures c.put_notes.auto.payload (λ i. omega (arith, c.type_inv.payload i))
