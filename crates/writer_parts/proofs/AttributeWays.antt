@@ -26,7 +26,7 @@ use Rattle.table.specs.declared.answers.Content as content_t
 use Rattle.table.specs.declared.answers.Content.TheVariants as ov
 use Rattle.table.specs.declared.answers.Span as span_t
 use Rattle.value.specs.Code.{choice}
-use Rattle.value.specs.Simple.{Simple, plain}
+use Rattle.value.specs.Simple.{plain}
 use Rattle.value.specs.Answer.{inner_is, code_is}
 use Rattle.value.proofs.WriteWays.{width_two}
 use Rattle.value.specs.declared.Inner.TheVariants as iv

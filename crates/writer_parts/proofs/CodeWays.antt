@@ -31,7 +31,7 @@ use Rattle.table.specs.Keeps.{TypesOk}
 use Rattle.table.specs.Views.{listed_at, Listed}
 use Rattle.table.proofs.CastLaws.{derived-ok, substitutes-ok}
 use Rattle.table.specs.declared.answers.TypeList.{TypeList}
-use Rattle.value.specs.Code.{bits_of, fits, code_out, word_less, Code, choice, some, shifted}
+use Rattle.value.specs.Code.{bits_of, fits, code_out, word_less, Code, choice, shifted}
 use Rattle.value.specs.Simple.{one_of}
 use Rattle.model.specs.Model.{Types, chosen, default_type, sends, codes}
 use Rattle.model.specs.Modes.{types_by}

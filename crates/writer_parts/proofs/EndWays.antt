@@ -10,9 +10,7 @@ use Rattle.numbers.specs.Kind as kinds
 use Rattle.numbers.specs.Limit.{most_events}
 use Rattle.wire.specs.Bits.{digits}
 use Rattle.wire.specs.declared.Coded.{Coded}
-use Rattle.value.specs.Code.{fits}
 use Rattle.model.specs.Write.{wrote, as_end, head_out, length_of, sealed}
-use Rattle.model.specs.Model.{end}
 use Rattle.model.specs.Modes.{lengths_is}
 use Rattle.model.specs.declared.Lengths as lengths_t
 use Rattle.writer_parts.specs.declared.Spot.{Spot}

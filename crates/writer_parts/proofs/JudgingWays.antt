@@ -12,7 +12,6 @@ use Rattle.numbers.specs.Refusal.{no_reading}
 use Rattle.numbers.specs.Kind as kinds
 use Rattle.numbers.specs.Limit.{most_events, most_text}
 use Rattle.wire.specs.Res.{Res, got, fault}
-use Rattle.value.specs.Code.{fits}
 use Rattle.model.specs.Write.{Bare, wrote, unlike, coded}
 use Rattle.writer_parts.specs.declared.Spot.{Spot}
 use Rattle.writer_parts.specs.declared.Judgement.TheVariants.{Go, Refuse}

@@ -1,11 +1,5 @@
 -- The loop: what is walked from here on is what was to be walked from the first slot on.
-use Prim.Native.Nat.{◌≤◌, ◌+◌, ◌-◌}
-use mathlib.Core.Path.{◌≡◌}
-use lib.ListN.{length}
-use Rattle.writer_parts.specs.Walk.{events_at, texts_at, Ready}
-use Rattle.writer_parts.specs.Parts.{values·}
-use Rattle.writer_parts.proofs.Leads.{Leads}
-use Rattle.writer_parts.proofs.AttributeWays.{before-rows-ways, before-rows-again, left}
+use Rattle.writer_parts.proofs.AttributeWays.{before-rows-ways, before-rows-again}
 use borrow.Author.Rules.{rules}
 use Rattle.writer_parts.proofs.attributes.before_rows.Goals as goal
 
@@ -31,7 +25,7 @@ pub loop-i-smaller : goal.loop-i-smaller
 loop-i-smaller c = search (rules, before-rows-ways)
 
 pub loop-i-preserved : goal.loop-i-preserved
-loop-i-preserved c =     (search (rules, before-rows-ways), search (rules, before-rows-ways), search (rules, before-rows-ways), search (before-rows-again, c.loop-i.invariant.3, c.loop-i-test.true, c.slot_at-z.ensures, c.part-r.ensures, c.in-Go.is))
+loop-i-preserved c = (search (rules, before-rows-ways), search (rules, before-rows-ways), search (rules, before-rows-ways), search (before-rows-again, c.loop-i.invariant.3, c.loop-i-test.true, c.slot_at-z.ensures, c.part-r.ensures, c.in-Go.is))
 
 pub returns : goal.returns
 returns c = search (rules, before-rows-ways)

@@ -5,8 +5,7 @@ use lib.ListN.{length}
 use Rattle.writer_parts.specs.Walk.{events_at, texts_at, Ready}
 use Rattle.writer_parts.specs.Parts.{values·}
 use Rattle.writer_parts.proofs.Leads.{Leads}
-use Rattle.writer_parts.proofs.AttributeWays.{before-rows-ways, before-rows-again, left}
-use borrow.Author.Rules.{rules}
+use Rattle.writer_parts.proofs.AttributeWays.{left}
 use Rattle.writer_parts.proofs.attributes.before_rows.Given as goal
 
 abbrev pub invariant-loop-i : goal.invariant-loop-i

@@ -23,13 +23,13 @@ pub returns-then-q-eq0 : goal.returns-then-q-eq0
 returns-then-q-eq0 c = search (rules, note-attribute-ways)
 
 pub keep-requires : goal.keep-requires
-keep-requires c =     kind-room _ _ _ _ _ _ c.requires c.unlike_kind-bad.ensures c.if-bad-gt0.false
+keep-requires c = kind-room _ _ _ _ _ _ c.requires c.unlike_kind-bad.ensures c.if-bad-gt0.false
 
 pub returns-then-must : goal.returns-then-must
 returns-then-must c = search (rules, note-attribute-ways)
 
 pub keep-requires-2 : goal.keep-requires-2
-keep-requires-2 c =     kind-room _ _ _ _ _ _ c.requires c.unlike_kind-bad.ensures c.if-bad-gt0.false
+keep-requires-2 c = kind-room _ _ _ _ _ _ c.requires c.unlike_kind-bad.ensures c.if-bad-gt0.false
 
 pub returns : goal.returns
 returns c = search (rules, note-attribute-ways)

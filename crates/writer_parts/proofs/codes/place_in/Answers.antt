@@ -1,6 +1,5 @@
 -- The loop: the first i types of the list are passed, and p is none of them.
-use Prim.Native.Nat.{◌≤◌, ◌-◌}
-use Rattle.writer_parts.proofs.CodeWays.{Passed, place-ways}
+use Rattle.writer_parts.proofs.CodeWays.{place-ways}
 use borrow.Author.Rules.{rules}
 use Rattle.writer_parts.proofs.codes.place_in.Goals as goal
 

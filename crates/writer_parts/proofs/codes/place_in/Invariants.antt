@@ -1,7 +1,6 @@
 -- The loop: the first i types of the list are passed, and p is none of them.
 use Prim.Native.Nat.{◌≤◌, ◌-◌}
-use Rattle.writer_parts.proofs.CodeWays.{Passed, place-ways}
-use borrow.Author.Rules.{rules}
+use Rattle.writer_parts.proofs.CodeWays.{Passed}
 use Rattle.writer_parts.proofs.codes.place_in.Given as goal
 
 abbrev pub invariant-loop-i : goal.invariant-loop-i

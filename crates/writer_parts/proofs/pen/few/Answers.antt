@@ -1,10 +1,5 @@
 -- The loop: the first i bytes are the number x.
-use Prim.Native.Nat.{◌-◌, ◌*◌, ◌^◌, ◌<◌, ◌≤◌}
-use mathlib.Core.Path.{◌≡◌}
 use native.Mathlib.Omega.{arith}
-use lib.ListN.{take, drop}
-use Rattle.wire.specs.Bits.{digits}
-use Rattle.value.specs.Simple.{bytes}
 use Rattle.writer_parts.proofs.PenWays.{few-ways, few-small, few-turn}
 use borrow.Author.Rules.{rules}
 use Rattle.writer_parts.proofs.pen.few.Goals as goal
@@ -19,7 +14,7 @@ pub overflow_add-x : goal.overflow_add-x
 overflow_add-x c = search (rules, few-ways)
 
 pub loop-i-preserved : goal.loop-i-preserved
-loop-i-preserved c =     let l = c.loop-i in
+loop-i-preserved c = let l = c.loop-i in
     let a = c.args in
     (omega arith, search (rules, few-small), few-turn a.texts.now a.from l.i l.x _ l.invariant.2 c.wide.ensures.0 c.wide.ensures.1 (omega arith))
 

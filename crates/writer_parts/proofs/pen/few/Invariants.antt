@@ -1,12 +1,9 @@
 -- The loop: the first i bytes are the number x.
 use Prim.Native.Nat.{◌-◌, ◌*◌, ◌^◌, ◌<◌, ◌≤◌}
 use mathlib.Core.Path.{◌≡◌}
-use native.Mathlib.Omega.{arith}
 use lib.ListN.{take, drop}
 use Rattle.wire.specs.Bits.{digits}
 use Rattle.value.specs.Simple.{bytes}
-use Rattle.writer_parts.proofs.PenWays.{few-ways, few-small, few-turn}
-use borrow.Author.Rules.{rules}
 use Rattle.writer_parts.proofs.pen.few.Given as goal
 
 abbrev pub invariant-loop-i : goal.invariant-loop-i

@@ -1,10 +1,7 @@
 -- The loop: the first i notes are drawn.
-use Prim.Native.Nat.{◌-◌, ◌≤◌}
-use mathlib.Core.Path.{◌≡◌, refl, ap, ◌∙◌}
+use mathlib.Core.Path.{refl, ap, ◌∙◌}
 use native.Mathlib.Omega.{arith}
 use lib.ListN.{length}
-use Rattle.writer_parts.specs.Notes.{spells}
-use Rattle.writer_parts.specs.Pen.{Drawn}
 use Rattle.writer_parts.proofs.PenWays.{put-notes-ways, notes-turn, notes-pass}
 use borrow.Author.Rules.{rules}
 use Rattle.writer_parts.proofs.pen.put_notes.Goals as goal
@@ -36,12 +33,16 @@ loop-i-preserved c =
     let l = c.loop-i in
     let b = c.begin-p in
     elim c.if-x-gt0.branch [
-      | then-x-gt0 w ↦
-          (ap length w.payload-is ∙ w.put_note-p.auto.payload ∙ l.invariant.0, omega arith,
-          rw (w.payload-is, w.p-is) (notes-turn _ _ _ _ _ b.ensures _ c.requires.0 _ _ _ l.invariant.0 l.invariant.2 _ refl _ _ w.put_note-p.ensures))
-      | else-x-gt0 w ↦
-          (ap length w.payload-is ∙ l.invariant.0, omega arith,
-          rw (w.payload-is, w.p-is) (notes-pass _ _ _ _ _ b.ensures _ c.requires.0 _ _ _ l.invariant.0 l.invariant.2 _ refl w.if-x-gt0.false))
+      | then-x-gt0 w ↦ (
+        ap length w.payload-is ∙ w.put_note-p.auto.payload ∙ l.invariant.0,
+        omega arith,
+        rw (w.payload-is, w.p-is) (notes-turn _ _ _ _ _ b.ensures _ c.requires.0 _ _ _ l.invariant.0 l.invariant.2 _ refl _ _ w.put_note-p.ensures),
+      )
+      | else-x-gt0 w ↦ (
+        ap length w.payload-is ∙ l.invariant.0,
+        omega arith,
+        rw (w.payload-is, w.p-is) (notes-pass _ _ _ _ _ b.ensures _ c.requires.0 _ _ _ l.invariant.0 l.invariant.2 _ refl w.if-x-gt0.false),
+      )
     ]
 
 pub end-requires : goal.end-requires

@@ -1,13 +1,9 @@
 -- The loop: the first i notes are drawn.
 use Prim.Native.Nat.{◌-◌, ◌≤◌}
-use mathlib.Core.Path.{◌≡◌, refl, ap, ◌∙◌}
-use mathlib.Core.Logic.{⊎_elim}
-use native.Mathlib.Omega.{arith}
+use mathlib.Core.Path.{◌≡◌}
 use lib.ListN.{length}
 use Rattle.writer_parts.specs.Notes.{spells}
 use Rattle.writer_parts.specs.Pen.{Drawn}
-use Rattle.writer_parts.proofs.PenWays.{put-notes-ways, notes-turn, notes-pass}
-use borrow.Author.Rules.{rules}
 use Rattle.writer_parts.proofs.pen.put_notes.Given as goal
 
 abbrev pub invariant-loop-i : goal.invariant-loop-i

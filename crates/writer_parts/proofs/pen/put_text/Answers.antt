@@ -1,9 +1,4 @@
 -- The loop: the first i bytes are drawn.
-use Prim.Native.Nat.{◌-◌, ◌≤◌}
-use mathlib.Core.Path.{◌≡◌}
-use lib.ListN.{length, take, drop}
-use Rattle.value.specs.Simple.{bytes}
-use Rattle.writer_parts.specs.Pen.{Drawn}
 use Rattle.writer_parts.proofs.PenWays.{text-pen-ways}
 use borrow.Author.Rules.{rules}
 use Rattle.writer_parts.proofs.pen.put_text.Goals as goal

@@ -4,8 +4,6 @@ use mathlib.Core.Path.{◌≡◌}
 use lib.ListN.{length, take, drop}
 use Rattle.value.specs.Simple.{bytes}
 use Rattle.writer_parts.specs.Pen.{Drawn}
-use Rattle.writer_parts.proofs.PenWays.{text-pen-ways}
-use borrow.Author.Rules.{rules}
 use Rattle.writer_parts.proofs.pen.put_text.Given as goal
 
 abbrev pub invariant-loop-i : goal.invariant-loop-i
