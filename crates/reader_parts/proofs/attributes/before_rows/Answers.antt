@@ -1,9 +1,9 @@
 -- What is left of the parts, at each turn, is what was asked for.
-use Prim.Native.Nat.{◌+◌, ◌-◌}
+use Prim.Native.Nat.{◌+◌, ◌-◌, ◌<◌}
 use mathlib.Core.Path.{◌≡◌, refl}
 use lib.ListN.{length}
 use Rattle.wire.specs.Bits.{bit_at}
-use Rattle.reader_parts.proofs.AttributeWays.{UpTo, Left, left-all, left-more, left-ways, inside-ways}
+use Rattle.reader_parts.proofs.AttributeWays.{UpTo, Left, left-all, left-more, left-ways, inside-ways, row_fits}
 use Rattle.reader_parts.specs.Parts.{before_rows}
 use borrow.Author.Rules.{rules}
 use Rattle.reader_parts.proofs.attributes.before_rows.Goals as goal
@@ -24,7 +24,9 @@ pub returns-in_default : goal.returns-in_default
 returns-in_default c = search (rules, left-ways)
 
 pub overflow_add-row : goal.overflow_add-row
-overflow_add-row c = search (rules, inside-ways)
+overflow_add-row c =
+    let k : c.loop-row.row + 1 < 4294967296 = row_fits _ c.requires.1 _ c.requires.2 _ c.span-rows.ensures _ c.loop-row-test.true in
+    search rules
 
 pub loop-row-preserved : goal.loop-row-preserved
 loop-row-preserved c = (search rules, search rules, search (rules, left-more))

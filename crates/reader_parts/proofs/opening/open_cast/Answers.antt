@@ -18,4 +18,4 @@ pub returns-in-Refuse-s : goal.returns-in-Refuse-s
 returns-in-Refuse-s c = search (rules, cast-ways)
 
 pub returns-in-Go : goal.returns-in-Go
-returns-in-Go c =     search (cast-open, c.choices_of-own.ensures, c.codes-k.ensures, c.k-in-As-1.given.1, c.held-held.ensures, c.begin-o.ensures, c.o-in-In-1.given.1, c.tell-s.ensures, c.s-in-Go-1.given.1)
+returns-in-Go c = search (cast-open, c.choices_of-own.ensures, c.codes-k.ensures, c.in-As.is, c.held-held.ensures, c.begin-o.ensures, c.in-In.is, c.tell-s.ensures, c.in-Go.is)

@@ -8,4 +8,4 @@ pub returns-then-room-m : goal.returns-then-room-m
 returns-then-room-m c = copied-not _ _ _ _ _ (omega (arith, c.room_left-room.ensures, c.if-room-m.true))
 
 pub returns : goal.returns
-returns c =     copied _ c.shared_slice_known-1.given _ _ _ _ _ _ c.move_octets.ensures
+returns c = copied _ c.type_inv.payload _ _ _ _ _ _ c.move_octets.ensures
