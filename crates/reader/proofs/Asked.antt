@@ -1,7 +1,6 @@
 -- What a function of the cycle asks, kept from call to call: by the table's laws, by the head's end, by the path.
 use Prim.Native.Nat.{ℕ, suc, ◌+◌, ◌-◌, ◌*◌, ◌<◌, ◌≤◌}
-use mathlib.Core.Path.{◌≡◌, sym, ◌∙◌, subst}
-use mathlib.Core.Logic.{◌⊎◌, inl, inr}
+use mathlib.Core.Path.{◌≡◌, refl, sym, ◌∙◌, subst}
 use mathlib.Core.List.{List}
 use mathlib.Core.Bool.{Bool, true, false}
 use native.Mathlib.Omega.{arith}
@@ -162,12 +161,12 @@ module _ (t s : List ℕ) (mode : Mode) (wall n d : ℕ) (h : Ready t s mode wal
 pub aim-element : (t s : List ℕ) (e : ℕ) (row : Row) (wall : ℕ) (c : Cursor) (E : List ℕ) (g : Aim) (E' : List ℕ) (y : Target) → Aims t s e row wall c E g E' → g ≡ aim.Element y → Aimed t e (aim.Element y)
 aim-element t s e row wall c E g E' y k f = subst (λ (q : Aim). Aimed t e q) f k.aimed
 
--- a row that is no element; f is the number of a row's case
-pub row-holds : (t : List ℕ) → verdict t ≡ right → (row : code·particle.Particle) → Fits (types_in t) (particles_in t) (row_is row) → (f : code·particle.Particle → ℕ) → ((a b c : ℕ) → f (Element a b c) ≡ 0) → (f row ≡ 1) ⊎ ((f row ≡ 2) ⊎ (f row ≡ 3))
+-- a row that is no element
+pub row-holds : (t : List ℕ) → verdict t ≡ right → (row : code·particle.Particle) → Fits (types_in t) (particles_in t) (row_is row) → ((a b c : ℕ) → row ≡ Element a b c → ⊥)
     → Holds (row_is row)
-row-holds t valid (Element a b c) fit f z k = absurd (elim k [ inl e ↦ omega (arith, z a b c, e) | inr (inl e) ↦ omega (arith, z a b c, e) | inr (inr e) ↦ omega (arith, z a b c, e) ])
-row-holds t valid (Sequence first m) fit f z k = tt
-row-holds t valid (Choice first m) fit f z k = let a = (counts-ok t valid).particles_few in omega arith
-row-holds t valid (Occurs child least most) fit f z k = tt
+row-holds t valid (Element a b c) fit z = absurd (z a b c refl)
+row-holds t valid (Sequence first m) fit z = tt
+row-holds t valid (Choice first m) fit z = let a = (counts-ok t valid).particles_few in omega arith
+row-holds t valid (Occurs child least most) fit z = tt
 
 pub ruleset asked-ways = (ready-row, ready-element, ready-end, type-held, party-few, content-row, content-inside, element-effective, branch_row, ready-pushed, path-open, path-row, ready-leaf, known-fits, known_step, known_owned, known-rest, entry_ready, entry_known, aim-known, ready-less)

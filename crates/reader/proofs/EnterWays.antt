@@ -1,7 +1,6 @@
 -- Each way into an element, up to its rows, as the code goes it.
 use Prim.Native.Nat.{ℕ, ◌-◌, ◌<◌}
 use mathlib.Core.Path.{◌≡◌, refl, sym, ap, ◌∙◌}
-use mathlib.Core.Logic.{◌⊎◌, inl, inr}
 use mathlib.Core.List.{List, ◌∷◌}
 use mathlib.Core.Bool.{Bool, true, false}
 use native.Mathlib.Omega.{arith}
@@ -73,17 +72,16 @@ module _ (s : Step) where
 
 pub ruleset filled-ways = (filled-go, filled-refuse)
 
--- an element with rows, case by case; f is the number of a row's case
+-- an element with rows, case by case
 module _ (c : Cursor) (i : ℕ) (coded : Bool) (body wall : Bits) where
   pub rows-sequence : (p : code·particle.Particle) (first n : ℕ) → p ≡ Sequence first n → entry_of c (first, 1, n, 1) coded body wall ≡ entry_of c (rows_of i (row_is p)) coded body wall
   rows-sequence p first n g = rw g
 
-  pub rows-one : (f : code·particle.Particle → ℕ) → ((a b : ℕ) → f (Sequence a b) ≡ 1) → (p : code·particle.Particle) → (f p ≡ 0) ⊎ ((f p ≡ 2) ⊎ (f p ≡ 3))
-      → entry_of c (i, 0, 1, 0) coded body wall ≡ entry_of c (rows_of i (row_is p)) coded body wall
-  rows-one f z (Element a b e) k = refl
-  rows-one f z (Sequence a b) k = absurd (elim k [ inl e ↦ omega (arith, z a b, e) | inr (inl e) ↦ omega (arith, z a b, e) | inr (inr e) ↦ omega (arith, z a b, e) ])
-  rows-one f z (Choice a b) k = refl
-  rows-one f z (Occurs a b e) k = refl
+  pub rows-one : (p : code·particle.Particle) → ((a b : ℕ) → p ≡ Sequence a b → ⊥) → entry_of c (i, 0, 1, 0) coded body wall ≡ entry_of c (rows_of i (row_is p)) coded body wall
+  rows-one (Element a b e) z = refl
+  rows-one (Sequence a b) z = absurd (z a b refl)
+  rows-one (Choice a b) z = refl
+  rows-one (Occurs a b e) z = refl
 
 module _ {A : Type 0} (x : Res A) (π : List ℕ) (at : ℕ) (k : A → Answer) where
   pub code-fault : (n : ℕ) → x ≡ fault n → code x π at k ≡ refused n at π
@@ -94,7 +92,7 @@ module _ {A : Type 0} (x : Res A) (π : List ℕ) (at : ℕ) (k : A → Answer) 
   unfolding code
   code_got a g = rw g
 
--- a content without rows; f is the number of a content's case
+-- a content without rows
 abbrev pub NoRows : table.Content → Type 0
 NoRows q = (i : ℕ) → q ≡ table.Content.particles i → ⊥
 
@@ -104,10 +102,10 @@ empty-rows i e = let b : ◌≡◌ {A = ℕ} 0 1 = cc in absurd (omega arith)
 simple-rows : (kind x y : ℕ) → NoRows (table.Content.simple kind x y)
 simple-rows kind x y i e = let b : ◌≡◌ {A = ℕ} 0 1 = cc in absurd (omega arith)
 
-pub no_rows : (f : code·content.Content → ℕ) → ((i : ℕ) → f (Particles i) ≡ 2) → (k : code·content.Content) → (f k ≡ 0) ⊎ (f k ≡ 1) → (q : table.Content) → content_is k ≡ q → NoRows q
-no_rows f z Empty g q e = rw (← e) empty-rows
-no_rows f z (Simple kind x y) g q e = rw (← e) (simple-rows kind x y)
-no_rows f z (Particles i) g q e = absurd (elim g [ inl n ↦ omega (arith, z i, n) | inr n ↦ omega (arith, z i, n) ])
+pub no_rows : (k : code·content.Content) → ((i : ℕ) → k ≡ Particles i → ⊥) → (q : table.Content) → content_is k ≡ q → NoRows q
+no_rows Empty z q e = rw (← e) empty-rows
+no_rows (Simple kind x y) z q e = rw (← e) (simple-rows kind x y)
+no_rows (Particles i) z q e = absurd (z i refl)
 
 -- an open element of a type: what stands before its rows was read
 module _ (t s : List ℕ) (mode : Mode) (wall : Bits) (ready : Ready t s mode wall.0 0 0) (ty : ℕ) (known : ty < types_in t) (coded : Bool) (body : ℕ) (c : Cursor) (E T : List ℕ)

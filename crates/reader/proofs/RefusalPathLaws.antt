@@ -1,7 +1,6 @@
 -- A walk's answer as a step with the path that is to be told: by the walk itself, or by who opened the innermost element.
 use Prim.Native.Nat.{ℕ, ◌+◌, ◌<◌, ◌≤◌}
 use mathlib.Core.Path.{◌≡◌, refl, ◌∙◌}
-use mathlib.Core.Logic.{◌⊎◌, inl, inr}
 use mathlib.Core.List.{List, ◌∷◌}
 use native.Mathlib.Omega.{arith}
 use native.Mathlib.Decide.{ℕ_discrete}
@@ -20,16 +19,16 @@ use Rattle.reader.specs.declared.refusal_path.Walk.{Walk}
 use Rattle.reader.specs.declared.refusal_path.Walk.TheVariants.{Go, Refuse, Told}
 use Rattle.reader.specs.RefusalPath.{walks, step_of, view, Named}
 
--- a walk that did not go on; f is the number of a walk's case
+-- a walk that did not go on
 pub record Stopped (w : Walk) : Type 0 where
   pub number : ℕ
   pub place : Bits
   pub refused : step_of w ≡ step·is.Refuse number place
 
-pub stopped : (f : Walk → ℕ) → ((c : Cursor) → f (Go c) ≡ 0) → (w : Walk) → (f w ≡ 1) ⊎ (f w ≡ 2) → Stopped w
-stopped f z (Go c) h = absurd (elim h [ inl e ↦ omega (arith, z c, e) | inr e ↦ omega (arith, z c, e) ])
-stopped f z (Refuse n at) h = record { number = n; place = at; refused = refl }
-stopped f z (Told n at k) h = record { number = n; place = at; refused = refl }
+pub stopped : (w : Walk) → ((c : Cursor) → w ≡ Go c → ⊥) → Stopped w
+stopped (Go c) z = absurd (z c refl)
+stopped (Refuse n at) z = record { number = n; place = at; refused = refl }
+stopped (Told n at k) z = record { number = n; place = at; refused = refl }
 
 -- a leaf speaks for every path
 pub leaf-view : (s : Step) (w : Walk) → w ≡ walks s → (π N E T : List ℕ) → view w π N E T ≡ step_view s π E T

@@ -4,7 +4,7 @@ use Rattle.reader.proofs.RootLaws.{entry-ways, verdict-right, zeros-cleared}
 use Rattle.reader.proofs.read.Goals as goal
 
 pub read_checked-requires : goal.read_checked-requires
-read_checked-requires c =     (search (verdict-right, c.check-v.ensures, c.enum_told-1.given.1), zeros-cleared c.args.events.now _ c.both.ensures.0, zeros-cleared c.args.texts.now _ c.both.ensures.1)
+read_checked-requires c = (search (verdict-right, c.check-v.ensures, c.in-Right.is), zeros-cleared c.args.events.now _ c.both.ensures.0, zeros-cleared c.args.texts.now _ c.both.ensures.1)
 
 pub returns-in-Wrong : goal.returns-in-Wrong
 returns-in-Wrong c = search (rules, entry-ways)

@@ -21,16 +21,13 @@ pub accepted-requires : goal.accepted-requires
 accepted-requires c = search (rules, root-ways)
 
 pub returns-then-ok : goal.returns-then-ok
-returns-then-ok c =     search (root-given, c.requires.0, c.requires.1, c.requires.3, c.requires.4, c.nowhere-path.ensures, c.particle-w.ensures, c.w-in-Go-1.given.1, c.padding-ok.ensures, c.if-ok.true, c.accepted.ensures)
+returns-then-ok c = search (root-given, c.requires.0, c.requires.1, c.requires.3, c.requires.4, c.nowhere-path.ensures, c.particle-w.ensures, c.in-Go.is, c.padding-ok.ensures, c.if-ok.true, c.accepted.ensures)
 
 pub returns-in-Refuse : goal.returns-in-Refuse
-returns-in-Refuse c =     search (root-refused, c.requires.0, c.requires.1, c.requires.3, c.requires.4, c.nowhere-path.ensures, c.particle-w.ensures, c.particle-w.auto.events, c.particle-w.auto.texts, c.w-1.given.1, c.both.ensures.0, c.both.ensures.1, c.refused.ensures)
-
-pub shape_of-events-in-Told : goal.shape_of-events-in-Told
-shape_of-events-in-Told c =     c.both-in-Told.auto.events ∙ c.particle-w.auto.events
+returns-in-Refuse c = search (root-refused, c.requires.0, c.requires.1, c.requires.3, c.requires.4, c.nowhere-path.ensures, c.particle-w.ensures, c.particle-w.auto.events, c.particle-w.auto.texts, c.in-Refuse.is, c.both.ensures.0, c.both.ensures.1, c.refused.ensures)
 
 pub returns-in-Told : goal.returns-in-Told
-returns-in-Told c =     search (root_told, c.requires.0, c.requires.1, c.requires.3, c.requires.4, c.nowhere-path.ensures, c.particle-w.ensures, c.particle-w.auto.events, c.particle-w.auto.texts, c.w-in-Told-1.given.1, c.both-in-Told.ensures.0, c.both-in-Told.ensures.1, c.path_from.ensures, c.refused-in-Told.ensures)
+returns-in-Told c = search (root_told, c.requires.0, c.requires.1, c.requires.3, c.requires.4, c.nowhere-path.ensures, c.particle-w.ensures, c.particle-w.auto.events, c.particle-w.auto.texts, c.in-Told.is, c.both-in-Told.ensures.0, c.both-in-Told.ensures.1, c.path_from.ensures, c.refused-in-Told.ensures)
 
 pub returns-else-ok : goal.returns-else-ok
-returns-else-ok c =     search (root-left, c.requires.0, c.requires.1, c.requires.3, c.requires.4, c.nowhere-path.ensures, c.particle-w.ensures, c.particle-w.auto.events, c.particle-w.auto.texts, c.w-in-Go-1.given.1, c.padding-ok.ensures, c.if-ok.false, c.both-in-Go.ensures.0, c.both-in-Go.ensures.1, c.refused-in-Go.ensures)
+returns-else-ok c = search (root-left, c.requires.0, c.requires.1, c.requires.3, c.requires.4, c.nowhere-path.ensures, c.particle-w.ensures, c.particle-w.auto.events, c.particle-w.auto.texts, c.in-Go.is, c.padding-ok.ensures, c.if-ok.false, c.both-in-Go.ensures.0, c.both-in-Go.ensures.1, c.refused-in-Go.ensures)

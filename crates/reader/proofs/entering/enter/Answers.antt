@@ -9,10 +9,10 @@ pub held-held-requires : goal.held-held-requires
 held-held-requires c = search (rules, asked-ways)
 
 pub open-o-requires : goal.open-o-requires
-open-o-requires c =     ((ready-end _ _ _ _ _ _ c.requires.0 _ _ _ _ _ _ c.head-h.ensures refl c.extent_of-r.ensures c.r-in-To-1.given.1).walls, c.requires.0.choosing, c.held-held.ensures)
+open-o-requires c = ((ready-end _ _ _ _ _ _ c.requires.0 _ _ _ _ _ _ c.head-h.ensures refl c.extent_of-r.ensures c.in-To.is).walls, c.requires.0.choosing, c.held-held.ensures)
 
 pub fill-requires : goal.fill-requires
-fill-requires c =     (ready-end _ _ _ _ _ _ c.requires.0 _ _ _ _ _ _ c.head-h.ensures refl c.extent_of-r.ensures c.r-in-To-1.given.1, element-effective _ _ _ _ _ _ c.requires.0 _ _ _ _ _ _ _ _ _ _ _ c.requires.1 c.requires.2 c.open-o.ensures c.o-in-In-1.given.1)
+fill-requires c = (ready-end _ _ _ _ _ _ c.requires.0 _ _ _ _ _ _ c.head-h.ensures refl c.extent_of-r.ensures c.in-To.is, element-effective _ _ _ _ _ _ c.requires.0 _ _ _ _ _ _ _ _ _ _ _ c.requires.1 c.requires.2 c.open-o.ensures c.in-In.is)
 
 pub returns-in-Wrong : goal.returns-in-Wrong
 returns-in-Wrong c = search (rules, enter-ways)
@@ -27,4 +27,4 @@ pub returns-in-Full : goal.returns-in-Full
 returns-in-Full c = search (rules, enter-ways)
 
 pub returns-in-In : goal.returns-in-In
-returns-in-In c =     enter-in _ _ _ _ _ _ _ _ _ _ c.head-h.ensures _ refl _ c.extent_of-r.ensures _ c.r-in-To-1.given.1 _ _ c.open-o.ensures _ _ _ _ c.o-in-In-1.given.1 c.fill.ensures
+returns-in-In c = enter-in _ _ _ _ _ _ _ _ _ _ c.head-h.ensures _ refl _ c.extent_of-r.ensures _ c.in-To.is _ _ c.open-o.ensures _ _ _ _ c.in-In.is c.fill.ensures
