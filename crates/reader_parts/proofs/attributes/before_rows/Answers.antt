@@ -1,10 +1,7 @@
 -- What is left of the parts, at each turn, is what was asked for.
-use Prim.Native.Nat.{◌+◌, ◌-◌, ◌<◌}
-use mathlib.Core.Path.{◌≡◌, refl}
-use lib.ListN.{length}
-use Rattle.wire.specs.Bits.{bit_at}
-use Rattle.reader_parts.proofs.AttributeWays.{UpTo, Left, left-all, left-more, left-ways, inside-ways, row_fits}
-use Rattle.reader_parts.specs.Parts.{before_rows}
+use Prim.Native.Nat.{◌+◌, ◌<◌}
+use mathlib.Core.Path.{refl}
+use Rattle.reader_parts.proofs.AttributeWays.{left-all, left-more, left-ways, inside-ways, row_fits}
 use borrow.Author.Rules.{rules}
 use Rattle.reader_parts.proofs.attributes.before_rows.Goals as goal
 

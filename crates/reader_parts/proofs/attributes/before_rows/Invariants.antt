@@ -1,11 +1,10 @@
 -- What is left of the parts, at each turn, is what was asked for.
 use Prim.Native.Nat.{◌+◌, ◌-◌}
-use mathlib.Core.Path.{◌≡◌, refl}
+use mathlib.Core.Path.{◌≡◌}
 use lib.ListN.{length}
 use Rattle.wire.specs.Bits.{bit_at}
-use Rattle.reader_parts.proofs.AttributeWays.{UpTo, Left, left-all, left-more, left-ways, inside-ways}
+use Rattle.reader_parts.proofs.AttributeWays.{UpTo, Left}
 use Rattle.reader_parts.specs.Parts.{before_rows}
-use borrow.Author.Rules.{rules}
 use Rattle.reader_parts.proofs.attributes.before_rows.Given as goal
 
 abbrev pub invariant-loop-row : goal.invariant-loop-row

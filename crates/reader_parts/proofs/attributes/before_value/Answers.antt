@@ -4,7 +4,7 @@ use borrow.Author.Rules.{rules}
 use Rattle.reader_parts.proofs.attributes.before_value.Goals as goal
 
 pub attribute-a-requires : goal.attribute-a-requires
-attribute-a-requires c =     search (rules, c.requires.2)
+attribute-a-requires c = search (rules, c.requires.2)
 
 pub returns-then-more : goal.returns-then-more
 returns-then-more c = search (rules, before-ways)

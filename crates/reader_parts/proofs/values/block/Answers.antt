@@ -1,12 +1,8 @@
 -- The octets are held, and then laid; those seen so far are printable, where `plain` still says so.
-use Prim.Native.Nat.{◌-◌, ◌≤◌}
-use mathlib.Core.Path.{◌≡◌, refl}
+use mathlib.Core.Path.{refl}
 use native.Mathlib.Omega.{arith}
-use lib.ListN.{length, length-set}
-use lib.Seq.{sets}
-use Rattle.utf8.specs.Slanted.{octets_at}
-use Rattle.utf8.proofs.SlantedLaws.{SoFar}
-use Rattle.reader_parts.proofs.TextWays.{Held, held_more, far_none, far-more, laid_none, block-ways}
+use lib.ListN.{length-set}
+use Rattle.reader_parts.proofs.TextWays.{held_more, far_none, far-more, laid_none, block-ways}
 use borrow.Author.Rules.{rules}
 use Rattle.reader_parts.proofs.values.block.Goals as goal
 
@@ -14,7 +10,7 @@ pub loop-j-init : goal.loop-j-init
 loop-j-init c = (refl, omega arith, (λ m h. absurd (omega arith)), far_none _ _ _)
 
 pub loop-j-preserved : goal.loop-j-preserved
-loop-j-preserved c =     let l = c.loop-j in
+loop-j-preserved c = let l = c.loop-j in
     let o = c.octet-x.ensures in (
       simp length-set (omega arith),
       omega arith,

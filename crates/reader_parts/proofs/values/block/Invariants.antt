@@ -1,13 +1,11 @@
 -- The octets are held, and then laid; those seen so far are printable, where `plain` still says so.
 use Prim.Native.Nat.{◌-◌, ◌≤◌}
-use mathlib.Core.Path.{◌≡◌, refl}
-use native.Mathlib.Omega.{arith}
-use lib.ListN.{length, length-set}
+use mathlib.Core.Path.{◌≡◌}
+use lib.ListN.{length}
 use lib.Seq.{sets}
 use Rattle.utf8.specs.Slanted.{octets_at}
 use Rattle.utf8.proofs.SlantedLaws.{SoFar}
-use Rattle.reader_parts.proofs.TextWays.{Held, held_more, far_none, far-more, laid_none, block-ways}
-use borrow.Author.Rules.{rules}
+use Rattle.reader_parts.proofs.TextWays.{Held}
 use Rattle.reader_parts.proofs.values.block.Given as goal
 
 abbrev pub invariant-loop-j : goal.invariant-loop-j

@@ -1,7 +1,6 @@
 -- No room for the bytes, or they are moved.
 use native.Mathlib.Omega.{arith}
 use Rattle.reader_parts.proofs.TextWays.{copied, copied-not}
-use borrow.Author.Rules.{rules}
 use Rattle.reader_parts.proofs.values.copy.Goals as goal
 
 pub returns-then-room-m : goal.returns-then-room-m

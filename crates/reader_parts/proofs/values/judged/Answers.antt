@@ -1,6 +1,5 @@
 -- It is known that nothing is, or the bytes are judged.
 use Rattle.reader_parts.proofs.TextWays.{judged-fine}
-use borrow.Author.Rules.{rules}
 use Rattle.reader_parts.proofs.values.judged.Goals as goal
 
 pub returns-then-fine : goal.returns-then-fine

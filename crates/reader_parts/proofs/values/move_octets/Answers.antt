@@ -1,11 +1,6 @@
 -- The octets that are laid so far are the first j: the 16 from `at` on are, and those before `at` were.
-use Prim.Native.Nat.{◌-◌, ◌≤◌}
-use mathlib.Core.Path.{◌≡◌, refl}
+use mathlib.Core.Path.{refl}
 use native.Mathlib.Omega.{arith}
-use lib.ListN.{length}
-use lib.Seq.{sets}
-use Rattle.utf8.specs.Slanted.{octets_at}
-use Rattle.utf8.proofs.SlantedLaws.{SoFar}
 use Rattle.reader_parts.proofs.TextWays.{far_none, far-all, far-block, laid_none, laid-all, laid-block}
 use borrow.Author.Rules.{rules}
 use Rattle.reader_parts.proofs.values.move_octets.Goals as goal
@@ -14,7 +9,7 @@ pub loop-j-init : goal.loop-j-init
 loop-j-init c = (refl, omega arith, omega arith, omega arith, laid_none _ _ _ _ _, far_none _ _ _)
 
 pub loop-j-preserved : goal.loop-j-preserved
-loop-j-preserved c =     let l = c.loop-j in
+loop-j-preserved c = let l = c.loop-j in
     let m = c.block-in-loop-j.ensures in (
       search rules,
       search rules,
@@ -25,5 +20,5 @@ loop-j-preserved c =     let l = c.loop-j in
     )
 
 pub returns : goal.returns
-returns c =     let l = c.loop-j in
+returns c = let l = c.loop-j in
     laid-all _ _ _ l.j _ _ _ _ l.plain (omega arith) (omega arith) l.invariant.4 (far-all _ _ _ l.j _ l.plain (omega arith) l.invariant.5)

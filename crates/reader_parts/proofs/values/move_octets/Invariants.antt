@@ -1,13 +1,10 @@
 -- The octets that are laid so far are the first j: the 16 from `at` on are, and those before `at` were.
 use Prim.Native.Nat.{◌-◌, ◌≤◌}
-use mathlib.Core.Path.{◌≡◌, refl}
-use native.Mathlib.Omega.{arith}
+use mathlib.Core.Path.{◌≡◌}
 use lib.ListN.{length}
 use lib.Seq.{sets}
 use Rattle.utf8.specs.Slanted.{octets_at}
 use Rattle.utf8.proofs.SlantedLaws.{SoFar}
-use Rattle.reader_parts.proofs.TextWays.{far_none, far-all, far-block, laid_none, laid-all, laid-block}
-use borrow.Author.Rules.{rules}
 use Rattle.reader_parts.proofs.values.move_octets.Given as goal
 
 abbrev pub invariant-loop-j : goal.invariant-loop-j

@@ -17,5 +17,5 @@ pub returns-then-room-m : goal.returns-then-room-m
 returns-then-room-m c = search (rules, after-ways)
 
 pub returns : goal.returns
-returns c =     text-kept _ _ _ _ _ _ _ c.if-e-from.false c.if-e-from-2.false _ c.judged-wrong.ensures _ c.if-wrong-gt0.false _ c.room_left-room.ensures _ _ _ _ _
+returns c = text-kept _ _ _ _ _ _ _ c.if-e-from.false c.if-e-from-2.false _ c.judged-wrong.ensures _ c.if-wrong-gt0.false _ c.room_left-room.ensures _ _ _ _ _
     c.if-room-m.false refl refl refl refl c.copy-fine.ensures c.store.ensures
