@@ -10,7 +10,6 @@ use lib.ListN.{length, take, drop}
 use Rattle.numbers.specs.Refusal as refusal
 use Rattle.numbers.specs.Refusal.{accepted}
 use Rattle.numbers.specs.Limit.{most_table_words}
-use Rattle.table.specs.First.{Verdict}
 use Rattle.table.specs.Valid.{verdict}
 use Rattle.table.specs.Views.{verdict_is}
 use Rattle.table.specs.declared.answers.Verdict as code

@@ -7,7 +7,7 @@ use Rattle.numbers.specs.Kind as kinds
 use Rattle.numbers.specs.Limit.{most_events, most_name, most_payload, parties}
 use Rattle.numbers.specs.Mode as modes
 use Rattle.numbers.specs.Mode.{never_byte, optional_byte}
-use Rattle.wire.specs.Res.{Res, got, fault, ◌>>=◌, ◌>>◌, at_most}
+use Rattle.wire.specs.Res.{Res, got, fault, ◌>>◌, at_most}
 use Rattle.wire.specs.Bits.{bit_at}
 use Rattle.table.specs.First.{Verdict}
 use Rattle.table.specs.First.Verdict.{right, wrong}

@@ -15,7 +15,7 @@ use Rattle.model.specs.Whole.{Reply}
 use Rattle.model.specs.Whole.Reply.{accepted, declined}
 use Rattle.theorems.proofs.Reader.{reading-sound}
 use Rattle.report.specs.Places.{numbers, stopped, total_bits, mode_bits, padding_bits, answered, answers, other, first_line, lines}
-use Rattle.report.specs.Report.{Sort, at, plus, named, line_from, line_of, sort_of, innermost, outer, line_for, bits_to, met, open_after, counted, counted_then, counts, accepts, refuses, sums, added}
+use Rattle.report.specs.Report.{Sort, at, plus, line_from, line_of, sort_of, innermost, outer, line_for, bits_to, met, open_after, counted, counted_then, counts, accepts, refuses, sums, added}
 use Rattle.report.specs.Report.Sort.{begins, blank, ends, inside}
 use Rattle.report.specs.Sums.{Line, Lines}
 use Rattle.report.specs.Owners.{innermost_is, owner_is, owned_by, met_once, met_by, blanked_once, blanked_by, tree_owned, noted, noted_if, notes, place_from, place_of}

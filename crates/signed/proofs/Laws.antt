@@ -8,7 +8,7 @@ use lib.Dec.{ltb}
 use borrow.Author.Tests.{lt-ltb, le-ltb, ltb-true, ltb-false}
 use Rattle.signed.specs.declared.answers.Gap as code
 use Rattle.signed.specs.declared.answers.Gap.TheVariants.{Under, By}
-use Rattle.signed.specs.Words.{rank, Gap, under, by, gap_of, down, sign_of, magnitude_of, word_of}
+use Rattle.signed.specs.Words.{rank, under, by, gap_of, down, sign_of, magnitude_of, word_of}
 use Rattle.signed.specs.Views.{gap_is, bit, Parts}
 
 -- two numbers stand in one of two orders

@@ -1,6 +1,6 @@
 -- Demand 3, first half, clause by clause: the first refuses exactly when some outermost newly held element has no length, and then with 9 at the first
 -- such element; otherwise its list is the second's with each of them replaced.
-use Prim.Native.Nat.{ℕ, ◌+◌}
+use Prim.Native.Nat.{ℕ}
 use mathlib.Core.Path.{◌≡◌, refl, sym, ap, ◌∙◌}
 use mathlib.Core.List.{List, [], ◌∷◌, ◌++◌, reverse}
 use mathlib.Core.Bool.{Bool, true, false}

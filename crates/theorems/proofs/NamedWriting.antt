@@ -16,7 +16,7 @@ use Rattle.model.specs.Entries.{plan_of}
 use Rattle.model.specs.Items.{Mode}
 use Rattle.model.specs.Write as out
 use Rattle.model.specs.Pack.{pack}
-use Rattle.model.specs.Whole.{mode_byte, mode_number, modes_for, payload, asked, Made, made, unmade, roomed, spent, mode_asked, shaped, events_from, written, or_unmade, verdict_made, writing, outcome_made}
+use Rattle.model.specs.Whole.{mode_byte, mode_number, modes_for, asked, Made, made, unmade, roomed, spent, mode_asked, shaped, events_from, written, or_unmade, verdict_made, writing, outcome_made}
 use Rattle.model.proofs.Named.{Named}
 use Rattle.theorems.proofs.WriteSound.{write-is}
 use Rattle.theorems.proofs.NamedReading.{by-named, asked-named}

@@ -13,7 +13,7 @@ use Rattle.wire.specs.Lawful.{Binary}
 use Rattle.table.specs.Rows.{Row, Content, Attribute, Table}
 use Rattle.table.specs.Rows.Content.{empty, simple, particles}
 use Rattle.model.specs.Model.{Plan, Nodes, Path, tree_slots, tree_bytes, value, maybe, attribute, attributes, contents, rows, within, due, plan}
-use Rattle.model.specs.Model.Plan.{done, element}
+use Rattle.model.specs.Model.Plan.{done}
 use Rattle.model.specs.Model.Answer.{given}
 use Rattle.model.specs.Items.{Lengths}
 use Rattle.model.specs.Grammar.{Is, nothing, an_item, an_element, a_blank}

@@ -78,7 +78,6 @@ module _ (mode : Lengths) (held : ℕ → Bool) where
         tree = ap (leaf at (event kinds.blank name t (length all)) []) s.tree;
         bits = ap (λ (l : List ℕ). all ++ l) s.bits ∙ sym (append_assoc all s.w s.x);
       }
-
   -- nothing stands where nothing more may come; and nothing is a row too many
   is-split deep i = elim i [ ]
 

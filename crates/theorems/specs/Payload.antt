@@ -1,5 +1,5 @@
 -- What a whole payload is: mode byte, bits, padding; and what the reading replies to it.
-use Rattle.std.specs.Prelude.{ℕ, zero, ◌+◌, ◌*◌, ◌<◌, ◌≤◌, ◌≡◌, Bool, true, List, length, get_or}
+use Rattle.std.specs.Prelude.{ℕ, ◌+◌, ◌*◌, ◌<◌, ◌≤◌, ◌≡◌, Bool, true, List, length, get_or}
 use Rattle.numbers.specs.Limit.{most_payload}
 use Rattle.wire.specs.Bits.{bit_at}
 use Rattle.model.specs.Model.{Plan, Nodes}

@@ -2,10 +2,7 @@
 use Prim.Native.Nat.{◌-◌, ◌≤◌}
 use mathlib.Core.Path.{◌≡◌}
 use mathlib.Core.List.{◌++◌}
-use native.Mathlib.Omega.{arith}
-use lib.ListN.{length, drop, replicate, length-set}
-use Rattle.buffers.proofs.Loops.{cleared_more, cleared-all}
-use borrow.Author.Rules.{rules}
+use lib.ListN.{length, drop, replicate}
 use Rattle.buffers.proofs.clear.Given as goal
 
 abbrev pub invariant-loop-i : goal.invariant-loop-i

@@ -1,11 +1,7 @@
 -- `clear_words`: zeros up to i.
-use Prim.Native.Nat.{◌-◌, ◌≤◌}
-use mathlib.Core.Path.{◌≡◌}
-use mathlib.Core.List.{◌++◌}
 use native.Mathlib.Omega.{arith}
-use lib.ListN.{length, drop, replicate, length-set}
+use lib.ListN.{length-set}
 use Rattle.buffers.proofs.Loops.{cleared_more, cleared-all}
-use borrow.Author.Rules.{rules}
 use Rattle.buffers.proofs.clear_words.Goals as goal
 
 pub loop-i-preserved : goal.loop-i-preserved

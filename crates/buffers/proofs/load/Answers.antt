@@ -1,13 +1,12 @@
 -- `load`: the words passed are those of the bytes, and nothing else has changed; eight a round, then one.
-use Prim.Native.Nat.{◌+◌, ◌-◌, ◌%◌, ◌≤◌}
+use Prim.Native.Nat.{◌+◌}
 use mathlib.Core.Path.{◌≡◌, refl, ap, ◌∙◌}
 use mathlib.Core.List.{◌++◌}
 use native.Mathlib.Omega.{arith}
-use lib.ListN.{length, take, drop, length-set}
+use lib.ListN.{take, length-set}
 use Rattle.buffers.specs.Bytes.{words_of}
 use Rattle.buffers.proofs.BytesLaws.{words-front}
 use Rattle.buffers.proofs.Loops.{loaded-more, loaded-two, behind, begun}
-use borrow.Author.Rules.{rules}
 use Rattle.buffers.proofs.load.Goals as goal
 
 pub loop-i-preserved : goal.loop-i-preserved

@@ -1,13 +1,9 @@
 -- `load`: the words passed are those of the bytes, and nothing else has changed; eight a round, then one.
-use Prim.Native.Nat.{◌+◌, ◌-◌, ◌%◌, ◌≤◌}
-use mathlib.Core.Path.{◌≡◌, refl, ap, ◌∙◌}
+use Prim.Native.Nat.{◌-◌, ◌%◌, ◌≤◌}
+use mathlib.Core.Path.{◌≡◌}
 use mathlib.Core.List.{◌++◌}
-use native.Mathlib.Omega.{arith}
-use lib.ListN.{length, take, drop, length-set}
+use lib.ListN.{length, take, drop}
 use Rattle.buffers.specs.Bytes.{words_of}
-use Rattle.buffers.proofs.BytesLaws.{words-front}
-use Rattle.buffers.proofs.Loops.{loaded-more, loaded-two, behind, begun}
-use borrow.Author.Rules.{rules}
 use Rattle.buffers.proofs.load.Given as goal
 
 abbrev pub invariant-loop-i : goal.invariant-loop-i

@@ -1,6 +1,5 @@
 -- The halves of eight bytes are the two words.
 use native.Mathlib.Numerals.{add-one}
-use borrow.Author.Rules.{rules}
 use Rattle.buffers.proofs.load_two.Goals as goal
 
 pub returns : goal.returns

@@ -1,6 +1,5 @@
 -- The bytes one after another are a run of stores.
 use native.Mathlib.Numerals.{add-one}
-use borrow.Author.Rules.{rules}
 use Rattle.buffers.proofs.put_half.Goals as goal
 
 pub returns : goal.returns

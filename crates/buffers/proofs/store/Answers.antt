@@ -1,13 +1,12 @@
 -- `store`: the words passed stand as bytes, and nothing else has changed; eight a round, then one.
-use Prim.Native.Nat.{◌+◌, ◌*◌, ◌-◌, ◌%◌, ◌≤◌}
+use Prim.Native.Nat.{◌+◌, ◌*◌}
 use mathlib.Core.Path.{◌≡◌, refl, ap, ◌∙◌}
 use mathlib.Core.List.{◌++◌}
 use native.Mathlib.Omega.{arith}
-use lib.ListN.{length, take, drop}
+use lib.ListN.{length, take}
 use Rattle.buffers.specs.Bytes.{four, bytes_of}
 use Rattle.buffers.proofs.BytesLaws.{bytes-front}
 use Rattle.buffers.proofs.Loops.{stored-none, stored_one, stored-two, stored-all, behind, begun}
-use borrow.Author.Rules.{rules}
 use Rattle.buffers.proofs.store.Goals as goal
 
 pub loop-i-init : goal.loop-i-init

@@ -1,13 +1,9 @@
 -- `store`: the words passed stand as bytes, and nothing else has changed; eight a round, then one.
-use Prim.Native.Nat.{◌+◌, ◌*◌, ◌-◌, ◌%◌, ◌≤◌}
-use mathlib.Core.Path.{◌≡◌, refl, ap, ◌∙◌}
+use Prim.Native.Nat.{◌*◌, ◌-◌, ◌%◌, ◌≤◌}
+use mathlib.Core.Path.{◌≡◌}
 use mathlib.Core.List.{◌++◌}
-use native.Mathlib.Omega.{arith}
 use lib.ListN.{length, take, drop}
-use Rattle.buffers.specs.Bytes.{four, bytes_of}
-use Rattle.buffers.proofs.BytesLaws.{bytes-front}
-use Rattle.buffers.proofs.Loops.{stored-none, stored_one, stored-two, stored-all, behind, begun}
-use borrow.Author.Rules.{rules}
+use Rattle.buffers.specs.Bytes.{bytes_of}
 use Rattle.buffers.proofs.store.Given as goal
 
 abbrev pub invariant-loop-i : goal.invariant-loop-i

@@ -4,7 +4,6 @@ use mathlib.Core.Path.{ap, ◌∙◌}
 use lib.ListN.{get_or}
 use lib.Seq.{sets}
 use Rattle.buffers.specs.Bytes.{four}
-use borrow.Author.Rules.{rules}
 use Rattle.buffers.proofs.store_two.Goals as goal
 
 pub returns : goal.returns

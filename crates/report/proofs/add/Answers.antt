@@ -4,7 +4,7 @@ use borrow.Author.Rules.{rules}
 use Rattle.report.proofs.add.Goals as goal
 
 pub add_accepted-requires : goal.add_accepted-requires
-add_accepted-requires c =     search (rules, goes-way, c.requires.most c.if-answer-eq-ACCEPTED.true)
+add_accepted-requires c = search (rules, goes-way, c.requires.most c.if-answer-eq-ACCEPTED.true)
 
 pub returns-then-answer-eq-ACCEPTED : goal.returns-then-answer-eq-ACCEPTED
 returns-then-answer-eq-ACCEPTED c = search (rules, whole-accepted)

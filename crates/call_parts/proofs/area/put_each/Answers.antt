@@ -1,14 +1,8 @@
 -- `put_each`: the names passed stand as bytes.
-use Prim.Native.Nat.{◌*◌, ◌-◌, ◌≤◌}
-use mathlib.Core.Path.{◌≡◌, refl}
-use mathlib.Core.List.{◌++◌}
+use mathlib.Core.Path.{refl}
 use native.Mathlib.Omega.{arith}
-use lib.ListN.{length, take, drop, length-take}
-use Rattle.numbers.specs.Limit.{most_names}
-use Rattle.model.specs.Whole.{filled}
-use Rattle.buffers.specs.Bytes.{names_of}
+use lib.ListN.{take, length-take}
 use Rattle.call_parts.proofs.Names.{names-none, names_more, names-all}
-use borrow.Author.Rules.{rules}
 use Rattle.call_parts.proofs.area.put_each.Goals as goal
 
 pub loop-i-init : goal.loop-i-init

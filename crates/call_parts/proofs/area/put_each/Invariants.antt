@@ -1,14 +1,11 @@
 -- `put_each`: the names passed stand as bytes.
 use Prim.Native.Nat.{◌*◌, ◌-◌, ◌≤◌}
-use mathlib.Core.Path.{◌≡◌, refl}
+use mathlib.Core.Path.{◌≡◌}
 use mathlib.Core.List.{◌++◌}
-use native.Mathlib.Omega.{arith}
-use lib.ListN.{length, take, drop, length-take}
+use lib.ListN.{length, take, drop}
 use Rattle.numbers.specs.Limit.{most_names}
 use Rattle.model.specs.Whole.{filled}
 use Rattle.buffers.specs.Bytes.{names_of}
-use Rattle.call_parts.proofs.Names.{names-none, names_more, names-all}
-use borrow.Author.Rules.{rules}
 use Rattle.call_parts.proofs.area.put_each.Given as goal
 
 abbrev pub invariant-loop-i : goal.invariant-loop-i

@@ -1,10 +1,9 @@
 -- `tell`: the six words, and the names after them.
 use native.Mathlib.Omega.{arith}
 use Rattle.call_parts.proofs.Names.{area-told}
-use borrow.Author.Rules.{rules}
 use Rattle.call_parts.proofs.area.tell.Goals as goal
 
 pub returns : goal.returns
-returns c =     let a = c.args in
+returns c = let a = c.args in
     area-told a.place a.mode a.events a.text a.bits a.count _ a.names.now a.area.now _ _ (omega arith)
     c.place_word.ensures (omega arith) c.store.ensures c.put_names.ensures

@@ -1,6 +1,4 @@
 -- `check_by_rungs`: the rung falls, and each rung judges the table's bytes.
-use Prim.Native.Nat.{ℕ, ◌<◌}
-use borrow.Author.Rules.{rules}
 use Rattle.call_parts.proofs.tables.+check_by_rungs.Given as goal
 
 abbrev pub decreases-check_by_rungs : goal.decreases-check_by_rungs

@@ -1,6 +1,5 @@
 -- `judge_and_tell`: the table right, the table wrong.
 use Rattle.call_parts.proofs.Judging.{right-told, wrong-told}
-use borrow.Author.Rules.{rules}
 use Rattle.call_parts.proofs.tables.judge_and_tell.Goals as goal
 
 pub returns-in-Right : goal.returns-in-Right

@@ -1,10 +1,6 @@
 -- `count_on`: what is left of the events, from what has been counted, comes to what all come to.
-use Prim.Native.Nat.{◌-◌, ◌≤◌}
-use mathlib.Core.Path.{◌≡◌, refl}
-use mathlib.Core.List.{[]}
+use mathlib.Core.Path.{refl}
 use native.Mathlib.Omega.{arith}
-use lib.ListN.{length}
-use Rattle.report.specs.Sums.{Lines, stack_of, counts_in, events_in, numbers_in}
 use Rattle.report.proofs.Ways.{lines-begin, events-begin, lines-again, events-again, events-stopped, events-ended}
 use borrow.Author.Rules.{rules}
 use Rattle.report.proofs.counting.count_on.Goals as goal
@@ -13,7 +9,7 @@ pub loop-i-init : goal.loop-i-init
 loop-i-init c = (omega arith, omega arith, refl, refl, lines-begin _, events-begin _ _ _ _)
 
 pub loop-i-preserved : goal.loop-i-preserved
-loop-i-preserved c =     (search rules, search rules, search rules, search rules, search (rules, lines-again), events-again _ _ _ _ _ _ _ c.loop-i.invariant.5 _ _ _ _ _ (omega arith) c.long-name.ensures.0 c.long-bits.ensures.0 c.line_for-line.ensures.line c.count_event-ok.ensures _ _ c.if-ok.true c.open_after-depth.ensures.open)
+loop-i-preserved c = (search rules, search rules, search rules, search rules, search (rules, lines-again), events-again _ _ _ _ _ _ _ c.loop-i.invariant.5 _ _ _ _ _ (omega arith) c.long-name.ensures.0 c.long-bits.ensures.0 c.line_for-line.ensures.line c.count_event-ok.ensures _ _ c.if-ok.true c.open_after-depth.ensures.open)
 
 pub returns-else-ok : goal.returns-else-ok
 returns-else-ok c = search (rules, events-stopped)

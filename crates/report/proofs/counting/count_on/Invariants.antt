@@ -1,12 +1,9 @@
 -- `count_on`: what is left of the events, from what has been counted, comes to what all come to.
 use Prim.Native.Nat.{◌-◌, ◌≤◌}
-use mathlib.Core.Path.{◌≡◌, refl}
+use mathlib.Core.Path.{◌≡◌}
 use mathlib.Core.List.{[]}
-use native.Mathlib.Omega.{arith}
 use lib.ListN.{length}
 use Rattle.report.specs.Sums.{Lines, stack_of, counts_in, events_in, numbers_in}
-use Rattle.report.proofs.Ways.{lines-begin, events-begin, lines-again, events-again, events-stopped, events-ended}
-use borrow.Author.Rules.{rules}
 use Rattle.report.proofs.counting.count_on.Given as goal
 
 abbrev pub invariant-loop-i : goal.invariant-loop-i

@@ -14,7 +14,7 @@ pub returns-then-depth-eq0 : goal.returns-then-depth-eq0
 returns-then-depth-eq0 c = record { line = search (rules, for-ways); inside = record { from = omega arith; to = omega arith; whole = omega arith } }
 
 pub overflow_cast-result : goal.overflow_cast-result
-overflow_cast-result c =     let p = c.requires in
+overflow_cast-result c = let p = c.requires in
     let l = stack-line _ _ (search rules) p.2 in
     record { fits = omega (arith, l.to) }
 

@@ -1,10 +1,8 @@
 -- `copy`: the bytes passed are those of the other.
-use Prim.Native.Nat.{ℕ, ◌-◌, ◌≤◌, ◌<◌}
-use mathlib.Core.Path.{◌≡◌, refl}
+use mathlib.Core.Path.{refl}
 use native.Mathlib.Omega.{arith}
-use lib.ListN.{length, get_or, take, length-set}
+use lib.ListN.{length-set}
 use Rattle.report.proofs.EightLaws.{copied_more, copied_all, octets-more, octets-all}
-use borrow.Author.Rules.{rules}
 use Rattle.report.proofs.eights.copy.Goals as goal
 
 pub loop-i-init : goal.loop-i-init

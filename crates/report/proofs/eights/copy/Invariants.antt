@@ -1,10 +1,7 @@
 -- `copy`: the bytes passed are those of the other.
 use Prim.Native.Nat.{ℕ, ◌-◌, ◌≤◌, ◌<◌}
-use mathlib.Core.Path.{◌≡◌, refl}
-use native.Mathlib.Omega.{arith}
-use lib.ListN.{length, get_or, take, length-set}
-use Rattle.report.proofs.EightLaws.{copied_more, copied_all, octets-more, octets-all}
-use borrow.Author.Rules.{rules}
+use mathlib.Core.Path.{◌≡◌}
+use lib.ListN.{length, get_or, take}
 use Rattle.report.proofs.eights.copy.Given as goal
 
 abbrev pub invariant-loop-i : goal.invariant-loop-i

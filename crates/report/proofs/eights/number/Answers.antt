@@ -1,6 +1,5 @@
 -- `number`: the eight bytes at eight times the index.
 use Rattle.report.proofs.Ways.{at-way}
-use borrow.Author.Rules.{rules}
 use Rattle.report.proofs.eights.number.Goals as goal
 
 pub returns : goal.returns

@@ -1,9 +1,7 @@
 -- `line_of`: the lines passed are neither free nor the name's.
-use Prim.Native.Nat.{◌+◌, ◌*◌, ◌≤◌}
-use mathlib.Core.Path.{◌≡◌, refl}
+use mathlib.Core.Path.{refl}
 use native.Mathlib.Omega.{arith}
-use Rattle.report.specs.Report.{line_from, line_of}
-use Rattle.report.specs.Sums.{numbers_in}
+use Rattle.report.specs.Report.{line_of}
 use Rattle.report.proofs.Ways.{line-free-is, line-named-is, line-none-is, line-again}
 use borrow.Author.Rules.{rules}
 use Rattle.report.proofs.lines.line_of.Goals as goal

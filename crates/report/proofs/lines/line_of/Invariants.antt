@@ -1,11 +1,8 @@
 -- `line_of`: the lines passed are neither free nor the name's.
 use Prim.Native.Nat.{◌+◌, ◌*◌, ◌≤◌}
-use mathlib.Core.Path.{◌≡◌, refl}
-use native.Mathlib.Omega.{arith}
+use mathlib.Core.Path.{◌≡◌}
 use Rattle.report.specs.Report.{line_from, line_of}
 use Rattle.report.specs.Sums.{numbers_in}
-use Rattle.report.proofs.Ways.{line-free-is, line-named-is, line-none-is, line-again}
-use borrow.Author.Rules.{rules}
 use Rattle.report.proofs.lines.line_of.Given as goal
 
 abbrev pub invariant-loop-left : goal.invariant-loop-left

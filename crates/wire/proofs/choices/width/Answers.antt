@@ -1,7 +1,6 @@
 -- At most one choice, or the bits of the last one.
 use native.Mathlib.Omega.{arith}
 use lib.Count.{leading_le}
-use borrow.Author.Rules.{rules}
 use Rattle.wire.proofs.Width.{width_one, width-zeros}
 use Rattle.wire.proofs.choices.width.Goals as goal
 

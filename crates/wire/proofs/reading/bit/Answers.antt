@@ -1,9 +1,6 @@
 -- A bit is its byte's quotient, modulo 2.
-use Prim.Native.Nat.{◌/◌}
-use native.Mathlib.Omega.{arith}
 use Rattle.wire.specs.Bits.{bit_at}
 use borrow.Author.Rules.{rules}
-use Rattle.wire.proofs.reading.bit.Lts as lts
 use Rattle.wire.proofs.reading.bit.Goals as goal
 
 pub returns : goal.returns

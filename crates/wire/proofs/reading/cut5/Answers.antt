@@ -2,7 +2,6 @@
 use native.Mathlib.Omega.{arith}
 use Rattle.wire.proofs.WindowLaws.{mask-some}
 use Rattle.wire.proofs.Whole5.{cut-is, cut_fits, way-cut-long, way-cut-short}
-use borrow.Author.Rules.{rules}
 use Rattle.wire.proofs.reading.cut5.Goals as goal
 
 pub nonzero_rem-v : goal.nonzero_rem-v

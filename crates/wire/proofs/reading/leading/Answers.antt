@@ -1,6 +1,5 @@
 -- What is left to eight ones is as long as the bits behind the first ones.
 use native.Mathlib.Omega.{arith}
-use borrow.Author.Rules.{rules}
 use Rattle.wire.proofs.Whole5.{zeros-left, leading_ones}
 use Rattle.wire.proofs.reading.leading.Goals as goal
 

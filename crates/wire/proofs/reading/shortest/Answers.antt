@@ -1,7 +1,6 @@
 -- By the number's three cases.
 use Rattle.wire.proofs.ReadWays.{short-ways}
 use borrow.Author.Rules.{rules}
-use Rattle.wire.proofs.reading.shortest.Lts as lts
 use Rattle.wire.proofs.reading.shortest.Goals as goal
 
 pub returns-then-short : goal.returns-then-short

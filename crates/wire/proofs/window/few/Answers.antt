@@ -1,8 +1,6 @@
 -- The loop: v is the number that the first k bytes are.
-use Prim.Native.Nat.{◌≤◌, ◌-◌, ◌*◌}
-use mathlib.Core.Path.{◌≡◌}
 use native.Mathlib.Omega.{arith}
-use Rattle.wire.specs.Bits.{bit_at, num}
+use Rattle.wire.specs.Bits.{num}
 use Rattle.wire.proofs.WindowLaws.{few-fits, few-turn, few-end}
 use borrow.Author.Rules.{rules}
 use Rattle.wire.proofs.window.few.Goals as goal

@@ -1,10 +1,7 @@
 -- The loop: v is the number that the first k bytes are.
 use Prim.Native.Nat.{◌≤◌, ◌-◌, ◌*◌}
 use mathlib.Core.Path.{◌≡◌}
-use native.Mathlib.Omega.{arith}
 use Rattle.wire.specs.Bits.{bit_at, num}
-use Rattle.wire.proofs.WindowLaws.{few-fits, few-turn, few-end}
-use borrow.Author.Rules.{rules}
 use Rattle.wire.proofs.window.few.Given as goal
 
 abbrev pub invariant-loop-k : goal.invariant-loop-k

@@ -2,7 +2,6 @@
 use native.Mathlib.Omega.{arith}
 use lib.ListN.{length-set}
 use Rattle.wire.proofs.Store.{stored-first, stored_more, stored_last}
-use borrow.Author.Rules.{rules}
 use Rattle.wire.proofs.window.store.Goals as goal
 
 pub bounds-buf-i-2 : goal.bounds-buf-i-2
@@ -27,7 +26,7 @@ pub bounds-buf-i-8 : goal.bounds-buf-i-8
 bounds-buf-i-8 c = simp length-set (omega arith)
 
 pub returns : goal.returns
-returns c =     stored_last _ _ _ _ (simp length-set (omega arith))
+returns c = stored_last _ _ _ _ (simp length-set (omega arith))
     (stored_more _ _ _ 6 8 _ (simp length-set (omega arith))
     (stored_more _ _ _ 5 16 _ (simp length-set (omega arith))
     (stored_more _ _ _ 4 24 _ (simp length-set (omega arith))

@@ -1,6 +1,5 @@
 -- Eight bytes, shifted left past the bits before the place, and right until 57 are left.
 use Rattle.wire.proofs.WindowLaws.{window-is}
-use borrow.Author.Rules.{rules}
 use Rattle.wire.proofs.window.window.Goals as goal
 
 pub returns-then-i-s : goal.returns-then-i-s

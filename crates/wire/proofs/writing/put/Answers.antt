@@ -1,6 +1,5 @@
 -- The bits, and the place past them.
 use Rattle.wire.proofs.WriteWays.{wrote-is}
-use borrow.Author.Rules.{rules}
 use Rattle.wire.proofs.writing.put.Goals as goal
 
 pub returns : goal.returns

@@ -3,17 +3,16 @@ use Prim.Native.Nat.{◌/◌}
 use native.Mathlib.Omega.{arith}
 use Rattle.wire.specs.Bits.{bit_at}
 use Rattle.wire.proofs.Put.{put_up, put-down, put_same, up-byte, down-byte}
-use borrow.Author.Rules.{rules}
 use Rattle.wire.proofs.writing.put_bit.Goals as goal
 
 pub overflow_add-buf : goal.overflow_add-buf
 unfolding bit_at
-overflow_add-buf c =     let a = c.args in
+overflow_add-buf c = let a = c.args in
     record { fits = up-byte a.buf.now a.at a.x (omega arith) (omega arith) c.if-old-x.true (omega (arith, c.slice_known-1.given (a.at / 8))) }
 
 pub overflow_sub-buf : goal.overflow_sub-buf
 unfolding bit_at
-overflow_sub-buf c =     let a = c.args in
+overflow_sub-buf c = let a = c.args in
     down-byte a.buf.now a.at a.x (omega arith) (omega arith) c.if-x-old.true
 
 pub returns-then-old-x : goal.returns-then-old-x

@@ -1,6 +1,5 @@
 -- A word, or bit by bit.
 use Rattle.wire.proofs.WriteWays.{put-zero}
-use borrow.Author.Rules.{rules}
 use Rattle.wire.proofs.writing.put_bits.Goals as goal
 
 pub returns-then-w-eq0 : goal.returns-then-w-eq0

@@ -1,12 +1,7 @@
 -- The loop: the first i bits stand, and nothing else has changed.
-use Prim.Native.Nat.{◌≤◌, ◌-◌, ◌/◌, ◌^◌}
-use mathlib.Core.Path.{◌≡◌, refl, ◌∙◌}
+use mathlib.Core.Path.{refl, ◌∙◌}
 use native.Mathlib.Omega.{arith}
-use lib.ListN.{length}
-use Rattle.wire.specs.Bits.{bit_at, digits}
-use Rattle.wire.specs.Put.{Put}
 use Rattle.wire.proofs.WriteWays.{put-start, put-turn, put-end}
-use borrow.Author.Rules.{rules}
 use Rattle.wire.proofs.writing.put_slow.Goals as goal
 
 pub loop-i-init : goal.loop-i-init
@@ -16,7 +11,7 @@ pub put_bit-requires : goal.put_bit-requires
 put_bit-requires c = omega (arith, c.digit-x.ensures)
 
 pub loop-i-preserved : goal.loop-i-preserved
-loop-i-preserved c =     let inv = c.loop-i.invariant in
+loop-i-preserved c = let inv = c.loop-i.invariant in
     (omega arith, c.put_bit.auto.buf ∙ inv.1, put-turn _ _ _ _ _ _ _ _ (omega arith) c.digit-x.ensures inv.2 c.put_bit.ensures)
 
 pub returns : goal.returns

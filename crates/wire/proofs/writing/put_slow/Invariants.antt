@@ -1,12 +1,9 @@
 -- The loop: the first i bits stand, and nothing else has changed.
 use Prim.Native.Nat.{◌≤◌, ◌-◌, ◌/◌, ◌^◌}
-use mathlib.Core.Path.{◌≡◌, refl, ◌∙◌}
-use native.Mathlib.Omega.{arith}
+use mathlib.Core.Path.{◌≡◌}
 use lib.ListN.{length}
 use Rattle.wire.specs.Bits.{bit_at, digits}
 use Rattle.wire.specs.Put.{Put}
-use Rattle.wire.proofs.WriteWays.{put-start, put-turn, put-end}
-use borrow.Author.Rules.{rules}
 use Rattle.wire.proofs.writing.put_slow.Given as goal
 
 abbrev pub invariant-loop-i : goal.invariant-loop-i
