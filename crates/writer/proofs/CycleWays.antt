@@ -1,12 +1,11 @@
 -- Each way through the cycle.
 use Prim.Native.Nat.{ℕ, zero, suc, ◌+◌, ◌-◌, ◌*◌, ◌^◌, ◌<◌, ◌≤◌}
 use mathlib.Core.Path.{◌≡◌, refl, sym, ap, subst, ◌∙◌}
-use mathlib.Core.Bool.{Bool, true, false, not, cond, true≢false}
+use mathlib.Core.Bool.{Bool, true, false, cond, true≢false}
 use mathlib.Core.List.{List, [], ◌∷◌, ◌++◌}
-use mathlib.Core.Logic.{◌⊎◌, inl, inr}
 use native.Mathlib.Omega.{arith}
 use native.Mathlib.Decide.{dec_lt, ℕ_discrete}
-use borrow.Author.Tests.{lt-ltb, le-ltb, not-true, not-false, eq-eqb, ne_eqb}
+use borrow.Author.Tests.{lt-ltb, le-ltb, eq-eqb, ne_eqb}
 use mir.Val.{Fits as FitsIn}
 use mir.Syntax.{w32}
 use lib.ListN.{length, get_or, length-append}
@@ -49,13 +48,12 @@ use Rattle.writer_parts.specs.declared.Cast.TheVariants as cv
 use Rattle.writer_parts.specs.Codes as codes_p
 use Rattle.writer_parts.specs.Codes.{Rowed, Casts}
 use Rattle.writer_parts.proofs.NoteLaws.{spells-none, spells-by, spells-same}
-use Rattle.writer_parts.specs.Walk.{events_in, events_at, texts_at, between, past, Ready, Sealing, Went, Stopped, Walked, Walks, wanted, judged, noted, alone}
+use Rattle.writer_parts.specs.Walk.{events_in, events_at, texts_at, between, past, Ready, Sealing, Walked, Walks, wanted, judged, noted, alone}
 use Rattle.writer_parts.proofs.WalkLaws.{went, stopped, walked_as, stays, along-stop, along-go, alone-noted, events-next, events-none, events-count, judged-in, taken-like, taken-unlike}
 use Rattle.writer_parts.specs.Parts.{present, required·, optional·, attribute·, attributes·, own·, values·}
 use Rattle.writer_parts.specs.Opening.{no_row, row_choices}
 use Rattle.writer.specs.Meaning.{Owned, Known, Rounds, Given, Right, Within, deep_at, particle·, inside·, element·, choose·, rounds·, occur·, row·, list·}
 use Rattle.writer_parts.proofs.Leads.{Leads, leads-start, leads-end, leads-stop, leads-go}
-use Rattle.writer_parts.proofs.JudgingWays.{place-near}
 use Rattle.writer_parts.proofs.AttributeWays.{ready_on, item-stop, item-go, item-here}
 
 -- length coding, and the table as a mode has it

@@ -12,7 +12,6 @@ use Rattle.numbers.specs.Refusal as refusal
 use Rattle.numbers.specs.Refusal.{no_reading, payload_room, write_mode, text_bytes}
 use Rattle.numbers.specs.Limit.{most_events, most_name, most_payload, parties}
 use Rattle.wire.specs.Res.{got, fault}
-use Rattle.table.specs.First.{Verdict}
 use Rattle.table.specs.First.Verdict.{right, wrong}
 use Rattle.table.specs.Valid.{verdict}
 use Rattle.table.specs.Views.{verdict_is}

@@ -29,7 +29,7 @@ use Rattle.writer_parts.specs.Walk.{events_at, texts_at, Ready, Walks, alone}
 use Rattle.writer_parts.proofs.WalkLaws.{walked_as, stays}
 use Rattle.writer_parts.proofs.AttributeWays.{ready_on, item-here}
 use Rattle.writer.specs.Meaning.{Owned, Known, Given, Right, Within, particle·, element·, rounds·, row·, list·}
-use Rattle.writer.specs.Groups.{Fits, given·, target·, run·, Onward, Aimed, Narrows, Aims}
+use Rattle.writer.specs.Groups.{Fits, given·, target·, run·, Aimed, Narrows, Aims}
 use Rattle.writer.specs.declared.groups.Aim as aim_t
 use Rattle.writer.specs.declared.groups.Aim.TheVariants as aim
 use Rattle.writer.specs.declared.groups.Run.{Run}

@@ -1,6 +1,5 @@
 -- With room for the notes of the fewest events, of few or of all.
 use native.Mathlib.Omega.{arith}
-use borrow.Author.Rules.{rules}
 use Rattle.writer.proofs.write.Goals as goal
 
 pub write_with_notes-requires : goal.write_with_notes-requires

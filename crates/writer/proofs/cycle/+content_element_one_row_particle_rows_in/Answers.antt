@@ -1,8 +1,7 @@
 -- The cycle: each need by the ways of its function; the measure is the rows still allowed open.
 use Prim.Native.Nat.{ℕ}
-use mathlib.Core.Path.{◌≡◌, refl, ap, ◌∙◌}
+use mathlib.Core.Path.{refl}
 use native.Mathlib.Omega.{arith}
-use lib.ListN.{length}
 use borrow.Author.Rules.{rules}
 use Rattle.writer_parts.specs.Walk.{Walks, past}
 use Rattle.table.proofs.RowsInside.{type-inside, particle-inside}

@@ -9,9 +9,6 @@ returns-then-number-le-ALWAYS c = search (rules, known-ways)
 pub returns-then-number-lt-CASTING : goal.returns-then-number-lt-CASTING
 returns-then-number-lt-CASTING c = search (rules, known-ways)
 
-pub overflow_add-t-4 : goal.overflow_add-t-4
-overflow_add-t-4 c = search (rules, known-ways)
-
 pub returns-then-number : goal.returns-then-number
 returns-then-number c = search (rules, known-ways)
 
