@@ -247,6 +247,8 @@ module _ (L X : List ℕ) (c : Spot) (N : List ℕ) (r : Ready L X N c) (t : Lis
                     record { is = record { out = a.out; counts = a.counts; onward = a.onward; ready = a.ready; before = λ j h. a.before j h ∙ (went i o m).before j (omega arith) ∙ g.before j (omega arith) } }
                 earlier (Refuse n at) x = record { is = x.is }
 
+pub ruleset start_unlike = (element-unlike)
+
 pub ruleset element-ways = (element-unlike, element-ready, element-next, element-word, element-uncast)
 
 -- inside an element: what stands before its rows, and then its content row, where it has one

@@ -27,6 +27,7 @@ use writer_parts::{Cast, Judgement, Spot};
 
 // An element of a name, a row and a type: its Start, its codes, what is inside it by its effective type, its End.
 #[cycle(content_element_one_row_particle_rows_in)]
+#[tactic(auto, using(crate::proofs::CycleWays::start_unlike))]
 fn element(
     table: &[u32],
     events: &[u32],

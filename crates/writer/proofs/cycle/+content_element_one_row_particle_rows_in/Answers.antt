@@ -1,5 +1,5 @@
 -- The cycle: each need by the ways of its function; the measure is the rows still allowed open.
-use Prim.Native.Nat.{ℕ}
+use Prim.Native.Nat.{ℕ, ◌≤◌}
 use mathlib.Core.Path.{refl}
 use native.Mathlib.Omega.{arith}
 use borrow.Author.Rules.{rules}
@@ -20,13 +20,14 @@ use Rattle.writer.proofs.cycle.+content_element_one_row_particle_rows_in.Goals.{
 element-cast : (t : ℕ) (c : element-Joined-choices t)
     → codes_p.Went c.args.table.now c.args.events.now c.args.texts.now (types_by c.args.table.now (row_choices c.args.mode.choices c.args.row) c.args.t c.args.row) (past c.args.c) c.args.notes.now c.if-choices.ty c.if-choices.f c.if-choices.notes
 element-cast t c =
+    let fine : c.unlike_start-bad.result ≤ 0 = omega arith in
     let by = c.choices_of-choices.ensures in
     elim c.if-choices.branch [
       | element-then-choices+in-To w ↦ rw (w.notes-is, w.f-is, w.ty-is) (cast-went _ _ _ _ _ _ _ _ (rw by at w.note_codes.ensures) _ _ w.in-To.is)
       | element-else-choices w ↦
           rw (w.notes-is, w.f-is, w.ty-is)
           (uncast-went _ _ _ _ _ _ _ _ (row-chosen _ _ _ c.requires.2 c.requires.1.choosing.neither) (rw by at w.if-choices.false) c.requires.3
-          (element-ready _ _ _ _ c.requires.0 _ _ c.unlike_start-bad.ensures c.if-bad-gt0.false))
+          (element-ready _ _ _ _ c.requires.0 _ _ c.unlike_start-bad.ensures fine))
     ]
 
 -- where the ways by an element's content row and without one meet
@@ -64,9 +65,6 @@ content-returns t c = search (rules, content-ways)
 pub element-unlike_start-bad-requires : goal.element-unlike_start-bad-requires
 element-unlike_start-bad-requires t c = search (rules, element-ways)
 
-pub element-returns-then-bad-gt0 : goal.element-returns-then-bad-gt0
-element-returns-then-bad-gt0 t c = search (rules, element-ways)
-
 pub element-overflow_mul-q : goal.element-overflow_mul-q
 element-overflow_mul-q t c = search (rules, element-ways)
 
@@ -87,18 +85,21 @@ element-choices_of-choices-requires t c = search (rules, element-ways)
 
 pub element-note_codes-requires : goal.element-note_codes-requires
 element-note_codes-requires t c =
-    (element-ready _ _ _ _ c.requires.0 _ _ c.unlike_start-bad.ensures c.if-bad-gt0.false, c.requires.1.is, c.requires.3, rw c.choices_of-choices.ensures (row-chosen _ _ _ c.requires.2 c.requires.1.choosing.neither))
+    let fine : c.unlike_start-bad.result ≤ 0 = omega arith in
+    (element-ready _ _ _ _ c.requires.0 _ _ c.unlike_start-bad.ensures fine, c.requires.1.is, c.requires.3, rw c.choices_of-choices.ensures (row-chosen _ _ _ c.requires.2 c.requires.1.choosing.neither))
 
 pub element-returns-in-Refuse : goal.element-returns-in-Refuse
 element-returns-in-Refuse t c =
-    search (element-uncast, c.requires.0, c.unlike_start-bad.ensures, c.if-bad-gt0.false, rw c.choices_of-choices.ensures at c.note_codes.ensures, c.in-Refuse.is)
+    let fine : c.unlike_start-bad.result ≤ 0 = omega arith in
+    search (element-uncast, c.requires.0, c.unlike_start-bad.ensures, fine, rw c.choices_of-choices.ensures at c.note_codes.ensures, c.in-Refuse.is)
 
 pub element-held-held-requires : goal.element-held-held-requires
 element-held-held-requires t c = (type-inside _ c.requires.1.is _ (element-cast t c).known, omega (arith, c.requires.1.party_known))
 
 pub element-returns-then-not-held : goal.element-returns-then-not-held
 element-returns-then-not-held t c =
-    search (element-unheld, c.requires.0, c.unlike_start-bad.ensures, c.if-bad-gt0.false, element-cast t (goal.at.element-returns-then-not-held t c).Joined-choices, c.held-held.ensures, c.if-not-held.true)
+    let fine : c.unlike_start-bad.result ≤ 0 = omega arith in
+    search (element-unheld, c.requires.0, c.unlike_start-bad.ensures, fine, element-cast t (goal.at.element-returns-then-not-held t c).Joined-choices, c.held-held.ensures, c.if-not-held.true)
 
 pub element-before_rows-r-requires : goal.element-before_rows-r-requires
 element-before_rows-r-requires t c =
@@ -106,8 +107,9 @@ element-before_rows-r-requires t c =
 
 pub element-returns-in_default : goal.element-returns-in_default
 element-returns-in_default t c =
+    let fine : c.unlike_start-bad.result ≤ 0 = omega arith in
     let i = inside-stop _ _ _ _ _ c.args.mode c.args.depth _ _ _ c.before_rows-r.ensures _ _ c.in_default.is in
-    search (element-stop, c.requires.0, c.unlike_start-bad.ensures, c.if-bad-gt0.false, element-cast t (goal.at.element-returns-in_default t c).Joined-choices, c.held-held.ensures, c.if-not-held.false, i, c.in_default.is)
+    search (element-stop, c.requires.0, c.unlike_start-bad.ensures, fine, element-cast t (goal.at.element-returns-in_default t c).Joined-choices, c.held-held.ensures, c.if-not-held.false, i, c.in_default.is)
 
 pub element-content-requires : goal.element-content-requires
 element-content-requires t c = type-inside _ c.requires.1.is _ (element-cast t (goal.at.element-content-requires t c).Joined-choices).known
@@ -118,16 +120,19 @@ element-content-s-requires t c =
 
 pub element-returns-in_default-s : goal.element-returns-in_default-s
 element-returns-in_default-s t c =
+    let fine : c.unlike_start-bad.result ≤ 0 = omega arith in
     let i = inside-rows _ _ _ _ _ c.args.mode c.args.depth _ _ _ c.before_rows-r.ensures _ c.in-Go.is _ c.content.ensures _ c.in-Particles.is _ _ c.content-s.ensures in
-    search (element-stop, c.requires.0, c.unlike_start-bad.ensures, c.if-bad-gt0.false, element-cast t (goal.at.element-returns-in_default-s t c).Joined-choices, c.held-held.ensures, c.if-not-held.false, i, c.in_default-s.is)
+    search (element-stop, c.requires.0, c.unlike_start-bad.ensures, fine, element-cast t (goal.at.element-returns-in_default-s t c).Joined-choices, c.held-held.ensures, c.if-not-held.false, i, c.in_default-s.is)
 
 pub element-close-requires : goal.element-close-requires
 element-close-requires t c =
-    (element-kept _ _ _ _ c.requires.0 _ c.args.mode c.args.depth _ _ _ c.unlike_start-bad.ensures c.if-bad-gt0.false _ _ _ (element-cast t (goal.at.element-close-requires t c).Joined-choices) _ c.held-held.ensures c.if-not-held.false _ _ (element-inside t c) _ refl, element-sealing _ _ _ _ c.requires.0 _ c.args.mode c.args.depth _ _ _ c.unlike_start-bad.ensures c.if-bad-gt0.false _ _ _ (element-cast t (goal.at.element-close-requires t c).Joined-choices) _ c.held-held.ensures c.if-not-held.false _ _ (element-inside t c) _ refl)
+    let fine : c.unlike_start-bad.result ≤ 0 = omega arith in
+    (element-kept _ _ _ _ c.requires.0 _ c.args.mode c.args.depth _ _ _ c.unlike_start-bad.ensures fine _ _ _ (element-cast t (goal.at.element-close-requires t c).Joined-choices) _ c.held-held.ensures c.if-not-held.false _ _ (element-inside t c) _ refl, element-sealing _ _ _ _ c.requires.0 _ c.args.mode c.args.depth _ _ _ c.unlike_start-bad.ensures fine _ _ _ (element-cast t (goal.at.element-close-requires t c).Joined-choices) _ c.held-held.ensures c.if-not-held.false _ _ (element-inside t c) _ refl)
 
 pub element-returns : goal.element-returns
 element-returns t c =
-    element-go _ _ _ _ c.requires.0 _ c.args.mode c.args.depth _ _ _ c.unlike_start-bad.ensures c.if-bad-gt0.false _ _ _ (element-cast t (goal.at.element-returns t c).Joined-choices) _ c.held-held.ensures c.if-not-held.false _ _ (element-inside t (goal.at.element-returns t c).After-close-arg-1) _ refl _ _ c.close.ensures
+    let fine : c.unlike_start-bad.result ≤ 0 = omega arith in
+    element-go _ _ _ _ c.requires.0 _ c.args.mode c.args.depth _ _ _ c.unlike_start-bad.ensures fine _ _ _ (element-cast t (goal.at.element-returns t c).Joined-choices) _ c.held-held.ensures c.if-not-held.false _ _ (element-inside t (goal.at.element-returns t c).After-close-arg-1) _ refl _ _ c.close.ensures
 
 pub one_row-too_deep-requires : goal.one_row-too_deep-requires
 one_row-too_deep-requires t c = search (rules, one-row-ways)
