@@ -30,8 +30,7 @@ fn read_code(bytes: &[u8], place: u32, coding: Coding, area: &mut [u8]) -> u32
 }
 
 // A number in so many bits.
-#[unsafe(no_mangle)]
-pub extern "C" fn bim_bits_fixed(bytes: &[u8], place: u32, width: u32, area: &mut [u8]) -> u32
+pub fn bim_bits_fixed(bytes: &[u8], place: u32, width: u32, area: &mut [u8]) -> u32
     ensures { back result area.new []
         ≡ bits_call bytes.now place (coding.Fixed width) (length area.old) }
 {
@@ -39,8 +38,7 @@ pub extern "C" fn bim_bits_fixed(bytes: &[u8], place: u32, width: u32, area: &mu
 }
 
 // A vluimsbf5 in shortest form.
-#[unsafe(no_mangle)]
-pub extern "C" fn bim_bits_vlu5(bytes: &[u8], place: u32, area: &mut [u8]) -> u32
+pub fn bim_bits_vlu5(bytes: &[u8], place: u32, area: &mut [u8]) -> u32
     ensures { back result area.new []
         ≡ bits_call bytes.now place coding.Five (length area.old) }
 {
@@ -48,8 +46,7 @@ pub extern "C" fn bim_bits_vlu5(bytes: &[u8], place: u32, area: &mut [u8]) -> u3
 }
 
 // A vluimsbf8 of at most two bytes in shortest form.
-#[unsafe(no_mangle)]
-pub extern "C" fn bim_bits_vlu8(bytes: &[u8], place: u32, area: &mut [u8]) -> u32
+pub fn bim_bits_vlu8(bytes: &[u8], place: u32, area: &mut [u8]) -> u32
     ensures { back result area.new []
         ≡ bits_call bytes.now place coding.Eight (length area.old) }
 {
@@ -57,8 +54,7 @@ pub extern "C" fn bim_bits_vlu8(bytes: &[u8], place: u32, area: &mut [u8]) -> u3
 }
 
 // How many bits there are from a place on.
-#[unsafe(no_mangle)]
-pub extern "C" fn bim_bits_left(bytes: &[u8], place: u32) -> u32
+pub fn bim_bits_left(bytes: &[u8], place: u32) -> u32
     ensures { result ≡ left_at bytes.now place }
 {
     left_at(bytes, Bits(place)).0

@@ -1,8 +1,9 @@
 // The calls for a C host, over bytes: words are 4 big-endian bytes, the answer is a number and an area.
-// include/bim.h declares them; specs/Calls of `call_parts` says what each gives back, on every input.
+// include/bim.h declares them, and `bim_c` exports them under the same names; specs/Calls of `call_parts` says what each gives
+// back, on every input.
 #![tactic(auto)]
 
-mod bits;
+pub mod bits;
 
 ghost use Rattle.std.specs.Prelude.{◌≡◌, [], ◌∷◌, length};
 ghost use Rattle.numbers.specs.Mode.{always};
@@ -23,8 +24,7 @@ use reads::reports::add_bytes;
 use writes::write_bytes;
 
 // Judges a table.
-#[unsafe(no_mangle)]
-pub extern "C" fn bim_check_table(table: &[u8], area: &mut [u8]) -> u32
+pub fn bim_check_table(table: &[u8], area: &mut [u8]) -> u32
     ensures { back result area.new []
         ≡ check_table table.now (length area.old) }
 {
@@ -36,8 +36,7 @@ pub extern "C" fn bim_check_table(table: &[u8], area: &mut [u8]) -> u32
 }
 
 // Reads a payload into events and texts.
-#[unsafe(no_mangle)]
-pub extern "C" fn bim_read(
+pub fn bim_read(
     table: &[u8],
     party: u32,
     root_name: u32,
@@ -67,8 +66,7 @@ pub extern "C" fn bim_read(
 }
 
 // Writes events and texts as a payload.
-#[unsafe(no_mangle)]
-pub extern "C" fn bim_write(
+pub fn bim_write(
     table: &[u8],
     party: u32,
     root_name: u32,
@@ -98,8 +96,7 @@ pub extern "C" fn bim_write(
 }
 
 // The same for a host that names no mode: every element has a length, and none a type code, whatever the table has.
-#[unsafe(no_mangle)]
-pub extern "C" fn bim_write_lengths(
+pub fn bim_write_lengths(
     table: &[u8],
     party: u32,
     root_name: u32,
@@ -127,14 +124,7 @@ pub extern "C" fn bim_write_lengths(
 }
 
 // Sets a party's mark of a type in a table, or clears it by the mark 0. A refusal leaves the table as it was.
-#[unsafe(no_mangle)]
-pub extern "C" fn bim_set_held(
-    table: &mut [u8],
-    party: u32,
-    ty: u32,
-    mark: u32,
-    area: &mut [u8],
-) -> u32
+pub fn bim_set_held(table: &mut [u8], party: u32, ty: u32, mark: u32, area: &mut [u8]) -> u32
     ensures { back result area.new (table.new ∷ [])
         ≡ set_call table.old party ty mark (length area.old) }
 {
@@ -148,8 +138,7 @@ pub extern "C" fn bim_set_held(
 }
 
 // Writes a stream of records as a shelf file.
-#[unsafe(no_mangle)]
-pub extern "C" fn bim_shelf_write(records: &[u8], file: &mut [u8], area: &mut [u8]) -> u32
+pub fn bim_shelf_write(records: &[u8], file: &mut [u8], area: &mut [u8]) -> u32
     ensures { shelf.back result area.new (file.new ∷ [])
         ≡ shelf.write_call records.now (length file.old) (length area.old) }
 {
@@ -157,8 +146,7 @@ pub extern "C" fn bim_shelf_write(records: &[u8], file: &mut [u8], area: &mut [u
 }
 
 // Reads a shelf file into the stream of its records.
-#[unsafe(no_mangle)]
-pub extern "C" fn bim_shelf_read(file: &[u8], records: &mut [u8], area: &mut [u8]) -> u32
+pub fn bim_shelf_read(file: &[u8], records: &mut [u8], area: &mut [u8]) -> u32
     ensures { shelf.back result area.new (records.new ∷ [])
         ≡ shelf.read_call file.now (length records.old) (length area.old) }
 {
@@ -166,13 +154,7 @@ pub extern "C" fn bim_shelf_read(file: &[u8], records: &mut [u8], area: &mut [u8
 }
 
 // Salvages a damaged shelf file: what is whole of it as a new file, and the list of what is dropped.
-#[unsafe(no_mangle)]
-pub extern "C" fn bim_shelf_salvage(
-    file: &[u8],
-    fresh: &mut [u8],
-    dropped: &mut [u8],
-    area: &mut [u8],
-) -> u32
+pub fn bim_shelf_salvage(file: &[u8], fresh: &mut [u8], dropped: &mut [u8], area: &mut [u8]) -> u32
     ensures { shelf.back result area.new (fresh.new ∷ dropped.new ∷ [])
         ≡ shelf.salvage_call file.now (length fresh.old) (length dropped.old)
         (length area.old) }
@@ -181,8 +163,7 @@ pub extern "C" fn bim_shelf_salvage(
 }
 
 // Reads a start-up message into the words of init and of codecs.
-#[unsafe(no_mangle)]
-pub extern "C" fn bim_init_read(message: &[u8], codecs: &mut [u8], init: &mut [u8]) -> u32
+pub fn bim_init_read(message: &[u8], codecs: &mut [u8], init: &mut [u8]) -> u32
     ensures { startup.back result init.new (codecs.new ∷ [])
         ≡ startup.read_call message.now (length codecs.old) (length init.old) }
 {
@@ -190,8 +171,7 @@ pub extern "C" fn bim_init_read(message: &[u8], codecs: &mut [u8], init: &mut [u
 }
 
 // Writes a start-up message from the words of init and of codecs, whose stretches lie in the bytes given.
-#[unsafe(no_mangle)]
-pub extern "C" fn bim_init_write(
+pub fn bim_init_write(
     init: &[u8],
     codecs: &[u8],
     given: &[u8],
@@ -206,8 +186,7 @@ pub extern "C" fn bim_init_write(
 }
 
 // Reads a payload and adds what its bits went to to a report, which the caller keeps. A payload that is refused is counted, and is no error of the report.
-#[unsafe(no_mangle)]
-pub extern "C" fn bim_report_add(
+pub fn bim_report_add(
     table: &[u8],
     party: u32,
     root_name: u32,

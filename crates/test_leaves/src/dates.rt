@@ -4,15 +4,13 @@ use calendar::{Day, date_of, day_of};
 use numbers::refusal;
 
 // Year, month and day of a day number.
-#[unsafe(no_mangle)]
-pub extern "C" fn probe_date_of(days: u32, out: &mut [u32; 4]) -> u32 {
+pub fn probe_date_of(days: u32, out: &mut [u32; 4]) -> u32 {
     let d = date_of(days);
     accepted(d.year, d.month, d.day, out)
 }
 
 // The day number of a date; or 20.
-#[unsafe(no_mangle)]
-pub extern "C" fn probe_day_of(year: u32, month: u32, day: u32, out: &mut [u32; 4]) -> u32 {
+pub fn probe_day_of(year: u32, month: u32, day: u32, out: &mut [u32; 4]) -> u32 {
     match day_of(year, month, day) {
         Day::Nothing => refused(refusal::OUTSIDE_ROW, out),
         Day::Number(n) => accepted(n, 0, 0, out),

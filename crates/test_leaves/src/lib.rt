@@ -1,6 +1,6 @@
-// The leaves as C calls, for whoever runs them against another implementation. A call asks nothing of its caller: what a leaf asks is
-// tested, and where it does not hold the answer is OUTSIDE. A call answers a refusal's number, 0 for none, and leaves its numbers in
-// `out`: the value, the place past it, and two more by the call; all are 0 where it is refused.
+// The leaves as calls for C, which `test_leaves_c` exports, for whoever runs them against another implementation. A call asks nothing
+// of its caller: what a leaf asks is tested, and where it does not hold the answer is OUTSIDE. A call answers a refusal's number, 0 for
+// none, and leaves its numbers in `out`: the value, the place past it, and two more by the call; all are 0 where it is refused.
 #![tactic(auto)]
 
 pub mod dates; // dates.rt: the calendar

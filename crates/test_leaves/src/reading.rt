@@ -8,64 +8,56 @@ use value::Value;
 use value::forms::{range, simple, times};
 use wire::{Bits, Bytes};
 
-#[unsafe(no_mangle)]
-pub extern "C" fn probe_bit(s: &[u8], at: u32, out: &mut [u32; 4]) -> u32 {
+pub fn probe_bit(s: &[u8], at: u32, out: &mut [u32; 4]) -> u32 {
     if reach(s.len()) <= at {
         return refused(OUTSIDE, out);
     }
     accepted(wire::reading::bit(s, at), 0, 0, out)
 }
 
-#[unsafe(no_mangle)]
-pub extern "C" fn probe_fixed(s: &[u8], end: u32, at: u32, w: u32, out: &mut [u32; 4]) -> u32 {
+pub fn probe_fixed(s: &[u8], end: u32, at: u32, w: u32, out: &mut [u32; 4]) -> u32 {
     if reach(s.len()) < end {
         return refused(OUTSIDE, out);
     }
     told(wire::reading::fixed(s, Bits(end), Bits(at), w), out)
 }
 
-#[unsafe(no_mangle)]
-pub extern "C" fn probe_any5(s: &[u8], end: u32, at: u32, out: &mut [u32; 4]) -> u32 {
+pub fn probe_any5(s: &[u8], end: u32, at: u32, out: &mut [u32; 4]) -> u32 {
     if reach(s.len()) < end {
         return refused(OUTSIDE, out);
     }
     told_number(wire::reading::any5(s, Bits(end), Bits(at)), out)
 }
 
-#[unsafe(no_mangle)]
-pub extern "C" fn probe_any8(s: &[u8], end: u32, at: u32, out: &mut [u32; 4]) -> u32 {
+pub fn probe_any8(s: &[u8], end: u32, at: u32, out: &mut [u32; 4]) -> u32 {
     if reach(s.len()) < end {
         return refused(OUTSIDE, out);
     }
     told_number(wire::reading::any8(s, Bits(end), Bits(at)), out)
 }
 
-#[unsafe(no_mangle)]
-pub extern "C" fn probe_vlu5(s: &[u8], end: u32, at: u32, out: &mut [u32; 4]) -> u32 {
+pub fn probe_vlu5(s: &[u8], end: u32, at: u32, out: &mut [u32; 4]) -> u32 {
     if reach(s.len()) < end {
         return refused(OUTSIDE, out);
     }
     told(wire::reading::vlu5(s, Bits(end), Bits(at)), out)
 }
 
-#[unsafe(no_mangle)]
-pub extern "C" fn probe_vlu8(s: &[u8], end: u32, at: u32, out: &mut [u32; 4]) -> u32 {
+pub fn probe_vlu8(s: &[u8], end: u32, at: u32, out: &mut [u32; 4]) -> u32 {
     if reach(s.len()) < end {
         return refused(OUTSIDE, out);
     }
     told(wire::reading::vlu8(s, Bits(end), Bits(at)), out)
 }
 
-#[unsafe(no_mangle)]
-pub extern "C" fn probe_choice(s: &[u8], end: u32, at: u32, n: u32, out: &mut [u32; 4]) -> u32 {
+pub fn probe_choice(s: &[u8], end: u32, at: u32, n: u32, out: &mut [u32; 4]) -> u32 {
     if reach(s.len()) < end {
         return refused(OUTSIDE, out);
     }
     told(value::reading::choice(s, Bits(end), Bits(at), n), out)
 }
 
-#[unsafe(no_mangle)]
-pub extern "C" fn probe_number(s: &[u8], end: u32, at: u32, most: u32, out: &mut [u32; 4]) -> u32 {
+pub fn probe_number(s: &[u8], end: u32, at: u32, most: u32, out: &mut [u32; 4]) -> u32 {
     if reach(s.len()) < end {
         return refused(OUTSIDE, out);
     }
@@ -73,15 +65,7 @@ pub extern "C" fn probe_number(s: &[u8], end: u32, at: u32, most: u32, out: &mut
 }
 
 // A value from b to c.
-#[unsafe(no_mangle)]
-pub extern "C" fn probe_range(
-    s: &[u8],
-    end: u32,
-    at: u32,
-    b: u32,
-    c: u32,
-    out: &mut [u32; 4],
-) -> u32 {
+pub fn probe_range(s: &[u8], end: u32, at: u32, b: u32, c: u32, out: &mut [u32; 4]) -> u32 {
     if reach(s.len()) < end {
         return refused(OUTSIDE, out);
     }
@@ -92,15 +76,7 @@ pub extern "C" fn probe_range(
 }
 
 // A count of an occurs row.
-#[unsafe(no_mangle)]
-pub extern "C" fn probe_times(
-    s: &[u8],
-    end: u32,
-    at: u32,
-    least: u32,
-    most: u32,
-    out: &mut [u32; 4],
-) -> u32 {
+pub fn probe_times(s: &[u8], end: u32, at: u32, least: u32, most: u32, out: &mut [u32; 4]) -> u32 {
     if reach(s.len()) < end {
         return refused(OUTSIDE, out);
     }
@@ -111,8 +87,7 @@ pub extern "C" fn probe_times(
 }
 
 // A simple value: its word and its place, then a text's bytes, then a date's second word.
-#[unsafe(no_mangle)]
-pub extern "C" fn probe_simple(
+pub fn probe_simple(
     s: &[u8],
     end: u32,
     at: u32,
@@ -135,8 +110,7 @@ pub extern "C" fn probe_simple(
     }
 }
 
-#[unsafe(no_mangle)]
-pub extern "C" fn probe_byte(s: &[u8], at: u32, out: &mut [u32; 4]) -> u32 {
+pub fn probe_byte(s: &[u8], at: u32, out: &mut [u32; 4]) -> u32 {
     let most = reach(s.len());
     if most < at {
         return refused(OUTSIDE, out);
@@ -148,8 +122,7 @@ pub extern "C" fn probe_byte(s: &[u8], at: u32, out: &mut [u32; 4]) -> u32 {
 }
 
 // What is wrong with n bytes from a place, aligned or not.
-#[unsafe(no_mangle)]
-pub extern "C" fn probe_text_fault(s: &[u8], at: u32, n: u32, out: &mut [u32; 4]) -> u32 {
+pub fn probe_text_fault(s: &[u8], at: u32, n: u32, out: &mut [u32; 4]) -> u32 {
     let most = reach(s.len());
     if most < at {
         return refused(OUTSIDE, out);
@@ -160,8 +133,7 @@ pub extern "C" fn probe_text_fault(s: &[u8], at: u32, n: u32, out: &mut [u32; 4]
     refused(value::reading::text_fault(s, Bits(at), Bytes(n)), out)
 }
 
-#[unsafe(no_mangle)]
-pub extern "C" fn probe_utf8(text: &[u8]) -> u32
+pub fn probe_utf8(text: &[u8]) -> u32
     ensures { result ≡ text_fault text.now }
 {
     utf8::check(text)

@@ -7,8 +7,7 @@ use numbers::{content, particle, refusal};
 use table::{Content, Particle, Verdict};
 
 // 0 where the table is right; 1, and the place of the first word at fault.
-#[unsafe(no_mangle)]
-pub extern "C" fn probe_table(words: &[u32], place: &mut usize) -> u32 {
+pub fn probe_table(words: &[u32], place: &mut usize) -> u32 {
     match table::check(words) {
         Verdict::Right => {
             *place = 0;
@@ -21,26 +20,22 @@ pub extern "C" fn probe_table(words: &[u32], place: &mut usize) -> u32 {
     }
 }
 
-#[unsafe(no_mangle)]
-pub extern "C" fn probe_table_word(words: &[u32], i: usize) -> u32
+pub fn probe_table_word(words: &[u32], i: usize) -> u32
     ensures { result ≡ word_at words.now i }
 {
     table::rows::word(words, i)
 }
 
-#[unsafe(no_mangle)]
-pub extern "C" fn probe_types(words: &[u32]) -> u32 {
+pub fn probe_types(words: &[u32]) -> u32 {
     table::rows::types(words)
 }
 
-#[unsafe(no_mangle)]
-pub extern "C" fn probe_held(words: &[u32], party: u32, t: u32) -> u32 {
+pub fn probe_held(words: &[u32], party: u32, t: u32) -> u32 {
     table::rows::held(words, party, t) as u32
 }
 
 // The content of type t: 0 nothing; 1 a simple kind with its parameters; 2 a particle row.
-#[unsafe(no_mangle)]
-pub extern "C" fn probe_content(words: &[u32], t: u32, out: &mut [u32; 4]) -> u32 {
+pub fn probe_content(words: &[u32], t: u32, out: &mut [u32; 4]) -> u32 {
     match table::rows::content(words, t) {
         Content::Empty => accepted(0, 0, 0, out),
         Content::Simple(kind, b, c) => {
@@ -55,15 +50,13 @@ pub extern "C" fn probe_content(words: &[u32], t: u32, out: &mut [u32; 4]) -> u3
 }
 
 // The first attribute row of type t, and their number.
-#[unsafe(no_mangle)]
-pub extern "C" fn probe_span(words: &[u32], t: u32, out: &mut [u32; 4]) -> u32 {
+pub fn probe_span(words: &[u32], t: u32, out: &mut [u32; 4]) -> u32 {
     let s = table::rows::span(words, t);
     accepted(s.first, s.count, 0, out)
 }
 
 // The attribute row i: 1 where it is required; its name, and the simple kind of its type with its parameters.
-#[unsafe(no_mangle)]
-pub extern "C" fn probe_attribute(words: &[u32], i: u32, out: &mut [u32; 4]) -> u32 {
+pub fn probe_attribute(words: &[u32], i: u32, out: &mut [u32; 4]) -> u32 {
     let a = table::rows::attribute(words, i);
     accepted(a.name, a.simple, a.b, out);
     out[3] = a.c;
@@ -71,8 +64,7 @@ pub extern "C" fn probe_attribute(words: &[u32], i: u32, out: &mut [u32; 4]) -> 
 }
 
 // The particle row i: 0 element, 1 sequence, 2 choice, 3 occurs; and its words.
-#[unsafe(no_mangle)]
-pub extern "C" fn probe_particle(words: &[u32], i: u32, out: &mut [u32; 4]) -> u32 {
+pub fn probe_particle(words: &[u32], i: u32, out: &mut [u32; 4]) -> u32 {
     match table::rows::particle(words, i) {
         Particle::Element(name, t, _) => accepted(name, t, 0, out),
         Particle::Sequence(first, n) => {

@@ -9,35 +9,30 @@ ghost use Rattle.signed.specs.Views.{bit};
 
 use signed::Gap;
 
-#[unsafe(no_mangle)]
-pub extern "C" fn probe_width(n: u32) -> u32
+pub fn probe_width(n: u32) -> u32
     ensures { result ≡ meaning.width n }
 {
     wire::choices::width(n)
 }
 
-#[unsafe(no_mangle)]
-pub extern "C" fn probe_size5(v: u32) -> u32
+pub fn probe_size5(v: u32) -> u32
     ensures { result ≡ length (code5 v) }
 {
     wire::writing::size5(v).0
 }
 
-#[unsafe(no_mangle)]
-pub extern "C" fn probe_value(word: u32) -> i64
+pub fn probe_value(word: u32) -> i64
     ensures { result ≡ to_z w32 word }
 {
     signed::value(word)
 }
 
-#[unsafe(no_mangle)]
-pub extern "C" fn probe_word(v: i64) -> u32 {
+pub fn probe_word(v: i64) -> u32 {
     signed::word(v)
 }
 
 // 1 where c lies under b, and else how far it lies over b.
-#[unsafe(no_mangle)]
-pub extern "C" fn probe_gap(b: u32, c: u32, by: &mut u32) -> u32 {
+pub fn probe_gap(b: u32, c: u32, by: &mut u32) -> u32 {
     match signed::gap(b, c) {
         Gap::Under => {
             *by = 0;
@@ -50,30 +45,26 @@ pub extern "C" fn probe_gap(b: u32, c: u32, by: &mut u32) -> u32 {
     }
 }
 
-#[unsafe(no_mangle)]
-pub extern "C" fn probe_raised(b: u32, k: u32) -> u32
+pub fn probe_raised(b: u32, k: u32) -> u32
     ensures { result ≡ up b k }
 {
     signed::raised(b, k)
 }
 
-#[unsafe(no_mangle)]
-pub extern "C" fn probe_lowered(b: u32, v: u32) -> u32
+pub fn probe_lowered(b: u32, v: u32) -> u32
     ensures { result ≡ down b v }
 {
     signed::lowered(b, v)
 }
 
 // 1 where the word is negative, and the magnitude.
-#[unsafe(no_mangle)]
-pub extern "C" fn probe_magnitude(word: u32, magnitude: &mut u32) -> u32 {
+pub fn probe_magnitude(word: u32, magnitude: &mut u32) -> u32 {
     let m = signed::magnitude(word);
     *magnitude = m.magnitude;
     m.negative as u32
 }
 
-#[unsafe(no_mangle)]
-pub extern "C" fn probe_with_sign(negative: bool, magnitude: u32) -> u32
+pub fn probe_with_sign(negative: bool, magnitude: u32) -> u32
     ensures { result ≡ word_of (bit negative) magnitude }
 {
     signed::with_sign(negative, magnitude)

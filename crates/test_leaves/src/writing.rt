@@ -13,8 +13,7 @@ use writer_parts::notes::{count, number};
 use writer_parts::values::note_date;
 use writer_parts::{Judgement, Spot};
 
-#[unsafe(no_mangle)]
-pub extern "C" fn probe_put(buf: &mut [u8], at: u32, w: u32, v: u32, out: &mut [u32; 4]) -> u32 {
+pub fn probe_put(buf: &mut [u8], at: u32, w: u32, v: u32, out: &mut [u32; 4]) -> u32 {
     let most = reach(buf.len());
     if most < at {
         return refused(OUTSIDE, out);
@@ -26,8 +25,7 @@ pub extern "C" fn probe_put(buf: &mut [u8], at: u32, w: u32, v: u32, out: &mut [
     accepted(v, p.0, 0, out)
 }
 
-#[unsafe(no_mangle)]
-pub extern "C" fn probe_put5(buf: &mut [u8], at: u32, v: u32, out: &mut [u32; 4]) -> u32 {
+pub fn probe_put5(buf: &mut [u8], at: u32, v: u32, out: &mut [u32; 4]) -> u32 {
     let most = reach(buf.len());
     if most < at {
         return refused(OUTSIDE, out);
@@ -47,8 +45,7 @@ fn size8(v: u32) -> u32
     if v < 128 { 8 } else { 16 }
 }
 
-#[unsafe(no_mangle)]
-pub extern "C" fn probe_put8(buf: &mut [u8], at: u32, v: u32, out: &mut [u32; 4]) -> u32 {
+pub fn probe_put8(buf: &mut [u8], at: u32, v: u32, out: &mut [u32; 4]) -> u32 {
     let most = reach(buf.len());
     if most < at {
         return refused(OUTSIDE, out);
@@ -76,18 +73,15 @@ fn sized(c: Code, v: u32, out: &mut [u32; 4]) -> u32 {
     }
 }
 
-#[unsafe(no_mangle)]
-pub extern "C" fn probe_size_range(b: u32, c: u32, v: u32, out: &mut [u32; 4]) -> u32 {
+pub fn probe_size_range(b: u32, c: u32, v: u32, out: &mut [u32; 4]) -> u32 {
     sized(range(b, c), v, out)
 }
 
-#[unsafe(no_mangle)]
-pub extern "C" fn probe_size_times(least: u32, most: u32, v: u32, out: &mut [u32; 4]) -> u32 {
+pub fn probe_size_times(least: u32, most: u32, v: u32, out: &mut [u32; 4]) -> u32 {
     sized(times(least, most), v, out)
 }
 
-#[unsafe(no_mangle)]
-pub extern "C" fn probe_size_simple(kind: u32, b: u32, c: u32, v: u32, out: &mut [u32; 4]) -> u32 {
+pub fn probe_size_simple(kind: u32, b: u32, c: u32, v: u32, out: &mut [u32; 4]) -> u32 {
     sized(number_of(kind, b, c), v, out)
 }
 
@@ -96,8 +90,7 @@ fn put_in_room(buf: &mut [u8], at: u32, c: Code, v: u32, out: &mut [u32; 4]) -> 
 }
 
 // A date as the writer puts it, of the kind DATE_TIME or else DATE; the bits it takes, and the place past it.
-#[unsafe(no_mangle)]
-pub extern "C" fn probe_put_date(
+pub fn probe_put_date(
     buf: &mut [u8],
     at: u32,
     kind: u32,
@@ -119,20 +112,11 @@ pub extern "C" fn probe_put_date(
     }
 }
 
-#[unsafe(no_mangle)]
-pub extern "C" fn probe_put_range(
-    buf: &mut [u8],
-    at: u32,
-    b: u32,
-    c: u32,
-    v: u32,
-    out: &mut [u32; 4],
-) -> u32 {
+pub fn probe_put_range(buf: &mut [u8], at: u32, b: u32, c: u32, v: u32, out: &mut [u32; 4]) -> u32 {
     put_in_room(buf, at, range(b, c), v, out)
 }
 
-#[unsafe(no_mangle)]
-pub extern "C" fn probe_put_times(
+pub fn probe_put_times(
     buf: &mut [u8],
     at: u32,
     least: u32,
@@ -143,8 +127,7 @@ pub extern "C" fn probe_put_times(
     put_spelt(buf, at, times(least, most), v, count(least, most, v), out)
 }
 
-#[unsafe(no_mangle)]
-pub extern "C" fn probe_put_simple(
+pub fn probe_put_simple(
     buf: &mut [u8],
     at: u32,
     kind: u32,
@@ -156,8 +139,7 @@ pub extern "C" fn probe_put_simple(
     put_in_room(buf, at, number_of(kind, b, c), v, out)
 }
 
-#[unsafe(no_mangle)]
-pub extern "C" fn probe_put_bytes(buf: &mut [u8], at: u32, text: &[u8], out: &mut [u32; 4]) -> u32 {
+pub fn probe_put_bytes(buf: &mut [u8], at: u32, text: &[u8], out: &mut [u32; 4]) -> u32 {
     let most = reach(buf.len());
     if most < at {
         return refused(OUTSIDE, out);
