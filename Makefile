@@ -15,8 +15,8 @@ export SANITIZE = address,undefined
 # The header says which.
 VERSION := $(shell awk '/^.define BIM_VERSION / { printf "%d.%d", $$3 / 100, $$3 % 100 }' include/bim.h)
 
-# What is proved. Any change below crates/ proves it again.
-SOURCES := crates.txt $(shell find crates -path '*/src/*.rt' -o -path '*/specs/*.antt' -o -path '*/proofs/*.antt')
+# What is proved. Any change below crates/ proves it again; out/ is what rt made of it.
+SOURCES := crates.txt $(shell find crates -name out -prune -o \( -path '*/src/*.rt' -o -path '*/specs/*.antt' -o -path '*/proofs/*.antt' \) -print)
 
 # The archive is for x86-64. On another processor what is linked with it is compiled for that, and run under an emulator, by tests/emulated/bin.
 ifneq ($(shell uname -m),x86_64)
@@ -53,7 +53,7 @@ target/sanitized/%: %.c $(ARCHIVE) $(wildcard include/*.h tools/*.h tests/*.h)
 	@mkdir -p target/sanitized
 	$(CC) $(STRICT) $(SANITIZERS) $< $(ARCHIVE) -o $@
 
-# The C calls, proved and then compiled: some minutes from nothing.
+# The C calls, proved and then compiled (crate bim_c): some minutes from nothing.
 $(ARCHIVE): $(SOURCES)
 	@bash dev/prove staticlib bim
 	@touch $@
@@ -72,7 +72,7 @@ target/dist/bim-%: %.c $(ARCHIVE) $(wildcard include/*.h tools/*.h)
 
 # The proved listing program.
 target/bin/list: $(SOURCES) | $(ARCHIVE)
-	@bash dev/prove check list
+	@bash dev/prove program list
 	@touch $@
 
 # Libraries, headers, package files, programs and man pages.
@@ -177,5 +177,5 @@ peer:
 	cd peer && cargo test --release --quiet && cargo run --release --quiet --bin properties && cargo run --release --quiet --bin vectors -- --check
 
 fmt:
-	rt fmt
+	for crate in crates/*/; do (cd $$crate && rt fmt) || exit 1; done
 	cd peer && cargo fmt

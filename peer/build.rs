@@ -3,7 +3,7 @@
 //! made of examples/nanopb, and Debian's nanopb. `fuzz` gets libFuzzer and blocks.c besides:
 //! `FUZZER` and `FUZZ_BLOCKS` name the archive and the object.
 
-/// The crates whose archives are linked (`rt staticlib NAME`), and the one that runs the vectors.
+/// The crates whose archives are linked (`dev/prove staticlib NAME`), and the one that runs the vectors.
 const LEAVES: &str = "test_leaves";
 const CALLS: &str = "bim";
 const CASES: &str = "test_cases";
