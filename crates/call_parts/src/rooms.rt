@@ -1,7 +1,7 @@
 // How much room the calls lend on the stack, for the words of a table and for those of events. Room is zeroed whole before
 // it is used, so little is lent where little is used: least or few words at once, and else the least of three rungs. A rung is
-// a function of its own that has the room, and what climbs to it calls itself. For that the compiler, which puts the rooms of
-// all that it inlines into one frame, leaves each rung its own frame: a call takes the stack of the rungs that it is on.
+// a function of its own that has the room, and is never inlined, as the compiler puts the rooms of all that it inlines into one
+// frame: a call takes the stack of the rungs that it is on, and of no other.
 
 // The words of a table: least, few, some, as many as a table of form 1 can have; any other is lent MOST_TABLE_WORDS. The least
 // room is zeroed without a call.

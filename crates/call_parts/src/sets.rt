@@ -58,6 +58,7 @@ fn set_with_table_room(
 }
 
 // Sets a mark by a table's bytes, in room for some words of it.
+#[inline(never)]
 fn set_in_some(t: &mut [u8], n: usize, party: u32, ty: u32, mark: u32) -> Setting
     requires { Lends n (length t.old) room.some_words }
     ensures { SetByBytes t.old party ty mark result t.new }
@@ -67,6 +68,7 @@ fn set_in_some(t: &mut [u8], n: usize, party: u32, ty: u32, mark: u32) -> Settin
 }
 
 // Sets a mark by a table's bytes, in room for as many words as a table of form 1 can have.
+#[inline(never)]
 fn set_in_form_1(t: &mut [u8], n: usize, party: u32, ty: u32, mark: u32) -> Setting
     requires { Lends n (length t.old) room.form1_words }
     ensures { SetByBytes t.old party ty mark result t.new }
@@ -76,6 +78,7 @@ fn set_in_form_1(t: &mut [u8], n: usize, party: u32, ty: u32, mark: u32) -> Sett
 }
 
 // Sets a mark by a table's bytes, in room for every word that a table can have.
+#[inline(never)]
 fn set_in_all(t: &mut [u8], n: usize, party: u32, ty: u32, mark: u32) -> Setting
     requires { Lends n (length t.old) most_table_words }
     ensures { SetByBytes t.old party ty mark result t.new }

@@ -65,6 +65,7 @@ fn check_with_table_room(t: &[u8], n: usize, words: &mut [u32]) -> Verdict
 }
 
 // Checks a table's bytes, in room for some words of it.
+#[inline(never)]
 fn check_in_some(t: &[u8], n: usize) -> Verdict
     requires { room.Lends n (length t.now) room.some_words }
     ensures { verdict_is result ≡ table_verdict t.now }
@@ -74,6 +75,7 @@ fn check_in_some(t: &[u8], n: usize) -> Verdict
 }
 
 // Checks a table's bytes, in room for as many words as a table of form 1 can have.
+#[inline(never)]
 fn check_in_form_1(t: &[u8], n: usize) -> Verdict
     requires { room.Lends n (length t.now) room.form1_words }
     ensures { verdict_is result ≡ table_verdict t.now }
@@ -83,6 +85,7 @@ fn check_in_form_1(t: &[u8], n: usize) -> Verdict
 }
 
 // Checks a table's bytes, in room for every word that a table can have.
+#[inline(never)]
 fn check_in_all(t: &[u8], n: usize) -> Verdict
     requires { room.Lends n (length t.now) most_table_words }
     ensures { verdict_is result ≡ table_verdict t.now }

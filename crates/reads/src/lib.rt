@@ -120,6 +120,7 @@ fn read_in_room(
 }
 
 // Reads with room for some events.
+#[inline(never)]
 fn read_some_events(words: Words, by: Asked, payload: In, events: Out, texts: Out, area: Out) -> u32
     requires { Slots events area some_event_words }
     ensures { ReadByWords words by payload events texts area result }
@@ -129,6 +130,7 @@ fn read_some_events(words: Words, by: Asked, payload: In, events: Out, texts: Ou
 }
 
 // The same with room for many.
+#[inline(never)]
 fn read_many_events(words: Words, by: Asked, payload: In, events: Out, texts: Out, area: Out) -> u32
     requires { Slots events area many_event_words }
     ensures { ReadByWords words by payload events texts area result }
@@ -138,6 +140,7 @@ fn read_many_events(words: Words, by: Asked, payload: In, events: Out, texts: Ou
 }
 
 // The same with room for every event that has a place.
+#[inline(never)]
 fn read_most_events(words: Words, by: Asked, payload: In, events: Out, texts: Out, area: Out) -> u32
     requires { Slots events area most_event_words }
     ensures { ReadByWords words by payload events texts area result }
@@ -246,6 +249,7 @@ fn read_with_table_room(
 }
 
 // Reads by a table's bytes, in room for some words of it.
+#[inline(never)]
 fn read_in_some(table: In, by: Asked, payload: In, events: Out, texts: Out, area: Out) -> u32
     requires { Fits 4 table area some_words }
     ensures { ReadByBytes table by payload events texts area result }
@@ -255,6 +259,7 @@ fn read_in_some(table: In, by: Asked, payload: In, events: Out, texts: Out, area
 }
 
 // The same in room for as many words as a table of form 1 can have.
+#[inline(never)]
 fn read_in_form_1(table: In, by: Asked, payload: In, events: Out, texts: Out, area: Out) -> u32
     requires { Fits 4 table area form1_words }
     ensures { ReadByBytes table by payload events texts area result }
@@ -264,6 +269,7 @@ fn read_in_form_1(table: In, by: Asked, payload: In, events: Out, texts: Out, ar
 }
 
 // The same in room for every word that a table can have.
+#[inline(never)]
 fn read_in_all(table: In, by: Asked, payload: In, events: Out, texts: Out, area: Out) -> u32
     requires { Fits 4 table area most_table_words }
     ensures { ReadByBytes table by payload events texts area result }

@@ -78,6 +78,7 @@ fn write_in_room(
 }
 
 // Writes a list's bytes, in room for some events.
+#[inline(never)]
 fn write_some_events(words: Words, by: Order, events: In, texts: In, payload: Out, area: Out) -> u32
     requires { Fits limit.event events area some_event_words }
     ensures { WrittenByWords words by events texts payload area result }
@@ -87,6 +88,7 @@ fn write_some_events(words: Words, by: Order, events: In, texts: In, payload: Ou
 }
 
 // The same in room for many.
+#[inline(never)]
 fn write_many_events(words: Words, by: Order, events: In, texts: In, payload: Out, area: Out) -> u32
     requires { Fits limit.event events area many_event_words }
     ensures { WrittenByWords words by events texts payload area result }
@@ -96,6 +98,7 @@ fn write_many_events(words: Words, by: Order, events: In, texts: In, payload: Ou
 }
 
 // The same in room for every one that it can have.
+#[inline(never)]
 fn write_most_events(words: Words, by: Order, events: In, texts: In, payload: Out, area: Out) -> u32
     requires { Fits limit.event events area most_event_words }
     ensures { WrittenByWords words by events texts payload area result }
@@ -186,6 +189,7 @@ fn write_with_table_room(
 }
 
 // Writes by a table's bytes, in room for some words of it.
+#[inline(never)]
 fn write_in_some(table: In, by: Order, events: In, texts: In, payload: Out, area: Out) -> u32
     requires { Fits 4 table area some_words }
     ensures { WrittenByBytes table by events texts payload area result }
@@ -195,6 +199,7 @@ fn write_in_some(table: In, by: Order, events: In, texts: In, payload: Out, area
 }
 
 // The same in room for as many words as a table of form 1 can have.
+#[inline(never)]
 fn write_in_form_1(table: In, by: Order, events: In, texts: In, payload: Out, area: Out) -> u32
     requires { Fits 4 table area form1_words }
     ensures { WrittenByBytes table by events texts payload area result }
@@ -204,6 +209,7 @@ fn write_in_form_1(table: In, by: Order, events: In, texts: In, payload: Out, ar
 }
 
 // The same in room for every word that a table can have.
+#[inline(never)]
 fn write_in_all(table: In, by: Order, events: In, texts: In, payload: Out, area: Out) -> u32
     requires { Fits 4 table area most_table_words }
     ensures { WrittenByBytes table by events texts payload area result }
