@@ -1,5 +1,5 @@
 -- `put`: a copy, turn by turn.
-use Rattle.std.proofs.Common.{arith, refl, length-set}
+use Rattle.std.proofs.Common.{arith, length-set}
 use Rattle.list.proofs.Decimals.{put-more, put_all}
 use Rattle.list.proofs.text.put.Goals as goal
 
