@@ -15,7 +15,7 @@ use std::io;
 use std::io::Read;
 use text::{event_line, heading, refusal as refusal_line};
 
-// The bytes of input that are looked at.
+// The bytes of input that are read. Behind a table of more than 14,333 words they leave no room for the longest payload.
 const MOST_INPUT: usize = 65536;
 
 fn print_event(rt: &impl Print, kind: u32, p: u32, q: u32, bits: u32) -> io::Result<()> {
