@@ -10,8 +10,7 @@ use borrow.Author.Tests.{lt-ltb, le-ltb}
 use lib.Dec.{ltb}
 use lib.ListN.{length, get_or, set, take}
 use lib.Seq.{paste, paste-suc, take-paste, take-length, length-take-le}
-use Rattle.io.specs.Counts.{IsPrefixLen}
-use Rattle.io.specs.Digits.{last_digits, IsDigitCount}
+use Rattle.list.specs.Digits.{IsPrefixLen, last_digits, IsDigitCount}
 use Rattle.signed.proofs.Laws.{ordered}
 use Rattle.list.specs.Text.{places, decimal}
 

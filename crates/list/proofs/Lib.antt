@@ -1,3 +1,4 @@
 mod Decimals
 mod Example
 mod Inputs
+mod Powers

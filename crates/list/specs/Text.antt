@@ -1,7 +1,7 @@
 -- What the program prints, as ASCII.
 use Rattle.std.specs.Prelude.{ℕ, zero, suc, ◌/◌, ◌≡◌, cond, List, [], ◌++◌, ltb, eqb, get_or, drop}
 use Rattle.std.proofs.Common.{ap₂}
-use Rattle.io.specs.Digits.{last_digits}
+use Rattle.list.specs.Digits.{last_digits}
 use Rattle.model.specs.Whole.{Outcome, outcome, events_left}
 use Rattle.reader.specs.Answers.{answer_is, Replies}
 use Rattle.reader.specs.declared.Answer.{Answer}

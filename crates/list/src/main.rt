@@ -1,56 +1,80 @@
 // The listing program: a table, a root and a payload from standard input, the events to standard output.
 #![tactic(auto)]
 
+mod digits; // digits.rt: a number's digits
 mod listing; // listing.rt: the input taken apart, and read
 mod text; // text.rt: the lines
+
+ghost use Rattle.std.specs.Prelude.{IfOk};
+ghost use Rattle.list.specs.Digits.{IsPrefixLen};
 
 use listing::read_input;
 use numbers::{limit, refusal};
 use reader::Answer;
-use text::{event_line, heading, refusal};
+use std::io;
+use std::io::Read;
+use text::{event_line, heading, refusal as refusal_line};
 
-fn print_event(kind: u32, p: u32, q: u32, bits: u32) {
+// The bytes of input that are read. Behind a table of more than 14,333 words they leave no room for the longest payload.
+const MOST_INPUT: usize = 65536;
+
+fn print_event(rt: &impl Print, kind: u32, p: u32, q: u32, bits: u32) -> io::Result<()> {
     let mut line = [0u8; 128];
     let k = event_line(&mut line, kind, p, q, bits);
-    io::write_all(1, &line[..k]);
+    rt.write_all(&line[..k])
 }
 
 // A line for each of n events.
-fn print_events(events: &[u32], n: usize) {
+fn print_events(rt: &impl Print, events: &[u32], n: usize) -> io::Result<()> {
     let mut left = n;
     let mut i = 0;
     while i + 3 < events.len() {
         if left == 0 {
-            return;
+            return Ok(());
         }
-        print_event(events[i], events[i + 1], events[i + 2], events[i + 3]);
+        print_event(rt, events[i], events[i + 1], events[i + 2], events[i + 3])?;
         left -= 1;
         i += 4;
     }
+    Ok(())
 }
 
-fn print_refusal(number: u32, place: usize) {
+fn print_refusal(rt: &impl Print, number: u32, place: usize) -> io::Result<()> {
     let mut line = [0u8; 128];
-    let k = refusal(&mut line, number, place);
-    io::write_all(1, &line[..k]);
+    let k = refusal_line(&mut line, number, place);
+    rt.write_all(&line[..k])
 }
 
-fn print_heading(events: u32, text: u32, bits: u32) {
+fn print_heading(rt: &impl Print, events: u32, text: u32, bits: u32) -> io::Result<()> {
     let mut line = [0u8; 128];
     let k = heading(&mut line, events, text, bits);
-    io::write_all(1, &line[..k]);
+    rt.write_all(&line[..k])
 }
 
-fn main() {
-    let mut input = io::large_buffer();
-    let n = io::read_full(0, &mut input);
+// Reads until the buffer is full or the input ends, and answers how many bytes it put at its start.
+fn read_full(input: &mut impl Read, buf: &mut [u8]) -> io::Result<usize>
+    ensures { IfOk result (λ n. IsPrefixLen n buf.new) }
+{
+    let mut done = 0;
+    while done < buf.len() {
+        let n = input.read(&mut buf[done..])?;
+        if n == 0 {
+            break;
+        }
+        done += n;
+    }
+    Ok(done)
+}
+
+fn main(rt: HostRuntime) -> io::Result<()> {
+    let mut input = [0u8; MOST_INPUT];
+    let n = read_full(&mut rt.stdin(), &mut input)?;
     let mut events = [0u32; limit::MOST_EVENT_WORDS];
     let mut texts = [0u8; limit::MOST_PAYLOAD];
     let a = read_input(&input[..n], &mut events, &mut texts);
     if a.number != refusal::ACCEPTED {
-        print_refusal(a.number, a.place);
-        return;
+        return print_refusal(&rt, a.number, a.place);
     }
-    print_heading(a.events, a.text.0, a.bits.0);
-    print_events(&events, a.events as usize);
+    print_heading(&rt, a.events, a.text.0, a.bits.0)?;
+    print_events(&rt, &events, a.events as usize)
 }

@@ -1,7 +1,9 @@
 // Lines of text: numbers in decimal, and words between them.
 ghost use Rattle.std.specs.Prelude.{◌≡◌, ◌++◌, ◌+◌, ◌≤◌, length, take};
-ghost use Rattle.io.specs.Counts.{IsPrefixLen};
+ghost use Rattle.list.specs.Digits.{IsPrefixLen};
 ghost use Rattle.list.specs.Text as meaning;
+
+use crate::digits::decimal;
 
 // Bytes put behind the first `at` of a line; the place past them.
 fn put(out: &mut [u8], at: usize, s: &[u8]) -> usize
@@ -24,7 +26,7 @@ fn put_number(out: &mut [u8], at: usize, n: u64) -> usize
     ensures added { take result out.new ≡ take at out.old ++ meaning.decimal n }
 {
     let mut digits = [0u8; 20];
-    let k = io::decimal(n, &mut digits);
+    let k = decimal(n, &mut digits);
     put(out, at, &digits[..k])
 }
 

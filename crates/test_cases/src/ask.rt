@@ -1,6 +1,7 @@
 // Which leaf a case asks, and how its answer is printed: the refusal's number or 0, the value, the place past it, and one number
 // more; of a code that is written the value, the place past it, and the 8 bytes that it was written into.
 use buffers::word;
+use std::io;
 use test_leaves::reading::{
     probe_any5, probe_any8, probe_fixed, probe_range, probe_simple, probe_times, probe_utf8,
     probe_vlu5, probe_vlu8,
@@ -51,42 +52,40 @@ fn write(case: Case, buf: &mut [u8], out: &mut [u32; 4]) -> u32 {
     }
 }
 
-fn print(n: u32) {
-    io::print_decimal(1, n as u64);
-    io::write_all(1, b" ");
+fn print(rt: &impl Print, n: u32) -> io::Result<()> {
+    print!(rt; "{n} ")
 }
 
-fn print_last(n: u32) {
-    io::print_decimal(1, n as u64);
-    io::write_all(1, b"\n");
+fn print_last(rt: &impl Print, n: u32) -> io::Result<()> {
+    println!(rt; "{n}")
 }
 
-fn tell_read(case: Case, s: &[u8]) {
+fn tell_read(rt: &impl Print, case: Case, s: &[u8]) -> io::Result<()> {
     let mut out = [0u32; 4];
     let number = read(case, s, &mut out);
-    print(number);
-    print(out[0]);
-    print(out[1]);
-    print_last(out[2]);
+    print(rt, number)?;
+    print(rt, out[0])?;
+    print(rt, out[1])?;
+    print_last(rt, out[2])
 }
 
-fn tell_written(case: Case) {
+fn tell_written(rt: &impl Print, case: Case) -> io::Result<()> {
     let mut out = [0u32; 4];
     let mut buf = [0u8; 8];
     let number = write(case, &mut buf, &mut out);
-    print(number);
-    print(out[0]);
-    print(out[1]);
-    io::print_hex(1, word(&buf, 0) as u64, 8);
-    io::print_hex(1, word(&buf, 4) as u64, 8);
-    io::write_all(1, b"\n");
+    print(rt, number)?;
+    print(rt, out[0])?;
+    print(rt, out[1])?;
+    let high = word(&buf, 0);
+    let low = word(&buf, 4);
+    println!(rt; "{high:08x}{low:08x}")
 }
 
 // Reads are asked by numbers below 16, writes by those from 16 on.
-pub fn tell(case: Case, s: &[u8]) {
+pub fn tell(rt: &impl Print, case: Case, s: &[u8]) -> io::Result<()> {
     if case.asked < 16 {
-        tell_read(case, s);
+        tell_read(rt, case, s)
     } else {
-        tell_written(case);
+        tell_written(rt, case)
     }
 }

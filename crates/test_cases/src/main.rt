@@ -7,11 +7,13 @@
 mod ask;
 mod payload;
 
-ghost use Rattle.std.specs.Prelude.{◌≡◌, ◌<◌, length};
+ghost use Rattle.std.specs.Prelude.{◌≡◌, ◌<◌, ◌≤◌, length, IfOk};
 
 use ask::{Case, tell};
 use buffers::word;
 use payload::tell_reading;
+use std::io;
+use std::io::Read;
 
 fn wide(x: u8) -> u32
     ensures { result < 256 }
@@ -20,25 +22,25 @@ fn wide(x: u8) -> u32
 }
 
 // Nothing more can be told.
-fn cut_off(s: &[u8]) -> usize
-    ensures { result ≡ length s.now }
+fn cut_off(rt: &impl Print, s: &[u8]) -> io::Result<usize>
+    ensures { IfOk result (λ past. past ≡ length s.now) }
 {
-    io::write_all(1, b"cut off\n");
-    s.len()
+    println!(rt; "cut off")?;
+    Ok(s.len())
 }
 
 // Tells the code case at a place, and answers the place past it; one that is cut off is the last.
-fn code_case(s: &[u8], at: usize) -> usize
+fn code_case(rt: &impl Print, s: &[u8], at: usize) -> io::Result<usize>
     requires { at < length s.now }
-    ensures { at < result }
+    ensures { IfOk result (λ past. at < past) }
 {
     let left = s.len() - at;
     if left < 22 {
-        return cut_off(s);
+        return cut_off(rt, s);
     }
     let n = wide(s[at + 1]) as usize;
     if left - 22 < n {
-        return cut_off(s);
+        return cut_off(rt, s);
     }
     let from = at + 22;
     let end = from + n;
@@ -50,28 +52,28 @@ fn code_case(s: &[u8], at: usize) -> usize
         b: word(s, at + 14),
         c: word(s, at + 18),
     };
-    tell(case, &s[from..end]);
-    end
+    tell(rt, case, &s[from..end])?;
+    Ok(end)
 }
 
 // The payload case at a place, likewise.
-fn payload_case(s: &[u8], at: usize) -> usize
+fn payload_case(rt: &impl Print, s: &[u8], at: usize) -> io::Result<usize>
     requires { at < length s.now }
-    ensures { at < result }
+    ensures { IfOk result (λ past. at < past) }
 {
     let left = s.len() - at;
     if left < 26 {
-        return cut_off(s);
+        return cut_off(rt, s);
     }
     let words = word(s, at + 2) as usize;
     let bytes = word(s, at + 6) as usize;
     if (left - 26) / 4 < words {
-        return cut_off(s);
+        return cut_off(rt, s);
     }
     let table = at + 26;
     let from = table + 4 * words;
     if s.len() - from < bytes {
-        return cut_off(s);
+        return cut_off(rt, s);
     }
     let end = from + bytes;
     let party = wide(s[at + 1]);
@@ -80,6 +82,7 @@ fn payload_case(s: &[u8], at: usize) -> usize
     let events = word(s, at + 18) as usize;
     let texts = word(s, at + 22) as usize;
     tell_reading(
+        rt,
         &s[table..from],
         party,
         name,
@@ -87,29 +90,45 @@ fn payload_case(s: &[u8], at: usize) -> usize
         &s[from..end],
         4 * events,
         texts,
-    );
-    end
+    )?;
+    Ok(end)
 }
 
-fn one(s: &[u8], at: usize) -> usize
+fn one(rt: &impl Print, s: &[u8], at: usize) -> io::Result<usize>
     requires { at < length s.now }
-    ensures { at < result }
+    ensures { IfOk result (λ past. at < past) }
 {
     if s[at] < 32 {
-        return code_case(s, at);
+        return code_case(rt, s, at);
     }
-    payload_case(s, at)
+    payload_case(rt, s, at)
 }
 
-fn every(s: &[u8]) {
+fn every(rt: &impl Print, s: &[u8]) -> io::Result<()> {
     let mut at: usize = 0;
     while at < s.len() {
-        at = one(s, at);
+        at = one(rt, s, at)?;
     }
+    Ok(())
 }
 
-fn main() {
+// Reads until the buffer is full or the input ends, and answers how many bytes it put at its start.
+fn read_full(input: &mut impl Read, buf: &mut [u8]) -> io::Result<usize>
+    ensures { IfOk result (λ n. n ≤ length buf.new) }
+{
+    let mut done = 0;
+    while done < buf.len() {
+        let n = input.read(&mut buf[done..])?;
+        if n == 0 {
+            break;
+        }
+        done += n;
+    }
+    Ok(done)
+}
+
+fn main(rt: HostRuntime) -> io::Result<()> {
     let mut buf = [0u8; 262144];
-    let n = io::read_full(0, &mut buf);
-    every(&buf[..n]);
+    let n = read_full(&mut rt.stdin(), &mut buf)?;
+    every(&rt, &buf[..n])
 }

@@ -2,83 +2,83 @@
 // many bytes of the lent buffers past the list and the texts are not 0. They hold junk before the call, so a byte that is left as it was shows.
 ghost use Rattle.std.specs.Prelude.{◌+◌, ◌≤◌, length};
 
-use crate::wide;
 use bim::bim_read;
 use buffers::{half, word};
 use numbers::{limit, refusal};
+use std::io;
 
-fn print_word(s: &[u8], at: usize)
+fn print_word(rt: &impl Print, s: &[u8], at: usize) -> io::Result<()>
     requires { at + 4 ≤ length s.now }
 {
-    io::write_all(1, b" ");
-    io::print_decimal(1, word(s, at) as u64);
+    let n = word(s, at);
+    print!(rt; " {n}")
 }
 
 // Number, then place, mode, events, text bytes and bits.
-fn print_answer(number: u32, area: &[u8; limit::AREA]) {
-    io::write_all(1, b"answer ");
-    io::print_decimal(1, number as u64);
-    print_word(area, 0);
-    print_word(area, 4);
-    print_word(area, 8);
-    print_word(area, 12);
-    print_word(area, 16);
-    io::write_all(1, b"\n");
+fn print_answer(rt: &impl Print, number: u32, area: &[u8; limit::AREA]) -> io::Result<()> {
+    print!(rt; "answer {number}")?;
+    print_word(rt, area, 0)?;
+    print_word(rt, area, 4)?;
+    print_word(rt, area, 8)?;
+    print_word(rt, area, 12)?;
+    print_word(rt, area, 16)?;
+    println!(rt; "")
 }
 
 // The open elements, where there are any.
-fn print_path(area: &[u8; limit::AREA]) {
+fn print_path(rt: &impl Print, area: &[u8; limit::AREA]) -> io::Result<()> {
     let n = word(area, 20) as usize;
     if n == 0 {
-        return;
+        return Ok(());
     }
-    io::write_all(1, b"path");
+    print!(rt; "path")?;
     let mut i = 0;
     while i < limit::MOST_NAMES {
         if i < n {
-            io::write_all(1, b" ");
-            io::print_decimal(1, half(area, 24 + 2 * i) as u64);
+            let name = half(area, 24 + 2 * i);
+            print!(rt; " {name}")?;
         }
         i += 1;
     }
-    io::write_all(1, b"\n");
+    println!(rt; "")
 }
 
-fn print_event(events: &[u8], at: usize)
+fn print_event(rt: &impl Print, events: &[u8], at: usize) -> io::Result<()>
     requires { at + 16 ≤ length events.now }
 {
-    io::write_all(1, b"event");
-    print_word(events, at);
-    print_word(events, at + 4);
-    print_word(events, at + 8);
-    print_word(events, at + 12);
-    io::write_all(1, b"\n");
+    print!(rt; "event")?;
+    print_word(rt, events, at)?;
+    print_word(rt, events, at + 4)?;
+    print_word(rt, events, at + 8)?;
+    print_word(rt, events, at + 12)?;
+    println!(rt; "")
 }
 
-fn print_events(events: &[u8], n: usize) {
+fn print_events(rt: &impl Print, events: &[u8], n: usize) -> io::Result<()> {
     let mut i = 0;
     while i < events.len() / limit::EVENT {
         if i < n {
-            print_event(events, limit::EVENT * i);
+            print_event(rt, events, limit::EVENT * i)?;
         }
         i += 1;
     }
+    Ok(())
 }
 
-fn print_texts(texts: &[u8], n: usize) {
+fn print_texts(rt: &impl Print, texts: &[u8], n: usize) -> io::Result<()> {
     if n == 0 {
-        io::write_all(1, b"texts -\n");
-        return;
+        return println!(rt; "texts -");
     }
-    io::write_all(1, b"texts ");
+    print!(rt; "texts ")?;
     let mut i = 0;
     while i < texts.len() {
         if i < n {
-            io::print_hex(1, wide(texts[i]) as u64, 2);
+            let byte = texts[i];
+            print!(rt; "{byte:02x}")?;
         }
         i += 1;
     }
-    io::write_all(1, b"\n");
+    println!(rt; "")
 }
 
 // How many bytes from a place on are not 0.
@@ -101,24 +101,29 @@ fn more(n: u64) -> u64 {
     if n < MOST { n + 1 } else { n }
 }
 
-fn tell(number: u32, events: &[u8], texts: &[u8], area: &[u8; limit::AREA]) {
+fn tell(
+    rt: &impl Print,
+    number: u32,
+    events: &[u8],
+    texts: &[u8],
+    area: &[u8; limit::AREA],
+) -> io::Result<()> {
     let count = word(area, 8) as usize;
     let bytes = word(area, 12) as usize;
-    print_answer(number, area);
-    print_path(area);
-    print_events(events, count);
+    print_answer(rt, number, area)?;
+    print_path(rt, area)?;
+    print_events(rt, events, count)?;
     if number == refusal::ACCEPTED {
-        print_texts(texts, bytes);
+        print_texts(rt, texts, bytes)?;
     }
-    io::write_all(1, b"left ");
-    io::print_decimal(1, left(events, limit::EVENT * count));
-    io::write_all(1, b" ");
-    io::print_decimal(1, left(texts, bytes));
-    io::write_all(1, b"\n");
+    let past_events = left(events, limit::EVENT * count);
+    let past_texts = left(texts, bytes);
+    println!(rt; "left {past_events} {past_texts}")
 }
 
 // Reads a payload into lent events and texts.
 fn read_into(
+    rt: &impl Print,
     table: &[u8],
     party: u32,
     name: u32,
@@ -126,31 +131,15 @@ fn read_into(
     payload: &[u8],
     events: &mut [u8],
     texts: &mut [u8],
-) {
+) -> io::Result<()> {
     let mut area = [165u8; limit::AREA];
     let number = bim_read(table, party, name, t, payload, events, texts, &mut area);
-    tell(number, events, texts, &area);
+    tell(rt, number, events, texts, &area)
 }
 
 // Lends so many bytes for events and for texts.
-fn lend(table: &[u8], party: u32, name: u32, t: u32, payload: &[u8], e: usize, x: usize)
-    requires { (e ≤ 49152) × (x ≤ 8192) }
-{
-    let mut events = [165u8; 49152];
-    let mut texts = [165u8; limit::MOST_PAYLOAD];
-    read_into(
-        table,
-        party,
-        name,
-        t,
-        payload,
-        &mut events[..e],
-        &mut texts[..x],
-    );
-}
-
-// Reads a payload with so many bytes lent for events and for texts, as many as there are here.
-pub fn tell_reading(
+fn lend(
+    rt: &impl Print,
     table: &[u8],
     party: u32,
     name: u32,
@@ -158,16 +147,43 @@ pub fn tell_reading(
     payload: &[u8],
     e: usize,
     x: usize,
-) {
-    if 49152 < e {
-        return too_much();
-    }
-    if limit::MOST_PAYLOAD < x {
-        return too_much();
-    }
-    lend(table, party, name, t, payload, e, x);
+) -> io::Result<()>
+    requires { (e ≤ 49152) × (x ≤ 8192) }
+{
+    let mut events = [165u8; 49152];
+    let mut texts = [165u8; limit::MOST_PAYLOAD];
+    read_into(
+        rt,
+        table,
+        party,
+        name,
+        t,
+        payload,
+        &mut events[..e],
+        &mut texts[..x],
+    )
 }
 
-fn too_much() {
-    io::write_all(1, b"too much room\n");
+// Reads a payload with so many bytes lent for events and for texts, as many as there are here.
+pub fn tell_reading(
+    rt: &impl Print,
+    table: &[u8],
+    party: u32,
+    name: u32,
+    t: u32,
+    payload: &[u8],
+    e: usize,
+    x: usize,
+) -> io::Result<()> {
+    if 49152 < e {
+        return too_much(rt);
+    }
+    if limit::MOST_PAYLOAD < x {
+        return too_much(rt);
+    }
+    lend(rt, table, party, name, t, payload, e, x)
+}
+
+fn too_much(rt: &impl Print) -> io::Result<()> {
+    println!(rt; "too much room")
 }

@@ -1,0 +1,8 @@
+-- `refusal`: part by part.
+use Rattle.list.proofs.Decimals.{link}
+use Rattle.list.specs.Text as meaning
+use Rattle.list.proofs.text.refusal.Goals as goal
+
+pub returns-clause-line : goal.returns-clause-line
+unfolding meaning.refusal
+returns-clause-line c = link _ _ _ _ c.put.ensures.added (link _ _ _ _ c.put_after-b.ensures.added c.put_after-a.ensures.added)
