@@ -1,5 +1,4 @@
 -- `root` answers what the reading comes to after the mode byte: accepted, refused with no path or with the path told, or 17. Each answer is a way of specs/Root.
-use mathlib.Core.Path.{◌∙◌}
 use native.Mathlib.Omega.{arith}
 use borrow.Author.Rules.{rules}
 use Rattle.reader.proofs.RootLaws.{root-ways, payload-short, root-given, root-refused, root_told, root-left}

@@ -1,5 +1,4 @@
 -- No rows, one element, or rows as they are.
-use borrow.Author.Rules.{rules}
 use Rattle.reader.proofs.AimWays.{narrow-none, narrow-rows, first-inside, narrow-deep, narrow-element}
 use Rattle.reader.proofs.groups.narrowed.Goals as goal
 

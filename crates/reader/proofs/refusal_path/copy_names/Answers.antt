@@ -1,10 +1,9 @@
 -- `copied` leaves the other names. The invariant: the length is kept, and what was passed is over.
-use Prim.Native.Nat.{◌-◌, ◌≤◌}
-use mathlib.Core.Path.{◌≡◌, sym, ◌∙◌}
+use mathlib.Core.Path.{sym, ◌∙◌}
 use native.Mathlib.Omega.{arith}
 use borrow.Author.Rules.{rules}
-use lib.ListN.{length, length-set}
-use Rattle.reader.proofs.RefusalPathLaws.{Over, over-more, over-all}
+use lib.ListN.{length-set}
+use Rattle.reader.proofs.RefusalPathLaws.{over-more, over-all}
 use Rattle.reader.proofs.refusal_path.copy_names.Goals as goal
 
 pub loop-i-preserved : goal.loop-i-preserved

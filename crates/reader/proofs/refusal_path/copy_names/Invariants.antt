@@ -1,10 +1,8 @@
 -- `copied` leaves the other names. The invariant: the length is kept, and what was passed is over.
 use Prim.Native.Nat.{◌-◌, ◌≤◌}
-use mathlib.Core.Path.{◌≡◌, sym, ◌∙◌}
-use native.Mathlib.Omega.{arith}
-use borrow.Author.Rules.{rules}
-use lib.ListN.{length, length-set}
-use Rattle.reader.proofs.RefusalPathLaws.{Over, over-more, over-all}
+use mathlib.Core.Path.{◌≡◌}
+use lib.ListN.{length}
+use Rattle.reader.proofs.RefusalPathLaws.{Over}
 use Rattle.reader.proofs.refusal_path.copy_names.Given as goal
 
 abbrev pub invariant-loop-i : goal.invariant-loop-i

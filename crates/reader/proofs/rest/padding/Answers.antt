@@ -1,9 +1,6 @@
 -- `rest::padding` meets its contract. The invariant: what is left from here on says what is left after the root.
-use Prim.Native.Nat.{◌-◌, ◌*◌, ◌≤◌}
-use mathlib.Core.Path.{◌≡◌}
-use lib.ListN.{length}
 use borrow.Author.Rules.{rules}
-use Rattle.reader.proofs.RestLaws.{Left, rest-ways}
+use Rattle.reader.proofs.RestLaws.{rest-ways}
 use Rattle.reader.proofs.rest.padding.Goals as goal
 
 pub overflow_mul-wall : goal.overflow_mul-wall

@@ -2,8 +2,7 @@
 use Prim.Native.Nat.{◌-◌, ◌*◌, ◌≤◌}
 use mathlib.Core.Path.{◌≡◌}
 use lib.ListN.{length}
-use borrow.Author.Rules.{rules}
-use Rattle.reader.proofs.RestLaws.{Left, rest-ways}
+use Rattle.reader.proofs.RestLaws.{Left}
 use Rattle.reader.proofs.rest.padding.Given as goal
 
 abbrev pub invariant-loop-p : goal.invariant-loop-p
