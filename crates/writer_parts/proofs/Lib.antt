@@ -4,6 +4,7 @@ mod EndWays
 mod HeadWays
 pub mod JudgingWays
 pub mod Leads
+mod LeafWays
 pub mod NoteLaws
 pub mod NoteWays
 mod OpeningWays

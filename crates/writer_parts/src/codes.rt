@@ -23,7 +23,7 @@ use wire::Coded;
 use wire::choices::width;
 
 // None, or one of n, counted from 1: a bit for none, or a bit and the number less one; no bits where there are none.
-fn one_of(n: u32, k: u32) -> Coded
+pub fn one_of(n: u32, k: u32) -> Coded
     requires { (n ≤ most_choices) × (k ≤ n) }
     ensures { Short 11 result (bits_of (one_of n) k) }
 {
@@ -40,7 +40,7 @@ fn one_of(n: u32, k: u32) -> Coded
 }
 
 // One code behind another.
-fn pair(a: Coded, b: Coded) -> Coded
+pub fn pair(a: Coded, b: Coded) -> Coded
     requires { (a.size ≤ 11) × (b.size ≤ 11) × (a.bits < 2 ^ a.size) × (b.bits < 2 ^ b.size) }
     ensures { Short 22 result (digits a.size a.bits ++ digits b.size b.bits) }
 {

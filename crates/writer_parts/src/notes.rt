@@ -7,6 +7,8 @@ ghost use Rattle.value.specs.Simple.{times_code};
 ghost use Rattle.value.specs.Answer.{inner_is, code_is};
 ghost use Rattle.writer_parts.specs.Notes.{Spelt, Short, Flagged, Noted, DateNote};
 
+pub use crate::codes::{one_of, pair};
+pub use crate::heads::head;
 use crate::{SizedNote, Spelling};
 use numbers::refusal;
 use signed::{lowered, magnitude};

@@ -45,7 +45,7 @@ fn text_note(v: u32, from: usize) -> u64
 }
 
 // A text's event, of v bytes.
-fn note_text(events: &[u32], texts: &[u8], notes: &mut [u64], c: Spot, v: u32) -> Judgement
+pub fn note_text(events: &[u32], texts: &[u8], notes: &mut [u64], c: Spot, v: u32) -> Judgement
     requires { Ready events.now texts.now notes.old c }
     ensures { Walked events.now texts.now
         (noted (wanted kinds.value v 0) (simple_out text v (texts_at texts.now c.used))
