@@ -10,7 +10,7 @@ ghost use Rattle.reader.specs.Meaning.{Ready, Owned, reach_of};
 ghost use Rattle.reader.specs.Entering.{filled_by, rows_of, entry_of, Fills, Enters};
 
 use model::Mode;
-use reader_parts::attributes::before_rows;
+use reader_parts::attributes::lead_before_rows;
 use reader_parts::ends::close;
 use reader_parts::heads::head;
 use reader_parts::opening::open;
@@ -136,7 +136,7 @@ fn fill(
     ensures { Fills table.now payload.now mode t coded body.0 wall.0 c events.old
         texts.old result events.new texts.new }
 {
-    let s = before_rows(table, payload, events, texts, wall, c, t);
+    let s = lead_before_rows(table, payload, events, texts, wall, c, t);
     let Step::Go(d) = s else {
         return filled(s);
     };

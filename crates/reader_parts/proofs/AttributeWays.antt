@@ -42,16 +42,16 @@ use Rattle.reader_parts.specs.declared.attributes.Due.{Due}
 use Rattle.reader_parts.specs.declared.attributes.Lead.{Lead}
 use Rattle.reader_parts.specs.declared.attributes.Lead.TheVariants as lead
 use Rattle.reader_parts.specs.Out.{room_of, step_view, outcome, own_value, Reads, Stores}
-use Rattle.reader_parts.specs.Parts.{own_lead, part_at, before_rows, lead_view, Leads, Notes}
+use Rattle.reader_parts.specs.Parts.{own_lead, part_at, before_rows, lead_view, Leads, LeadNotes}
 use Rattle.reader_parts.proofs.Laws.{after_stop, after-go, outcome-none}
 
 -- the flag
 module _ (b : ℕ → ℕ) (wall at : ℕ) (r : Read) (e : read_is r ≡ choice_at b 2 wall at) where
-  flag-refuse : (n : ℕ) → r ≡ of-read.Refuse n → simple_at (plain (choice 2)) b wall at ≡ fault n
+  pub flag-refuse : (n : ℕ) → r ≡ of-read.Refuse n → simple_at (plain (choice 2)) b wall at ≡ fault n
   unfolding simple_at code_at
   flag-refuse n g = then-fault _ (read-refuse e g)
 
-  flag-value : (v : ℕ) (next : Bits) → r ≡ of-read.Value v next → simple_at (plain (choice 2)) b wall at ≡ got (v, [], next.0)
+  pub flag-value : (v : ℕ) (next : Bits) → r ≡ of-read.Value v next → simple_at (plain (choice 2)) b wall at ≡ got (v, [], next.0)
   unfolding simple_at code_at
   flag-value v next g = then _ (read-value e g) refl
 
@@ -61,7 +61,7 @@ Given a v = maybe v (value a.simple a.b a.c done) done
 
 -- an attribute's event, and its value is next
 module _ (c : Cursor) (E : List ℕ) (a : of-table.Attribute) (v next : ℕ) (s : Step) (E' : List ℕ) (h : Stores kinds.attribute a.name v next c E s E') where
-  pub noted-stop : (n : ℕ) (p : Bits) → s ≡ Refuse n p → Notes v next (attribute_is a) c E (lead.Refuse n p) E'
+  pub noted-stop : (n : ℕ) (p : Bits) → s ≡ Refuse n p → LeadNotes v next (attribute_is a) c E (lead.Refuse n p) E'
   unfolding lead_view step_view
   noted-stop n p i = record { says = λ b wall mode held T π. sym (ap (λ (x : Step). step_view x π E' T) i) ∙ after_stop s π E' T _ c π E T (h.says T π) n p i π _ _ }
 
@@ -70,7 +70,7 @@ module _ (c : Cursor) (E : List ℕ) (a : of-table.Attribute) (v next : ℕ) (s 
         ≡ outcome (after (room_of E T c) (stored (room_of E T c) π c.at.0 (event kinds.attribute a.name v (next - c.at.0)) [] next) (λ u p. read b mode held (Given a v) u π wall p)) c π E T
     noted-next k z = rw (← z) (after-go s π E' T _ c π E T (h.says T π) d i π (λ u ρ p. read b mode held (Given a v) u ρ wall p))
 
-  pub noted-absent : (d : Cursor) → s ≡ Go d → v ≡ 0 → Notes v next (attribute_is a) c E (lead.Go d) E'
+  pub noted-absent : (d : Cursor) → s ≡ Go d → v ≡ 0 → LeadNotes v next (attribute_is a) c E (lead.Go d) E'
   unfolding lead_view step_view
   noted-absent d i z = record {
     says = λ b wall mode held T π.
@@ -79,7 +79,7 @@ module _ (c : Cursor) (E : List ℕ) (a : of-table.Attribute) (v next : ℕ) (s 
         ∙ noted-next d i b wall mode held T π 0 z;
   }
 
-  pub noted-present : (d : Cursor) → s ≡ Go d → (v ≡ 0 → ⊥) → Notes v next (attribute_is a) c E (lead.Value record { cursor = d; simple = a.simple; x = a.b; y = a.c }) E'
+  pub noted-present : (d : Cursor) → s ≡ Go d → (v ≡ 0 → ⊥) → LeadNotes v next (attribute_is a) c E (lead.Value record { cursor = d; simple = a.simple; x = a.b; y = a.c }) E'
   unfolding lead_view
   noted-present d i z = record {
     says = λ b wall mode held T π.
@@ -94,7 +94,7 @@ abbrev pub One : of-table.Attribute → Plan
 One a = attribute a.must (attribute_is a) done
 
 module _ (b : ℕ → ℕ) (wall : ℕ) (c : Cursor) (E : List ℕ) (a : of-table.Attribute) where
-  pub one-required : (l : Lead) (E' : List ℕ) → a.must ≡ true → Notes 1 c.at.0 (attribute_is a) c E l E' → Leads (One a) b wall c E l E'
+  pub one-required : (l : Lead) (E' : List ℕ) → a.must ≡ true → LeadNotes 1 c.at.0 (attribute_is a) c E l E' → Leads (One a) b wall c E l E'
   unfolding maybe
   one-required l E' m y = record {
     says = λ mode held T π.
@@ -115,7 +115,7 @@ module _ (b : ℕ → ℕ) (wall : ℕ) (c : Cursor) (E : List ℕ) (a : of-tabl
         flag-fault : simple_at (plain (choice 2)) b wall c.at.0 ≡ fault n
         flag-fault = flag-refuse b wall c.at.0 r e n g
 
-    pub one-flagged : (v : ℕ) (next : Bits) (l : Lead) (E' : List ℕ) → r ≡ of-read.Value v next → Notes v next.0 (attribute_is a) c E l E' → Leads (One a) b wall c E l E'
+    pub one-flagged : (v : ℕ) (next : Bits) (l : Lead) (E' : List ℕ) → r ≡ of-read.Value v next → LeadNotes v next.0 (attribute_is a) c E l E' → Leads (One a) b wall c E l E'
     unfolding code
     one-flagged v next l E' g y = record { says = λ mode held T π. y.says b wall mode held T π ∙ sym (rw (optional-is mode held T π, flag-got)) }
       where

@@ -4,6 +4,7 @@ pub mod CodeWays
 pub mod EndsLaws
 mod HeadWays
 pub mod Laws
+mod OneWays
 pub mod OpeningWays
 pub mod PathLaws
 mod StoreWays

@@ -5,13 +5,13 @@ use Rattle.std.proofs.lemmas.List.Edits.{sets}
 use Rattle.numbers.specs.Refusal.{content_short}
 use Rattle.numbers.specs.Kind as kinds
 use Rattle.numbers.specs.Limit.{most_events}
-use Rattle.model.specs.Model.{event, end, value, Plan, Answer, events, texts, tree_slots, tree_bytes}
+use Rattle.model.specs.Model.{event, end, value, maybe, Plan, Answer, events, texts, tree_slots, tree_bytes}
 use Rattle.model.specs.Model.Plan.{done}
 use Rattle.model.specs.Model.Answer.{given, refused}
-use Rattle.table.specs.Rows.{Content}
+use Rattle.table.specs.Rows.{Attribute, Content}
 use Rattle.table.specs.Rows.Content.{empty, simple, particles}
 use Rattle.model.specs.Items.{Lengths}
-use Rattle.model.specs.Read.{Room, met, stored, read}
+use Rattle.model.specs.Read.{Room, after, met, stored, read}
 use Rattle.model.specs.Whole.{event_words}
 use Rattle.reader_parts.specs.declared.Cursor.{Cursor}
 use Rattle.reader_parts.specs.declared.Step.{Step}
@@ -57,6 +57,12 @@ pub record Stores (kind p q next : ℕ) (c : Cursor) (E : List ℕ) (s : Step) (
 -- a Value stored, with its text
 pub record Keeps (word : ℕ) (ts : List ℕ) (next : ℕ) (c : Cursor) (E T : List ℕ) (s : Step) (E' T' : List ℕ) : Type 0 where
   pub says : (π : List ℕ) → step_view s π E' T' ≡ outcome (stored (room_of E T c) π c.at.0 (event kinds.value word 0 (next - c.at.0)) ts next) c π E T
+
+-- an attribute's event stored, with whether it is present, and then its value where it is
+pub record Notes (present next : ℕ) (a : Attribute) (b : ℕ → ℕ) (wall : ℕ) (c : Cursor) (E T : List ℕ) (s : Step) (E' T' : List ℕ) : Type 0 where
+  pub says : (mode : Lengths) (held : ℕ → Bool) (π : List ℕ) → step_view s π E' T'
+      ≡ outcome (after (room_of E T c) (stored (room_of E T c) π c.at.0 (event kinds.attribute a.name present (next - c.at.0)) [] next)
+      (λ u p. read b mode held (maybe present (value a.simple a.b a.c done) done) u π wall p)) c π E T
 
 -- the end of an element: whether its declared end is met, then End
 unfoldable pub ending : Bool → ℕ → ℕ → Room → List ℕ → ℕ → Answer

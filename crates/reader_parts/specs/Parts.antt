@@ -40,7 +40,7 @@ pub record Leads (P : Plan) (b : ℕ → ℕ) (wall : ℕ) (c : Cursor) (E : Lis
   pub says : (mode : Lengths) (held : ℕ → Bool) (T π : List ℕ) → lead_view b mode held wall l π E' T ≡ outcome (read b mode held P (room_of E T c) π wall c.at.0) c π E T
 
 -- an attribute's event stored, with whether it is present, and its value is next where it is, whatever the bits are
-pub record Notes (present next : ℕ) (a : Attribute) (c : Cursor) (E : List ℕ) (l : Lead) (E' : List ℕ) : Type 0 where
+pub record LeadNotes (present next : ℕ) (a : Attribute) (c : Cursor) (E : List ℕ) (l : Lead) (E' : List ℕ) : Type 0 where
   pub says : (b : ℕ → ℕ) (wall : ℕ) (mode : Lengths) (held : ℕ → Bool) (T π : List ℕ) → lead_view b mode held wall l π E' T
       ≡ outcome (after (room_of E T c) (stored (room_of E T c) π c.at.0 (event kinds.attribute a.name present (next - c.at.0)) [] next)
       (λ u p. read b mode held (maybe present (value a.simple a.b a.c done) done) u π wall p)) c π E T

@@ -1,22 +1,25 @@
 // What stands before the rows of an element, part by part: its attributes in the table's order, the value of one that is present, no value of one that
-// is absent; then the value that its content is, if it is one. `value` is called at one place for both, so that the back end inlines it.
-ghost use Rattle.std.specs.Prelude.{◌≡◌, true, ◌*◌, ◌≤◌, ◌<◌, length};
+// is absent; then the value that its content is, if it is one. `part` alone calls `value` for the reader, at one place for both, so that the back end
+// inlines it. Behind `lead_before_rows` are an attribute with its value, the attributes of a type, and both parts by a content that is given (`one`, `all`,
+// `before_rows`): the same readings for who has a type's rows only, whatever the table is.
+ghost use Rattle.std.specs.Prelude.{◌≡◌, true, ◌+◌, ◌*◌, ◌≤◌, ◌<◌, length};
 ghost use Rattle.wire.specs.Bits.{bit_at};
 ghost use Rattle.table.specs.First.Verdict.{right};
 ghost use Rattle.table.specs.Valid.{verdict};
 ghost use Rattle.table.specs.Words.{types_in};
 ghost use Rattle.table.specs.Inside.{TypeInside, AttributeInside};
-ghost use Rattle.table.specs.Views.{attribute_is};
+ghost use Rattle.table.specs.Rows.{table_of, first_of, count_of};
+ghost use Rattle.table.specs.Views.{attribute_is, content_is};
 ghost use Rattle.model.specs.Model as model;
 ghost use Rattle.model.specs.Model.Plan.{done};
-ghost use Rattle.reader_parts.specs.Out.{Reads};
-ghost use Rattle.reader_parts.specs.Parts.{own_lead, part_at, before_rows, Leads, Notes};
+ghost use Rattle.reader_parts.specs.Out.{Reads, Notes, own_value};
+ghost use Rattle.reader_parts.specs.Parts.{own_lead, part_at, before_rows, Leads, LeadNotes};
 
 use crate::storing::store;
 use crate::values::value;
 use crate::{Cursor, Step};
 use numbers::kind;
-use table::{Attribute, Content, inside};
+use table::{Attribute, Content, inside, rows};
 use value::reading::choice;
 use wire::{Bits, Read};
 
@@ -39,8 +42,8 @@ pub enum Lead {
 }
 
 // The event of an attribute, with 1 where it is present; then its value is next.
-fn store_attribute(events: &mut [u32], c: Cursor, a: Attribute, present: u32, next: Bits) -> Lead
-    ensures { Notes present next.0 (attribute_is a) c events.old result events.new }
+fn lead_attribute(events: &mut [u32], c: Cursor, a: Attribute, present: u32, next: Bits) -> Lead
+    ensures { LeadNotes present next.0 (attribute_is a) c events.old result events.new }
 {
     let s = store(events, c, kind::ATTRIBUTE, a.name, present, next);
     match s {
@@ -61,7 +64,7 @@ fn store_attribute(events: &mut [u32], c: Cursor, a: Attribute, present: u32, ne
 }
 
 // An attribute: of one that must be there no bits tell it; of one that may be absent a flag does.
-fn one(payload: &[u8], events: &mut [u32], wall: Bits, c: Cursor, a: Attribute) -> Lead
+fn lead_one(payload: &[u8], events: &mut [u32], wall: Bits, c: Cursor, a: Attribute) -> Lead
     requires { wall.0 ≤ 8 * length payload.now }
     ensures { Leads (model.attribute a.must (attribute_is a) done) (bit_at payload.now) wall.0 c
         events.old result events.new }
@@ -69,11 +72,11 @@ fn one(payload: &[u8], events: &mut [u32], wall: Bits, c: Cursor, a: Attribute) 
     let at = c.at;
     let must = a.must;
     if must {
-        return store_attribute(events, c, a, 1, at);
+        return lead_attribute(events, c, a, 1, at);
     }
     match choice(payload, wall, at, 2) {
         Read::Refuse(n) => Lead::Refuse(n, at),
-        Read::Value(flag, next) => store_attribute(events, c, a, flag, next),
+        Read::Value(flag, next) => lead_attribute(events, c, a, flag, next),
     }
 }
 
@@ -116,7 +119,7 @@ fn before_value(
 {
     if more {
         let a = inside::attribute(table, row);
-        return one(payload, events, wall, c, a);
+        return lead_one(payload, events, wall, c, a);
     }
     let k = inside::content(table, t);
     own_value(c, k)
@@ -152,7 +155,7 @@ fn part(
 }
 
 // What stands before the rows of an element of type t: its attributes, then the value that its content is, if it is one.
-pub fn before_rows(
+pub fn lead_before_rows(
     table: &[u32],
     payload: &[u8],
     events: &mut [u32],
@@ -188,4 +191,110 @@ pub fn before_rows(
         row += 1;
     }
     Step::Go(cursor)
+}
+
+// The event of an attribute, with 1 where it is present, and then its value if it is.
+fn store_attribute(
+    payload: &[u8],
+    events: &mut [u32],
+    texts: &mut [u8],
+    wall: Bits,
+    c: Cursor,
+    a: Attribute,
+    present: u32,
+    next: Bits,
+) -> Step
+    requires { wall.0 ≤ 8 * length payload.now }
+    ensures { Notes present next.0 (attribute_is a) (bit_at payload.now) wall.0 c
+        events.old texts.old result events.new texts.new }
+{
+    let l = lead_attribute(events, c, a, present, next);
+    match l {
+        Lead::Refuse(n, at) => Step::Refuse(n, at),
+        Lead::Go(d) => Step::Go(d),
+        Lead::Value(v) => {
+            let d = v.cursor;
+            value(payload, events, texts, wall, d, v.simple, v.x, v.y)
+        }
+    }
+}
+
+// An attribute, with its value: of one that must be there no bits tell it; of one that may be absent a flag does.
+pub fn one(
+    payload: &[u8],
+    events: &mut [u32],
+    texts: &mut [u8],
+    wall: Bits,
+    c: Cursor,
+    a: Attribute,
+) -> Step
+    requires { wall.0 ≤ 8 * length payload.now }
+    ensures { Reads (model.attribute a.must (attribute_is a) done) (bit_at payload.now) wall.0 c
+        events.old texts.old result events.new texts.new }
+{
+    let at = c.at;
+    let must = a.must;
+    if must {
+        return store_attribute(payload, events, texts, wall, c, a, 1, at);
+    }
+    match choice(payload, wall, at, 2) {
+        Read::Refuse(n) => Step::Refuse(n, at),
+        Read::Value(flag, next) => store_attribute(payload, events, texts, wall, c, a, flag, next),
+    }
+}
+
+// The attributes of type t.
+pub fn all(
+    table: &[u32],
+    payload: &[u8],
+    events: &mut [u32],
+    texts: &mut [u8],
+    wall: Bits,
+    c: Cursor,
+    t: u32,
+) -> Step
+    requires { (wall.0 ≤ 8 * length payload.now) × (first_of table.now t + count_of table.now t < 4294967296) }
+    ensures { Reads (model.attributes ((table_of table.now).attributes t) done) (bit_at payload.now)
+        wall.0 c events.old texts.old result events.new texts.new }
+{
+    let own = rows::span(table, t);
+    let first = own.first;
+    let n = own.count;
+    let mut cursor = c;
+    let mut i: u32 = 0;
+    while i < n {
+        let a = rows::attribute(table, first + i);
+        let s = one(payload, events, texts, wall, cursor, a);
+        let Step::Go(d) = s else {
+            return s;
+        };
+        cursor = d;
+        i += 1;
+    }
+    Step::Go(cursor)
+}
+
+// What stands before the rows of an element of type t: its attributes, then the value that its content k is, if it is one.
+pub fn before_rows(
+    table: &[u32],
+    payload: &[u8],
+    events: &mut [u32],
+    texts: &mut [u8],
+    wall: Bits,
+    c: Cursor,
+    t: u32,
+    k: Content,
+) -> Step
+    requires { (wall.0 ≤ 8 * length payload.now) × (first_of table.now t + count_of table.now t < 4294967296) }
+    ensures { Reads (model.attributes ((table_of table.now).attributes t) (own_value (content_is k)))
+        (bit_at payload.now) wall.0 c events.old texts.old result events.new texts.new }
+{
+    let s = all(table, payload, events, texts, wall, c, t);
+    let Step::Go(d) = s else {
+        return s;
+    };
+    let Content::Simple(simple, x, y) = k else {
+        return Step::Go(d);
+    };
+    value(payload, events, texts, wall, d, simple, x, y)
 }

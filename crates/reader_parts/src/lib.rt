@@ -1,6 +1,10 @@
 // The reader's parts: what it stores, and each part of an element that holds no element. They speak for every path; who opens elements holds it.
 #![tactic(auto)]
 
+ghost use Rattle.std.specs.Prelude.{◌<◌};
+ghost use Rattle.numbers.specs.Limit.{most_names};
+ghost use Rattle.reader_parts.specs.Paths.{Pushed};
+
 pub mod attributes; // attributes.rt: one attribute, and all of a type
 pub mod codes; // codes.rt: an element's substitution code and type code, and their event
 pub mod ends; // ends.rt: the end of an element
@@ -72,4 +76,17 @@ pub enum Opened {
     Blank(Cursor),
     Full(u32, Bits),
     In(Inner),
+}
+
+impl Path {
+    // An element is opened.
+    pub fn push(mut self, name: u16) -> Path
+        requires { self.count < most_names }
+        ensures { Pushed self name result }
+    {
+        let n = self.count;
+        self.names[n] = name;
+        self.count = n + 1;
+        self
+    }
 }

@@ -1,5 +1,5 @@
 -- By its row, or by its flag.
-use Rattle.reader_parts.proofs.AttributeWays.{one-ways}
+use Rattle.reader_parts.proofs.OneWays.{one-ways}
 use borrow.Author.Rules.{rules}
 use Rattle.reader_parts.proofs.attributes.one.Goals as goal
 

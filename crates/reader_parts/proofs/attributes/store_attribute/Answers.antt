@@ -1,13 +1,13 @@
--- Its event, and its value is next where it is present.
-use Rattle.reader_parts.proofs.AttributeWays.{noted-ways}
+-- What came before its value, and that.
+use Rattle.reader_parts.proofs.OneWays.{noted-ways}
 use borrow.Author.Rules.{rules}
 use Rattle.reader_parts.proofs.attributes.store_attribute.Goals as goal
-
-pub returns-then-present-eq0 : goal.returns-then-present-eq0
-returns-then-present-eq0 c = search (rules, noted-ways)
 
 pub returns-in-Refuse : goal.returns-in-Refuse
 returns-in-Refuse c = search (rules, noted-ways)
 
-pub returns-else-present-eq0 : goal.returns-else-present-eq0
-returns-else-present-eq0 c = search (rules, noted-ways)
+pub returns-in-Go : goal.returns-in-Go
+returns-in-Go c = search (rules, noted-ways)
+
+pub returns-in-Value : goal.returns-in-Value
+returns-in-Value c = search (rules, noted-ways)

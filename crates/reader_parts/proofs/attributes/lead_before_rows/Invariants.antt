@@ -5,7 +5,7 @@ use lib.ListN.{length}
 use Rattle.wire.specs.Bits.{bit_at}
 use Rattle.reader_parts.proofs.AttributeWays.{UpTo, Left}
 use Rattle.reader_parts.specs.Parts.{before_rows}
-use Rattle.reader_parts.proofs.attributes.before_rows.Given as goal
+use Rattle.reader_parts.proofs.attributes.lead_before_rows.Given as goal
 
 abbrev pub invariant-loop-row : goal.invariant-loop-row
 invariant-loop-row l = (length l.events ≡ length l.initial.events)
