@@ -93,9 +93,13 @@ module _ {b : ℕ → ℕ} {mode : Lengths} {held : ℕ → Bool} where
   refuses-short (here x) D o h = omega arith
   refuses-short (no-codes k e c) D o h = omega arith
   refuses-short (no-cast x z c s) (suc D) (Opens.into o q) h = omega arith
+  refuses-short (no-cast x z c s) zero o h = elim o [ ]
   refuses-short (inside x z s d) (suc D) (Opens.into o q) h = refuses-short d D (o x.t) (omega arith)
+  refuses-short (inside x z s d) zero o h = elim o [ ]
   refuses-short (unmet x z s g e) (suc D) (Opens.into o q) h = omega arith
+  refuses-short (unmet x z s g e) zero o h = elim o [ ]
   refuses-short (no_end x z s g e k) (suc D) (Opens.into o q) h = omega arith
+  refuses-short (no_end x z s g e k) zero o h = elim o [ ]
   refuses-short (later f d) D o h = refuses-short d D (goes-open f o) h
 
 replies-short : {l : List ℕ} {party name type : ℕ} {s : List ℕ} {words bytes : ℕ} {R : Reply}

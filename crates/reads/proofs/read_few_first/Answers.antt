@@ -7,4 +7,4 @@ pub returns-then-number-ne-EVENT_ROOM : goal.returns-then-number-ne-EVENT_ROOM
 returns-then-number-ne-EVENT_ROOM c = c.try_room-number.ensures.roomy c.if-number-ne-EVENT_ROOM.true
 
 pub returns : goal.returns
-returns c = let r = c.try_room-number in again-read _ _ _ _ _ _ _ _ _ _ _ _ _ r.auto.1.1.1.1.0 r.auto.1.1.1.1.1.0 c.read_events_by_rungs.ensures
+returns c = let r = c.try_room-number in again-read _ _ _ _ _ _ _ _ _ _ _ _ _ r.auto.events r.auto.texts c.read_events_by_rungs.ensures
