@@ -87,7 +87,7 @@ module _ (c : Cursor) (E : List ℕ) (a : of-table.Attribute) (v next : ℕ) (s 
         ∙ noted-next d i b wall mode held T π (suc (v - 1)) (omega arith);
   }
 
-pub ruleset noted-ways = (noted-stop, noted-absent, noted-present)
+pub ruleset noted_ways = (noted-stop, noted-absent, noted-present)
 
 -- an attribute
 abbrev pub One : of-table.Attribute → Plan

@@ -42,6 +42,7 @@ pub enum Lead {
 }
 
 // The event of an attribute, with 1 where it is present; then its value is next.
+#[tactic(auto, using(crate::proofs::AttributeWays::noted_ways))]
 fn lead_attribute(events: &mut [u32], c: Cursor, a: Attribute, present: u32, next: Bits) -> Lead
     ensures { LeadNotes present next.0 (attribute_is a) c events.old result events.new }
 {
