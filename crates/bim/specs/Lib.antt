@@ -1,1 +1,3 @@
+pub mod EventRoom
+pub mod Promises
 pub mod Bits

@@ -17,7 +17,7 @@ use Rattle.model.specs.Model.Item.{picked, counted}
 use Rattle.model.specs.Items.{Lengths, item_at, head_at}
 use Rattle.model.specs.Modes.{lengths_is, types_by, Choosing}
 use Rattle.model.specs.Read.{Room, after, code, stored, opened}
-use Rattle.model.specs.Steps.{particle_at, rounds_at, inside_at}
+use Rattle.model.specs.Steps.{particle_at, rounds_at, content_at, inside_at}
 use Rattle.model.specs.declared.Mode.{Mode}
 use Rattle.reader_parts.specs.Opening.{no_row, row_choices}
 use Rattle.reader_parts.specs.Out.{room_of, outcome, ending}
@@ -64,6 +64,13 @@ Fits T P (sequence first n) = first + n ≤ P
 Fits T P (choice first n) = first + n ≤ P
 Fits T P (occurs child least most) = child < P
 
+-- a row that is no element, or an element's that is its own
+abbrev pub Rowed : Row → Type 0
+Rowed (element name type row) = row ≡ no_row → ⊥
+Rowed (sequence first n) = Unit {0}
+Rowed (choice first n) = Unit {0}
+Rowed (occurs child least most) = Unit {0}
+
 -- a row that holds rows; each branch's number fits a word
 abbrev pub Holds : Row → Type 0
 Holds (element name type row) = ⊥
@@ -104,6 +111,9 @@ module _ (t s : List ℕ) (mode : Mode) where
 
   unfoldable pub rounds· : ℕ → (ℕ → Row) → ℕ → Meaning
   rounds· d g n r π wall at = rounds_at b lengths held schema d n g r π wall at
+
+  unfoldable pub content· : ℕ → ℕ → Meaning
+  content· d ty r π wall at = content_at b lengths held schema d ((table_of t).content ty) r π wall at
 
   unfoldable pub inside· : ℕ → ℕ → Meaning
   inside· d ty r π wall at = inside_at b lengths held schema d ty r π wall at

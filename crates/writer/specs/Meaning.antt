@@ -16,7 +16,7 @@ use Rattle.model.specs.Items.{Lengths}
 use Rattle.model.specs.Modes.{lengths_is, types_by, Choosing}
 use Rattle.model.specs.declared.Mode.{Mode}
 use Rattle.model.specs.Write.{Bare, Out, wrote, along, too_deep, element_out}
-use Rattle.model.specs.WriteSteps.{item_then, particle_out, rounds_out, inside_out}
+use Rattle.model.specs.WriteSteps.{item_then, particle_out, rounds_out, content_out, inside_out}
 use Rattle.writer_parts.specs.declared.Judgement.{Judgement}
 use Rattle.writer_parts.specs.declared.Judgement.TheVariants.{Refuse}
 use Rattle.writer_parts.specs.Opening.{no_row, row_choices}
@@ -71,6 +71,9 @@ module _ (t : List ℕ) (mode : Mode) (d : ℕ) where
 
   unfoldable pub inside· : ℕ → List Bare → List ℕ → Out
   inside· ty M X = inside_out lengths held T d ty M X
+
+  unfoldable pub content· : ℕ → List Bare → List ℕ → Out
+  content· ty M X = content_out lengths held T d (T.content ty) M X
 
   unfoldable pub element· : ℕ → Types → List Bare → List ℕ → Out
   element· name y M X = element_out lengths held (λ ty N U. inside· ty N U) name y M X

@@ -9,30 +9,30 @@ pub slice_bounds-store-end : goal.slice_bounds-store-end
 slice_bounds-store-end c = let r = c.read-a in words-fit _ _ _ _ r.ensures.answer r.ensures.events_left_lem r.auto.events
 
 pub slice_bounds-store-end-2 : goal.slice_bounds-store-end-2
-slice_bounds-store-end-2 c =     let r = c.read-a in
+slice_bounds-store-end-2 c = let r = c.read-a in
     let h = words-fit _ _ _ _ r.ensures.answer r.ensures.events_left_lem r.auto.events in
     simp length-take (omega arith)
 
 pub store-requires : goal.store-requires
-store-requires c =     let r = c.read-a in
+store-requires c = let r = c.read-a in
     let h = words-fit _ _ _ _ r.ensures.answer r.ensures.events_left_lem r.auto.events in
     simp length-take (omega (arith, r.auto.events, c.requires.fits))
 
 pub slice_bounds-clear-count : goal.slice_bounds-clear-count
-slice_bounds-clear-count c =     let r = c.read-a in
+slice_bounds-clear-count c = let r = c.read-a in
     let h = words-fit _ _ _ _ r.ensures.answer r.ensures.events_left_lem r.auto.events in
     omega (arith, c.store.auto.s, r.auto.events, c.requires.fits)
 
 pub slice_bounds-clear-start : goal.slice_bounds-clear-start
-slice_bounds-clear-start c =     let r = c.read-a in
+slice_bounds-clear-start c = let r = c.read-a in
     let h = words-fit _ _ _ _ r.ensures.answer r.ensures.events_left_lem r.auto.events in
     omega (arith, c.store.auto.s, r.auto.events, c.requires.fits)
 
 pub tell_answer-requires : goal.tell_answer-requires
-tell_answer-requires c =     let r = c.read-a in
+tell_answer-requires c = let r = c.read-a in
     (c.requires.told, names-fit _ _ _ _ _ _ _ r.result r.ensures.answer)
 
 pub returns : goal.returns
-returns c =     let r = c.read-a in
+returns c = let r = c.read-a in
     words-read _ _ _ _ _ _ c.args.events.now _ _ _ _ r.ensures.answer r.ensures.events_left_lem r.ensures.texts_left_lem r.auto.events c.requires.fits
     c.store.ensures c.clear.ensures c.tell_answer.ensures
