@@ -13,7 +13,7 @@ use Rattle.buffers.specs.Bytes.{words_of}
 use Rattle.model.specs.Model.{event, Types, codes, Mark, Nodes, Path, Plan}
 use Rattle.model.specs.Model.Nodes.{leaf}
 use Rattle.model.specs.Items.{Lengths, Mode}
-use Rattle.model.specs.Grammar.{cast_in, Is, an_item, an_element, a_blank}
+use Rattle.model.specs.Grammar.{cast_in, Is, nothing, an_item, an_element, a_blank}
 use Rattle.model.proofs.Plain.{item-plain}
 use Rattle.theorems.specs.Less.{outermost, replaced, first_bare}
 use Rattle.theorems.specs.Open.{StillOpen, Excuse}
@@ -55,6 +55,7 @@ open-past-cast {new} {p} {ρ} {π} y at t k n i = go (codes y)
 open-within : {mode : Lengths} {held : ℕ → Bool} {P : Plan} {at : ℕ} {ns : Nodes} {w : List ℕ}
     (new : ℕ → Bool) (p : ℕ) (ρ π : Path) → Is mode held P at ns w → StillOpen new p ρ π ns
     → p ≤ at + length w
+open-within new p ρ π nothing o = elim o [ ]
 open-within new p ρ π (an_item {i} {v} {w} {x} h j) (StillOpen.here k n b lo hi) = absurd (item-plain i v (length w) k)
 open-within new p ρ π (an_item {i} {v} {w} {x} h j) (StillOpen.past o) =
     let r = open-within new p ρ π j o in omega (arith, length-append w x)
@@ -98,14 +99,14 @@ module _ (t t' : List ℕ) (party name type : ℕ) (s : List ℕ) (e x : ℕ) (p
       → Excuse N [] tree n p ρ → Excuse N [] tree n (place_word p) ρ
   word-excuse mode tree used n p ρ r (Excuse.no_slot k) = Excuse.no_slot k
   word-excuse mode tree used n p ρ r (Excuse.no_bytes k) = Excuse.no_bytes k
-  word-excuse mode tree used n p ρ r (Excuse.still_Open o) =
+  word-excuse mode tree used n p ρ r (Excuse.still_open o) =
       let i = r.is.is in
       let f = i.found in
       let below = open-within N p ρ [] f.is o in
       let next = f.stands.next in
       let within = f.within in
       let few = i.mode-byte.few in
-      rw (word_small p (omega arith)) (Excuse.still_Open o)
+      rw (word_small p (omega arith)) (Excuse.still_open o)
 
   pub only_first_accepts : (read_call t party name type s e x area_bytes).number ≡ 0
       → ((read_call t' party name type s e x area_bytes).number ≡ 0 → ⊥) → OnlyFirstAccepts t t' party name type s e x
