@@ -6,7 +6,6 @@ use mathlib.Core.List.{List, [], ◌∷◌}
 use native.Mathlib.Omega.{arith}
 use lib.ListN.{length}
 use Rattle.numbers.specs.Mode.{always}
-use Rattle.table.specs.First.{Verdict}
 use Rattle.table.specs.Valid.{verdict}
 use Rattle.table.specs.Views.{verdict_is}
 use Rattle.table.specs.declared.answers.Verdict as checked

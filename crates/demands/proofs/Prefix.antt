@@ -16,7 +16,7 @@ use Rattle.theorems.proofs.Prefix.{prefix}
 use Rattle.call_parts.specs.Area.{area_bytes}
 use Rattle.call_parts.specs.Calls.{Back, back, read_call, events_back}
 use Rattle.demands.specs.Demands.{refusal, flag_bit}
-use Rattle.demands.specs.Prefix.{Accepted, Same, Rest, PrefixByCalls, used, used_bits, Shortest}
+use Rattle.demands.specs.Prefix.{Accepted, Same, Rest, PrefixByCalls, used_bits, Shortest}
 use Rattle.demands.proofs.WholeTables.{whole-right}
 use Rattle.demands.proofs.Demand2.{Handed, handed, is-accepted, call-tells, tells, flag-bit, two-buffers}
 

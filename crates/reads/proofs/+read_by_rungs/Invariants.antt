@@ -1,6 +1,4 @@
 -- `read_by_rungs`: the rung falls, and each rung reads by the table's bytes.
-use Prim.Native.Nat.{ℕ, ◌<◌}
-use borrow.Author.Rules.{rules}
 use Rattle.reads.proofs.+read_by_rungs.Given as goal
 
 abbrev pub decreases-read_by_rungs : goal.decreases-read_by_rungs

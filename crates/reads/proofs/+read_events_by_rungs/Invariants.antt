@@ -1,6 +1,4 @@
 -- `read_events_by_rungs`: the rung falls, and each rung reads with all the words lent.
-use Prim.Native.Nat.{ℕ, ◌<◌}
-use borrow.Author.Rules.{rules}
 use Rattle.reads.proofs.+read_events_by_rungs.Given as goal
 
 abbrev pub decreases-read_events_by_rungs : goal.decreases-read_events_by_rungs

@@ -1,6 +1,5 @@
 -- `read_few_first`: few words lent are enough, or the reading is made again.
 use Rattle.reads.proofs.Replies.{again-read}
-use borrow.Author.Rules.{rules}
 use Rattle.reads.proofs.read_few_first.Goals as goal
 
 pub returns-then-number-ne-EVENT_ROOM : goal.returns-then-number-ne-EVENT_ROOM

@@ -2,7 +2,6 @@
 use native.Mathlib.Omega.{arith}
 use lib.ListN.{length-take}
 use Rattle.reads.proofs.Replies.{words-fit, words-read, names-fit}
-use borrow.Author.Rules.{rules}
 use Rattle.reads.proofs.read_into.Goals as goal
 
 pub slice_bounds-store-end : goal.slice_bounds-store-end

@@ -1,6 +1,5 @@
 -- `read_least_first`: the least words lent are enough, or the reading is made again.
 use Rattle.reads.proofs.Replies.{again-read}
-use borrow.Author.Rules.{rules}
 use Rattle.reads.proofs.read_least_first.Goals as goal
 
 pub returns-then-number-ne-EVENT_ROOM : goal.returns-then-number-ne-EVENT_ROOM

@@ -1,6 +1,4 @@
 -- `write_by_rungs`: the rung falls, and each rung writes by the table's bytes.
-use Prim.Native.Nat.{ℕ, ◌<◌}
-use borrow.Author.Rules.{rules}
 use Rattle.writes.proofs.+write_by_rungs.Given as goal
 
 abbrev pub decreases-write_by_rungs : goal.decreases-write_by_rungs

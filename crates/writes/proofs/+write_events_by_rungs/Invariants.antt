@@ -1,6 +1,4 @@
 -- `write_events_by_rungs`: the rung falls, and each rung writes the list.
-use Prim.Native.Nat.{ℕ, ◌<◌}
-use borrow.Author.Rules.{rules}
 use Rattle.writes.proofs.+write_events_by_rungs.Given as goal
 
 abbrev pub decreases-write_events_by_rungs : goal.decreases-write_events_by_rungs

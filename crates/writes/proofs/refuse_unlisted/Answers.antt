@@ -1,6 +1,5 @@
 -- `refuse_unlisted`: the place of no_reading moves, that of no other number does.
 use Rattle.writes.proofs.Lists.{none-late, none-early, written-told}
-use borrow.Author.Rules.{rules}
 use Rattle.writes.proofs.refuse_unlisted.Goals as goal
 
 pub returns-then-a-eq-NO_READING : goal.returns-then-a-eq-NO_READING

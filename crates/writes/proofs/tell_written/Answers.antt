@@ -1,7 +1,6 @@
 -- `tell_written`: no names.
 use mathlib.Core.Path.{refl}
 use Rattle.call_parts.specs.Area.{area_of}
-use borrow.Author.Rules.{rules}
 use Rattle.writes.proofs.tell_written.Goals as goal
 
 pub returns : goal.returns

@@ -1,7 +1,6 @@
 -- `add_bytes`: what the reader answered, added.
 use mathlib.Core.Path.{refl}
 use Rattle.reads.proofs.ReportLaws.{ready-whole, ready-few, ready-used, ready-most, lent-added}
-use borrow.Author.Rules.{rules}
 use Rattle.reads.proofs.reports.add_bytes.Goals as goal
 
 pub add-requires : goal.add-requires
