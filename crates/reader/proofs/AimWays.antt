@@ -30,7 +30,7 @@ use Rattle.reader_parts.specs.Out.{room_of, step_view, outcome}
 use Rattle.reader_parts.specs.declared.Cursor.{Cursor}
 use Rattle.reader_parts.proofs.Laws.{outcome-none}
 use Rattle.reader.proofs.RowLaws.{row-for, list-lies, run-one}
-use Rattle.reader.specs.Meaning.{Ready, Fits, Holds, Lies, row·, runs·, list·, choose·, occur·}
+use Rattle.reader.specs.Meaning.{ReadyFor, Fits, Holds, Lies, row·, runs·, list·, choose·, occur·}
 use Rattle.reader.specs.Groups.{Reading, group_at, group_view, Placed, Groups, aim_view, Narrows, Aims}
 use Rattle.reader.specs.declared.groups.Aim.{Aim}
 use Rattle.reader.specs.declared.groups.Aim.TheVariants as aim
@@ -66,7 +66,7 @@ module _ (t : List ℕ) (d : ℕ) (x : Run) (valid : verdict t ≡ right) (lies 
       names : ElementOk (types_in t) (particles_in t) name ty own
       names = subst (λ (q : table.Row). RowOk (types_in t) (particles_in t) x.first q) element-here (row_ok t valid x.first first-in)
 
-      single : (s : List ℕ) (mode : Mode) (wall : ℕ) → Ready t s mode wall 0 0 → (r : Room) (π : List ℕ) (at : ℕ)
+      single : (s : List ℕ) (mode : Mode) (wall : ℕ) → ReadyFor t s mode wall 0 0 → (r : Room) (π : List ℕ) (at : ℕ)
           → row· t s mode d (table.Row.element name ty own) r π wall at ≡ list· t s mode 0 0 d x.first x.step x.count r π wall at
       unfolding list·
       single s mode wall ready r π at =

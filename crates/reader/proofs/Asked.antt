@@ -41,7 +41,7 @@ use Rattle.reader_parts.specs.declared.Path.{Path}
 use Rattle.reader_parts.proofs.CodeWays.{choice-in, codes-known}
 use Rattle.reader_parts.proofs.OpeningWays.{row-owned}
 use Rattle.reader.proofs.RowLaws.{known-lies}
-use Rattle.reader.specs.Meaning.{Ready, Owned, Fits, Holds, Known, row_for, reach_of}
+use Rattle.reader.specs.Meaning.{ReadyFor, Owned, Fits, Holds, KnownRows, row_for, reach_of}
 use Rattle.reader.specs.Entering.{Rowing, Enters}
 use Rattle.reader.specs.Groups.{Aimed, Aims}
 use Rattle.reader.specs.declared.entering.Entered.{Entered}
@@ -55,23 +55,23 @@ use Rattle.reader.specs.declared.entering.Extent.{Extent}
 use Rattle.reader.specs.declared.entering.Reach.{Reach}
 use Rattle.reader.specs.declared.entering.Reach.TheVariants.{To}
 
-module _ (t s : List ℕ) (mode : Mode) (wall n d : ℕ) (h : Ready t s mode wall n d) where
+module _ (t s : List ℕ) (mode : Mode) (wall n d : ℕ) (h : ReadyFor t s mode wall n d) where
   -- a row is opened; so is an element, which takes a place of the path
-  pub ready-row : (d ≡ 0 → ⊥) → Ready t s mode wall n (d - 1)
+  pub ready-row : (d ≡ 0 → ⊥) → ReadyFor t s mode wall n (d - 1)
   ready-row z = record { valid = h.valid; choosing = h.choosing; party_known = h.party_known; walls = h.walls; places = omega (arith, h.places) }
 
-  pub ready-less : (k : ℕ) → Ready t s mode wall n (d - k)
+  pub ready-less : (k : ℕ) → ReadyFor t s mode wall n (d - k)
   ready-less k = record { valid = h.valid; choosing = h.choosing; party_known = h.party_known; walls = h.walls; places = omega (arith, h.places) }
 
-  pub ready-element : (d ≡ 0 → ⊥) → Ready t s mode wall (n + 1) (d - 1)
+  pub ready-element : (d ≡ 0 → ⊥) → ReadyFor t s mode wall (n + 1) (d - 1)
   ready-element z = record { valid = h.valid; choosing = h.choosing; party_known = h.party_known; walls = h.walls; places = omega (arith, h.places) }
 
   -- an element's own end is the wall of what is inside it
   pub ready-end : (b : ℕ → ℕ) (at : ℕ) (x : code·head.Head) (w : Bits) (r : Reach) (y : Extent) → Heads mode.lengths b wall at x → w.0 ≡ wall → r ≡ reach_of x w → r ≡ To y
-      → Ready t s mode y.wall.0 n d
+      → ReadyFor t s mode y.wall.0 n d
   ready-end b at x w r y e g f i = go x e.within (sym i ∙ f)
     where
-      go : (a : code·head.Head) → Within wall a → To y ≡ reach_of a w → Ready t s mode y.wall.0 n d
+      go : (a : code·head.Head) → Within wall a → To y ≡ reach_of a w → ReadyFor t s mode y.wall.0 n d
       go (Bare body) k j =
           let z : y ≡ record { coded = false; body = body; wall = w } = cc in
           rw (z, g) h
@@ -106,28 +106,28 @@ unfolding read_is
 branch_row P first n b wall at r v q h e g = let k = (choice-in b n wall at).says (v, q.0) (sym e ∙ rw g) in omega arith
 
 -- the path: one name longer inside an element
-pub ready-pushed : (t s : List ℕ) (mode : Mode) (wall d : ℕ) (path inner : Path) (name : ℕ) → Pushed path name inner → Ready t s mode wall (path.count + 1) d → Ready t s mode wall inner.count d
+pub ready-pushed : (t s : List ℕ) (mode : Mode) (wall d : ℕ) (path inner : Path) (name : ℕ) → Pushed path name inner → ReadyFor t s mode wall (path.count + 1) d → ReadyFor t s mode wall inner.count d
 ready-pushed t s mode wall d path inner name i r = rw i.count r
 
-pub path-open : (t s : List ℕ) (mode : Mode) (wall n d : ℕ) → Ready t s mode wall (n + 1) d → n < most_names
+pub path-open : (t s : List ℕ) (mode : Mode) (wall n d : ℕ) → ReadyFor t s mode wall (n + 1) d → n < most_names
 path-open t s mode wall n d r = omega (arith, r.places)
 
 -- a row is opened, and what is in its element is read
-pub path-row : (t s : List ℕ) (mode : Mode) (wall n d : ℕ) → Ready t s mode wall n d → (d ≡ 0 → ⊥) → n < most_names
+pub path-row : (t s : List ℕ) (mode : Mode) (wall n d : ℕ) → ReadyFor t s mode wall n d → (d ≡ 0 → ⊥) → n < most_names
 path-row t s mode wall n d r z = omega (arith, r.places)
 
 -- what opens no row asks for no depth
-pub ready-leaf : (t s : List ℕ) (mode : Mode) (wall n d : ℕ) → Ready t s mode wall n d → Ready t s mode wall 0 0
+pub ready-leaf : (t s : List ℕ) (mode : Mode) (wall n d : ℕ) → ReadyFor t s mode wall n d → ReadyFor t s mode wall 0 0
 ready-leaf t s mode wall n d r = record { valid = r.valid; choosing = r.choosing; party_known = r.party_known; walls = r.walls; places = omega arith }
 
 -- the next of known rows, and those after it
-module _ (t : List ℕ) (name ty i jump n : ℕ) (h : Known t name ty i jump n) (k : 0 < n) where
+module _ (t : List ℕ) (name ty i jump n : ℕ) (h : KnownRows t name ty i jump n) (k : 0 < n) where
   one_more : n ≡ suc (n - 1)
   one_more = omega arith
 
-  split : Fits (types_in t) (particles_in t) (row_for t name ty i) × Owned (particles_in t) i × (i + jump < 4294967296) × Known t name ty (i + jump) jump (n - 1)
-  unfolding Known
-  split = subst (λ (m : ℕ). Known t name ty i jump m) one_more h
+  split : Fits (types_in t) (particles_in t) (row_for t name ty i) × Owned (particles_in t) i × (i + jump < 4294967296) × KnownRows t name ty (i + jump) jump (n - 1)
+  unfolding KnownRows
+  split = subst (λ (m : ℕ). KnownRows t name ty i jump m) one_more h
 
   pub known-fits : (r : code·particle.Particle) → row_is r ≡ row_for t name ty i → Fits (types_in t) (particles_in t) (row_is r)
   known-fits r e = rw e split.0
@@ -138,24 +138,24 @@ module _ (t : List ℕ) (name ty i jump n : ℕ) (h : Known t name ty i jump n) 
   pub known_owned : Owned (particles_in t) i
   known_owned = split.1
 
-  pub known-rest : Known t name ty (i + jump) jump (n - 1)
+  pub known-rest : KnownRows t name ty (i + jump) jump (n - 1)
   known-rest = split.3
 
 -- an element that has rows
-module _ (t s : List ℕ) (mode : Mode) (wall n d : ℕ) (h : Ready t s mode wall n d) where
+module _ (t s : List ℕ) (mode : Mode) (wall n d : ℕ) (h : ReadyFor t s mode wall n d) where
   pub entry_ready : (name : ℕ) (y : Types) (c : Cursor) (E T : List ℕ) (e : Entered) (E' T' : List ℕ) (x : Entry) → Enters t s mode name y wall c E T e E' T' → e ≡ entered.In x → (m : ℕ) → m < d
-      → Ready t s mode x.wall.0 (n + 1) m
+      → ReadyFor t s mode x.wall.0 (n + 1) m
   entry_ready name y c E T e E' T' x k f m z =
       let a = subst (λ (q : Entered). Rowing (particles_in t) (8 * length s) q) f k.rowing in
       record { valid = h.valid; choosing = h.choosing; party_known = h.party_known; walls = a.1; places = omega (arith, h.places) }
 
   pub entry_known : (name : ℕ) (y : Types) (c : Cursor) (E T : List ℕ) (e : Entered) (E' T' : List ℕ) (x : Entry) → Enters t s mode name y wall c E T e E' T' → e ≡ entered.In x
-      → Known t 0 0 x.first x.step x.count
+      → KnownRows t 0 0 x.first x.step x.count
   entry_known name y c E T e E' T' x k f =
       known-lies t s mode wall n d h x.first x.step x.count (subst (λ (q : Entered). Rowing (particles_in t) (8 * length s) q) f k.rowing).0
 
   -- what a row came to
-  pub aim-known : (e : ℕ) (row : Row) (c : Cursor) (E : List ℕ) (g : Aim) (E' : List ℕ) (x : Run) → Aims t s e row wall c E g E' → g ≡ aim.Rows x → Known t 0 0 x.first x.step x.count
+  pub aim-known : (e : ℕ) (row : Row) (c : Cursor) (E : List ℕ) (g : Aim) (E' : List ℕ) (x : Run) → Aims t s e row wall c E g E' → g ≡ aim.Rows x → KnownRows t 0 0 x.first x.step x.count
   aim-known e row c E g E' x k f = known-lies t s mode wall n d h x.first x.step x.count (subst (λ (q : Aim). Aimed t e q) f k.aimed)
 
 pub aim-element : (t s : List ℕ) (e : ℕ) (row : Row) (wall : ℕ) (c : Cursor) (E : List ℕ) (g : Aim) (E' : List ℕ) (y : Target) → Aims t s e row wall c E g E' → g ≡ aim.Element y → Aimed t e (aim.Element y)

@@ -40,7 +40,7 @@ use Rattle.reader_parts.specs.declared.Step.TheVariants as step
 use Rattle.reader_parts.proofs.Laws.{did-stop, outcome-go, outcome-stop, after-go, after_next}
 use Rattle.reader.proofs.Asked.{content-row}
 use Rattle.reader.proofs.RowLaws.{content-lies, content-below}
-use Rattle.reader.specs.Meaning.{Ready, schema, lengths, reach_of, particle·, inside·, whole·, element·, rest·, below·}
+use Rattle.reader.specs.Meaning.{ReadyFor, schema, lengths, reach_of, particle·, inside·, whole·, element·, rest_by·, below·}
 use Rattle.reader.specs.Entering.{filled_by, rows_of, entry_of, entered_view, Fills, Enters}
 use Rattle.reader.specs.declared.entering.Entered.{Entered}
 use Rattle.reader.specs.declared.entering.Entered.TheVariants.{Refuse, Done, Full, In}
@@ -108,7 +108,7 @@ no_rows (Simple kind x y) z q e = rw (← e) (simple-rows kind x y)
 no_rows (Particles i) z q e = absurd (z i refl)
 
 -- an open element of a type: what stands before its rows was read
-module _ (t s : List ℕ) (mode : Mode) (wall : Bits) (ready : Ready t s mode wall.0 0 0) (ty : ℕ) (known : ty < types_in t) (coded : Bool) (body : ℕ) (c : Cursor) (E T : List ℕ)
+module _ (t s : List ℕ) (mode : Mode) (wall : Bits) (ready : ReadyFor t s mode wall.0 0 0) (ty : ℕ) (known : ty < types_in t) (coded : Bool) (body : ℕ) (c : Cursor) (E T : List ℕ)
     (o : Step) (E₁ T₁ : List ℕ) (h : Reads (before_rows t ty) (bit_at s) wall.0 c E T o E₁ T₁) where
   abbrev B : ℕ → ℕ
   B = bit_at s
@@ -195,7 +195,7 @@ module _ (t s : List ℕ) (mode : Mode) (wall : Bits) (ready : Ready t s mode wa
   -- its rows are next
   pub fill-rows : (z : Cursor) (k : code·content.Content) (i : ℕ) (p : code·particle.Particle) (x : Entry) → o ≡ step.Go z → content_is k ≡ (table_of t).content ty → k ≡ Particles i → row_is p ≡ (table_of t).row i
       → x ≡ entry_of z (rows_of i (row_is p)) coded record { 0 = body } wall → Filled (In x) E₁ T₁
-  unfolding entered_view rest· whole·
+  unfolding entered_view rest_by· whole·
   fill-rows z k i p x j e g a m = rw m (record { says = λ d name π. says d (name ∷ π) π; rowing = (content-lies t s mode wall.0 0 0 ready i inside (row_is p) a, ready.walls) })
     where
       inside : i < particles_in t

@@ -56,7 +56,7 @@ use Rattle.reader.specs.Front.{found_is, Chooses, Finds}
 use Rattle.reader.specs.RefusalPath.{view}
 use Rattle.reader.specs.declared.refusal_path.Walk.{Walk}
 use Rattle.reader.specs.declared.refusal_path.Walk.TheVariants.{Go, Refuse, Told}
-use Rattle.reader.specs.Meaning.{Ready, Known, Walks, row_for, inside·, element·, row·, list·}
+use Rattle.reader.specs.Meaning.{ReadyFor, KnownRows, Walks, row_for, inside·, element·, row·, list·}
 use Rattle.reader.specs.Cleared.{Zeros}
 
 pub zeros-cleared : (l m : List ℕ) → m ≡ replicate (length l) 0 → Zeros m
@@ -64,12 +64,12 @@ zeros-cleared l m e = e ∙ ap (λ (n : ℕ). replicate n 0) (sym (length-replic
 
 -- what the root asks
 module _ (t s : List ℕ) (party name ty : ℕ) (mode : Mode) (h : Entered t party name ty) (k : Choosing t mode.choices) where
-  pub root-ready : (path : Path) (wall : ℕ) → mode.party ≡ party → path.count ≡ 0 → wall ≡ 8 * length s → Ready t s mode wall path.count most_open
+  pub root-ready : (path : Path) (wall : ℕ) → mode.party ≡ party → path.count ≡ 0 → wall ≡ 8 * length s → ReadyFor t s mode wall path.count most_open
   root-ready path wall p z e = record { valid = h.table_right; choosing = k; party_known = omega (arith, h.party_known); walls = omega arith; places = omega arith }
 
   -- the root's row
-  pub root-known : Known t name ty no_row 0 1
-  unfolding table_of Known row_for
+  pub root-known : KnownRows t name ty no_row 0 1
+  unfolding table_of KnownRows row_for
   root-known = ((h.name-small, h.type_known, λ f. absurd (f refl)), (λ f. absurd (f refl)), omega arith, tt)
 
 pub root-type : (t : List ℕ) (party name ty : ℕ) → Entered t party name ty → ty < types_in t

@@ -26,9 +26,9 @@ use Rattle.model.proofs.Steps as steps-laws
 use Rattle.reader_parts.specs.Opening.{no_row}
 use Rattle.reader_parts.proofs.OpeningWays.{choices-row}
 use Rattle.reader.specs.Entering.{rows_of}
-use Rattle.reader.specs.Meaning.{Ready, Fits, Lies, Known, schema, lengths, row_for, particle·, row·, rounds·, runs·, list·, below·, element·, inside·, choose·, occur·}
+use Rattle.reader.specs.Meaning.{ReadyFor, Fits, Lies, KnownRows, schema, lengths, row_for, particle·, row·, rounds·, runs·, list·, below·, element·, inside·, choose·, occur·}
 
-module _ (t s : List ℕ) (mode : Mode) (wall n e : ℕ) (h : Ready t s mode wall n e) where
+module _ (t s : List ℕ) (mode : Mode) (wall n e : ℕ) (h : ReadyFor t s mode wall n e) where
   abbrev B : ℕ → ℕ
   B = bit_at s
 
@@ -162,17 +162,17 @@ module _ (t s : List ℕ) (mode : Mode) (wall n e : ℕ) (h : Ready t s mode wal
   known-row : (i : ℕ) → i < particles_in t → Fits (types_in t) (particles_in t) (row_for t 0 0 i)
   known-row i g = rw (row-for 0 0 i g) (row_fits i g)
 
-  known_same : (i : ℕ) → i < particles_in t → (m : ℕ) → Known t 0 0 i 0 m
-  unfolding Known
+  known_same : (i : ℕ) → i < particles_in t → (m : ℕ) → KnownRows t 0 0 i 0 m
+  unfolding KnownRows
   known_same i g zero = tt
   known_same i g (suc m) = (known-row i g, λ e. g, (let f = few in omega arith), known_same (i + 0) (omega arith) m)
 
-  known_next : (i m : ℕ) → i + m ≤ particles_in t → Known t 0 0 i 1 m
-  unfolding Known
+  known_next : (i m : ℕ) → i + m ≤ particles_in t → KnownRows t 0 0 i 1 m
+  unfolding KnownRows
   known_next i zero g = tt
   known_next i (suc m) g = (known-row i (omega arith), λ e. omega arith, (let f = few in omega arith), known_next (i + 1) m (omega arith))
 
-  pub known-lies : (i jump m : ℕ) → Lies (particles_in t) i jump m → Known t 0 0 i jump m
+  pub known-lies : (i jump m : ℕ) → Lies (particles_in t) i jump m → KnownRows t 0 0 i jump m
   known-lies i jump m (inl f) = rw f.0 (known_next i m f.1)
   known-lies i jump m (inr f) = rw f.0 (known_same i f.1 m)
 

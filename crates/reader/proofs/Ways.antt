@@ -33,7 +33,7 @@ use Rattle.reader_parts.specs.declared.Step.TheVariants as step
 use Rattle.reader_parts.proofs.Laws.{did-stop, after_stop, after-go, outcome-none}
 use Rattle.reader.proofs.RefusalPathLaws.{Stopped, leaf-view}
 use Rattle.reader.specs.RefusalPath.{walks, step_of, path_of, view, Named}
-use Rattle.reader.specs.Meaning.{Ready, Owned, Walks, row_for, row·, list·, below·, rest·}
+use Rattle.reader.specs.Meaning.{ReadyFor, Owned, Walks, row_for, row·, list·, below·, rest_by·}
 use Rattle.reader.specs.Entering.{entered_view, Enters}
 use Rattle.reader.specs.Groups.{aim_view, Aims}
 use Rattle.reader.specs.declared.entering.Entered.{Entered}
@@ -58,11 +58,11 @@ module _ (v : Walk) (π N E' T' : List ℕ) (o : Answer) (c : Cursor) (E T : Lis
 -- an element's rows and its end
 module _ (t s : List ℕ) (mode : Mode) (d : ℕ) (x : Entry) (wall : ℕ) (c : Cursor) (Π E T : List ℕ) where
   abbrev Rest : Walk → List ℕ → List ℕ → List ℕ → Type 0
-  Rest w N' E' T' = Walks (rest· t s mode d x) wall c Π E T w N' E' T'
+  Rest w N' E' T' = Walks (rest_by· t s mode d x) wall c Π E T w N' E' T'
 
   -- the rows around them may not be opened any more
   pub rest-deep : (N : List ℕ) → d < x.opens → Rest (Refuse refusal.depth c.at) N E T
-  unfolding rest· below· after step_view outcome
+  unfolding rest_by· below· after step_view outcome
   rest-deep N h = rw (lt-ltb d x.opens h)
 
   module _ (v : Walk) (N₁ E₁ T₁ : List ℕ) (g : x.opens ≤ d) (y : Walks (list· t s mode 0 0 (d - x.opens) x.first x.step x.count) wall c Π E T v N₁ E₁ T₁) where
@@ -71,11 +71,11 @@ module _ (t s : List ℕ) (mode : Mode) (d : ℕ) (x : Entry) (wall : ℕ) (c : 
     below-here = rw (le-ltb d x.opens g) y
 
     pub rest-stop : Stopped v → Rest v N₁ E₁ T₁
-    unfolding rest·
+    unfolding rest_by·
     rest-stop i = walk-stop v Π N₁ E₁ T₁ _ c E T below-here i (room_of E T c) _
 
     pub rest-go : (z : Cursor) (a : Step) (E₂ : List ℕ) (w : Walk) → v ≡ Go z → Closes x.coded x.body.0 wall z E₁ a E₂ → w ≡ walks a → Rest w N₁ E₂ T₁
-    unfolding rest·
+    unfolding rest_by·
     rest-go z a E₂ w i q j = leaf-view a w j Π N₁ E₂ T₁ ∙ q.says T₁ Π ∙ walk-go v Π N₁ E₁ T₁ _ c E T below-here z i (λ u ρ p. ending x.coded x.body.0 wall u ρ p)
 
 -- rows are read with the path that has the name
@@ -99,7 +99,7 @@ module _ (t : List ℕ) (name ty i : ℕ) where
 pub ruleset row-ways = (row-root, row-table, row_inside)
 
 -- one row, as the code has it
-module _ (t s : List ℕ) (mode : Mode) (d wall : ℕ) (c : Cursor) (Π E T : List ℕ) (x : table.Row) (r : code·particle.Particle) (is : row_is r ≡ x) (ready : Ready t s mode wall 0 0) (z : d ≡ 0 → ⊥)
+module _ (t s : List ℕ) (mode : Mode) (d wall : ℕ) (c : Cursor) (Π E T : List ℕ) (x : table.Row) (r : code·particle.Particle) (is : row_is r ≡ x) (ready : ReadyFor t s mode wall 0 0) (z : d ≡ 0 → ⊥)
     (g : Aim) (E₁ : List ℕ) (h : Aims t s (d - 1) (row_is r) wall c E g E₁) where
   abbrev Row : Walk → List ℕ → List ℕ → List ℕ → Type 0
   Row w N' E' T' = Walks (row· t s mode d x) wall c Π E T w N' E' T'
@@ -144,13 +144,13 @@ module _ (t s : List ℕ) (mode : Mode) (d wall : ℕ) (c : Cursor) (Π E T : Li
         j.says (refused n p.0 (y.name ∷ Π)) c E T E₂ T₂ refl ∙ ap (λ (o : Answer). outcome o c Π E T) (sym stop)
 
     pub row_in : (a : Entry) (v : Walk) (N₁ E₃ T₃ : List ℕ) (w : Walk) (N₂ : List ℕ) → e ≡ entered.In a
-        → Walks (rest· t s mode y.depth a) a.wall.0 a.cursor (y.name ∷ Π) E₂ T₂ v N₁ E₃ T₃ → Named y.name Π v N₁ w N₂ → Row w N₂ E₃ T₃
+        → Walks (rest_by· t s mode y.depth a) a.wall.0 a.cursor (y.name ∷ Π) E₂ T₂ v N₁ E₃ T₃ → Named y.name Π v N₁ w N₂ → Row w N₂ E₃ T₃
     unfolding entered_view
     row_in a v N₁ E₃ T₃ w N₂ i q j = j.says _ a.cursor E₂ T₂ E₃ T₃ q ∙ came (entered.In a) i
 
     -- refused inside, and told
     pub row-in-told : (a : Entry) (v : Walk) (N₁ E₃ T₃ : List ℕ) (n : ℕ) (p : Bits) (w : Walk) (N₂ : List ℕ) → e ≡ entered.In a
-        → Walks (rest· t s mode y.depth a) a.wall.0 a.cursor (y.name ∷ Π) E₂ T₂ v N₁ E₃ T₃ → v ≡ Refuse n p → Named y.name Π (Refuse n p) N₁ w N₂ → Row w N₂ E₃ T₃
+        → Walks (rest_by· t s mode y.depth a) a.wall.0 a.cursor (y.name ∷ Π) E₂ T₂ v N₁ E₃ T₃ → v ≡ Refuse n p → Named y.name Π (Refuse n p) N₁ w N₂ → Row w N₂ E₃ T₃
     row-in-told a v N₁ E₃ T₃ n p w N₂ i q m j = row_in a (Refuse n p) N₁ E₃ T₃ w N₂ i (rw m at q) j
 
   pub row-rows : (a : Run) (w : Walk) (N₂ E₂ T₂ : List ℕ) → g ≡ aim.Rows a

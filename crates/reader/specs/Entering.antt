@@ -11,7 +11,7 @@ use Rattle.reader_parts.specs.Out.Out.{went, stopped}
 use Rattle.reader_parts.specs.declared.Cursor.{Cursor}
 use Rattle.reader_parts.specs.declared.Step.{Step}
 use Rattle.reader_parts.specs.declared.Step.TheVariants as step·is
-use Rattle.reader.specs.Meaning.{Lies, whole·, element·, rest·}
+use Rattle.reader.specs.Meaning.{Lies, whole·, element·, rest_by·}
 use Rattle.reader.specs.declared.entering.Entered.{Entered}
 use Rattle.reader.specs.declared.entering.Entry.{Entry}
 use Rattle.reader.specs.declared.entering.Entered.TheVariants.{Refuse, Done, Full, In}
@@ -47,7 +47,7 @@ module _ (t s : List ℕ) (mode : Mode) where
   entered_view d name (Done c) π E T = went c.at.0 c.count c.used π E T
   entered_view d name (Full n at) π E T = stopped n at.0 (name ∷ π)
   entered_view d name (In x) π E T =
-      outcome (rest· t s mode d x (room_of E T x.cursor) (name ∷ π) x.wall.0 x.cursor.at.0) x.cursor π E T
+      outcome (rest_by· t s mode d x (room_of E T x.cursor) (name ∷ π) x.wall.0 x.cursor.at.0) x.cursor π E T
 
   -- CONTRACTS, for every depth and every path. Of an open element of a type, whatever its name
   pub record Fills (type : ℕ) (coded : Bool) (body wall : ℕ) (c : Cursor) (E T : List ℕ) (r : Entered) (E' T' : List ℕ) : Type 0 where

@@ -1,5 +1,5 @@
 -- The rows that a row holds, as the code finds them.
-use Rattle.std.specs.Prelude.{ℕ, suc, ◌+◌, ◌-◌, ◌<◌, ◌≤◌, ◌≡◌, List, []}
+use Rattle.std.specs.Prelude.{ℕ, suc, ◌+◌, ◌-◌, ◌<◌, ◌≤◌, ◌≡◌, ◌⊎◌, List, []}
 use Rattle.numbers.specs.Kind as kinds
 use Rattle.numbers.specs.Limit.{most_name}
 use Rattle.table.specs.Words.{types_in, particles_in}
@@ -18,7 +18,7 @@ use Rattle.reader_parts.specs.Out.Out.{went, stopped}
 use Rattle.reader_parts.specs.declared.Cursor.{Cursor}
 use Rattle.reader_parts.specs.declared.Step.{Step}
 use Rattle.reader_parts.specs.declared.Step.TheVariants as step·is
-use Rattle.reader.specs.Meaning.{Ready, Owned, Fits, Lies, element·, row·, list·}
+use Rattle.reader.specs.Meaning.{ReadyFor, Owned, Fits, Lies, element·, row·, list·}
 use Rattle.reader.specs.declared.groups.Group.{Group}
 use Rattle.reader.specs.declared.groups.Group.TheVariants.{Refuse, Rows}
 use Rattle.reader.specs.declared.groups.Aim.{Aim}
@@ -48,9 +48,9 @@ unfoldable pub group_view : Reading → Group → (π E T : List ℕ) → Out
 group_view K (Refuse n at) π E T = stopped n at.0 π
 group_view K (Rows x) π E T = outcome (K x.first x.step x.count (room_of E T x.cursor) x.cursor.at.0) x.cursor π E T
 
--- rows are in a table of P rows
+-- rows are in a table of P rows: one after another, or all one row
 abbrev pub Placed : (P : ℕ) → Group → Type 0
-Placed P (Rows x) = Lies P x.first x.step x.count
+Placed P (Rows x) = ((x.step ≡ 1) × (x.first + x.count ≤ P)) ⊎ ((x.step ≡ 0) × (x.first < P))
 Placed P (Refuse n at) = Unit {0}
 
 -- CONTRACT, for every path, however rows are read
@@ -76,10 +76,10 @@ Aimed t d (aim·is.Go c) = Unit {0}
 
 -- CONTRACTS, for every path and mode. Of rows
 pub record Narrows (t : List ℕ) (d : ℕ) (x : Run) (r : Aim) : Type 0 where
-  pub says : (s : List ℕ) (mode : Mode) (wall : ℕ) → Ready t s mode wall 0 0 → (π E T : List ℕ) → aim_view t s mode d wall r π E T ≡ aim_view t s mode d wall (aim·is.Rows x) π E T
+  pub says : (s : List ℕ) (mode : Mode) (wall : ℕ) → ReadyFor t s mode wall 0 0 → (π E T : List ℕ) → aim_view t s mode d wall r π E T ≡ aim_view t s mode d wall (aim·is.Rows x) π E T
   pub aimed : Aimed t d r
 
 -- of a row
 pub record Aims (t s : List ℕ) (d : ℕ) (row : Row) (wall : ℕ) (c : Cursor) (E : List ℕ) (r : Aim) (E' : List ℕ) : Type 0 where
-  pub says : (mode : Mode) → Ready t s mode wall 0 0 → (T π : List ℕ) → aim_view t s mode d wall r π E' T ≡ outcome (row· t s mode (suc d) row (room_of E T c) π wall c.at.0) c π E T
+  pub says : (mode : Mode) → ReadyFor t s mode wall 0 0 → (T π : List ℕ) → aim_view t s mode d wall r π E' T ≡ outcome (row· t s mode (suc d) row (room_of E T c) π wall c.at.0) c π E T
   pub aimed : Aimed t d r

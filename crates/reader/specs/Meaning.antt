@@ -44,9 +44,16 @@ reach_of (Bare body) wall = reach.To record { coded = false; body = body; wall =
 reach_of (Sized body inner) wall = reach.To record { coded = true; body = body; wall = inner }
 reach_of (Wrong n) wall = reach.Wrong n
 
--- what is asked: the table is right and has no substitutes where none are looked for, the party is one of those, the wall is in the payload, and the
--- path has a place for each row that may still be opened
+-- what is asked: the table is right and has no substitutes where none are looked for, the wall is in the payload, and the path has a place for
+-- each row that may still be opened
 pub record Ready (t s : List ℕ) (mode : Mode) (wall n depth : ℕ) : Type 0 where
+  pub valid : verdict t ≡ right
+  pub choosing : Choosing t mode.choices
+  pub walls : wall ≤ 8 * length s
+  pub places : n + depth ≤ most_names
+
+-- the same, and the party is one of those
+pub record ReadyFor (t s : List ℕ) (mode : Mode) (wall n depth : ℕ) : Type 0 where
   pub valid : verdict t ≡ right
   pub choosing : Choosing t mode.choices
   pub party_known : mode.party < parties
@@ -89,8 +96,13 @@ row_for t name type i = cond (eqb i no_row) (element name type no_row) ((table_o
 -- so many rows from one on, each a step past the one before, are in the table or the root's; each number fits a word
 unfoldable pub Known : (t : List ℕ) (name type i step n : ℕ) → Type 0
 Known t name type i step zero = Unit {0}
-Known t name type i step (suc n) =
-    Fits (types_in t) (particles_in t) (row_for t name type i) × Owned (particles_in t) i × (i + step < 4294967296) × Known t name type (i + step) step n
+Known t name type i step (suc n) = Fits (types_in t) (particles_in t) (row_for t name type i) × (i + step < 4294967296) × Known t name type (i + step) step n
+
+-- the same, each of a row of the table's own, or of none
+unfoldable pub KnownRows : (t : List ℕ) (name type i step n : ℕ) → Type 0
+KnownRows t name type i step zero = Unit {0}
+KnownRows t name type i step (suc n) =
+    Fits (types_in t) (particles_in t) (row_for t name type i) × Owned (particles_in t) i × (i + step < 4294967296) × KnownRows t name type (i + step) step n
 
 module _ (t s : List ℕ) (mode : Mode) where
   abbrev pub b : ℕ → ℕ
@@ -156,6 +168,10 @@ module _ (t s : List ℕ) (mode : Mode) where
   unfoldable pub below· : (d opens first step n : ℕ) → Meaning
   below· d opens first step n r π wall at = cond (ltb d opens) (refused refusal.depth at π) (list· 0 0 (d - opens) first step n r π wall at)
 
-  -- what is left of an element that has rows: these, and its end
-  unfoldable pub rest· : (d : ℕ) → Entry → Meaning
-  rest· d x r π wall at = after r (below· d x.opens x.first x.step x.count r π wall at) (λ u q. ending x.coded x.body.0 wall u π q)
+  -- what is left of an element that has rows: its content row, and its end
+  unfoldable pub rest· : (d row : ℕ) → Bool → ℕ → Meaning
+  rest· d row coded body r π wall at = after r (list· 0 0 d row 0 1 r π wall at) (λ u q. ending coded body wall u π q)
+
+  -- the same by the rows that it has
+  unfoldable pub rest_by· : (d : ℕ) → Entry → Meaning
+  rest_by· d x r π wall at = after r (below· d x.opens x.first x.step x.count r π wall at) (λ u q. ending x.coded x.body.0 wall u π q)

@@ -13,7 +13,7 @@ ghost use Rattle.table.specs.Valid.{verdict};
 ghost use Rattle.table.specs.Words.{types_in, particles_in};
 ghost use Rattle.table.specs.Views.{row_is};
 ghost use Rattle.reader_parts.specs.Paths.{names_of};
-ghost use Rattle.reader.specs.Meaning.{Ready, Owned, Known, Walks, row_for, list·, rest·};
+ghost use Rattle.reader.specs.Meaning.{ReadyFor, Owned, KnownRows, Walks, row_for, list·, rest_by·};
 
 use crate::entering::{Entered, Entry, enter};
 use crate::groups::{Aim, Run, reached};
@@ -41,11 +41,11 @@ fn element(
     name: u32,
     x: Entry,
 ) -> Walk
-    requires { (Ready table.now payload.now mode x.wall.0 (path.count + 1) depth)
+    requires { (ReadyFor table.now payload.now mode x.wall.0 (path.count + 1) depth)
         × (length told.old ≡ most_names)
         × (name ≤ most_name)
-        × (Known table.now 0 0 x.first x.step x.count) }
-    ensures { Walks (rest· table.now payload.now mode depth x) x.wall.0 x.cursor
+        × (KnownRows table.now 0 0 x.first x.step x.count) }
+    ensures { Walks (rest_by· table.now payload.now mode depth x) x.wall.0 x.cursor
         (name ∷ names_of path) events.old texts.old result told.new events.new
         texts.new }
 {
@@ -98,11 +98,11 @@ fn content(
     step: u32,
     count: u32,
 ) -> Walk
-    requires { (Ready table.now payload.now mode wall.0 (path.count + 1) depth)
+    requires { (ReadyFor table.now payload.now mode wall.0 (path.count + 1) depth)
         × (length told.old ≡ most_names)
         × (path.count < most_names)
         × (name ≤ most_name)
-        × (Known table.now 0 0 first step count) }
+        × (KnownRows table.now 0 0 first step count) }
     ensures { Walks (list· table.now payload.now mode 0 0 depth first step count) wall.0 c
         (name ∷ names_of path) events.old texts.old result told.new events.new
         texts.new }
@@ -129,9 +129,9 @@ fn rows_in(
     path: Path,
     x: Run,
 ) -> Walk
-    requires { (Ready table.now payload.now mode wall.0 path.count depth)
+    requires { (ReadyFor table.now payload.now mode wall.0 path.count depth)
         × (length told.old ≡ most_names)
-        × (Known table.now 0 0 x.first x.step x.count) }
+        × (KnownRows table.now 0 0 x.first x.step x.count) }
     ensures { Walks (list· table.now payload.now mode 0 0 depth x.first x.step x.count)
         wall.0 x.cursor (names_of path) events.old texts.old result told.new
         events.new texts.new }
@@ -173,9 +173,9 @@ pub fn particle(
     step: u32,
     count: u32,
 ) -> Walk
-    requires { (Ready table.now payload.now mode wall.0 path.count depth)
+    requires { (ReadyFor table.now payload.now mode wall.0 path.count depth)
         × (length told.old ≡ most_names)
-        × (Known table.now name t first step count) }
+        × (KnownRows table.now name t first step count) }
     ensures { Walks (list· table.now payload.now mode name t depth first step count) wall.0 c
         (names_of path) events.old texts.old result told.new events.new
         texts.new }

@@ -6,7 +6,7 @@ ghost use Rattle.table.specs.Rows.{table_of};
 ghost use Rattle.table.specs.Views.{content_is, row_is};
 ghost use Rattle.model.specs.Modes.{types_by};
 ghost use Rattle.reader_parts.specs.Opening.{row_choices};
-ghost use Rattle.reader.specs.Meaning.{Ready, Owned, reach_of};
+ghost use Rattle.reader.specs.Meaning.{ReadyFor, Owned, reach_of};
 ghost use Rattle.reader.specs.Entering.{filled_by, rows_of, entry_of, Fills, Enters};
 
 use model::Mode;
@@ -132,7 +132,7 @@ fn fill(
     coded: bool,
     body: Bits,
 ) -> Entered
-    requires { (Ready table.now payload.now mode wall.0 0 0) × (t < types_in table.now) }
+    requires { (ReadyFor table.now payload.now mode wall.0 0 0) × (t < types_in table.now) }
     ensures { Fills table.now payload.now mode t coded body.0 wall.0 c events.old
         texts.old result events.new texts.new }
 {
@@ -162,7 +162,7 @@ pub fn enter(
     t: u32,
     row: u32,
 ) -> Entered
-    requires { (Ready table.now payload.now mode wall.0 0 0)
+    requires { (ReadyFor table.now payload.now mode wall.0 0 0)
         × (t < types_in table.now)
         × (Owned (particles_in table.now) row) }
     ensures { Enters table.now payload.now mode name

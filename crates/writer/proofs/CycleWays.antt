@@ -52,7 +52,7 @@ use Rattle.writer_parts.specs.Walk.{events_in, events_at, texts_at, between, pas
 use Rattle.writer_parts.proofs.WalkLaws.{went, stopped, walked_as, stays, along-stop, along-go, alone-noted, events-next, events-none, events-count, judged-in, taken-like, taken-unlike}
 use Rattle.writer_parts.specs.Parts.{present, required·, optional·, attribute·, attributes·, own·, values·}
 use Rattle.writer_parts.specs.Opening.{no_row, row_choices}
-use Rattle.writer.specs.Meaning.{Owned, Known, Rounds, Given, Right, Within, deep_at, particle·, inside·, element·, choose·, rounds·, occur·, row·, list·}
+use Rattle.writer.specs.Meaning.{Owned, Known, Rounds, Given, RightFor, Within, deep_at, particle·, inside·, element·, choose·, rounds·, occur·, row·, list·}
 use Rattle.writer_parts.proofs.Leads.{Leads, leads-start, leads-end, leads-stop, leads-go}
 use Rattle.writer_parts.proofs.AttributeWays.{ready_on, item-stop, item-go, item-here}
 
@@ -296,11 +296,11 @@ module _ (L X : List ℕ) (c : Spot) (N : List ℕ) (t : List ℕ) (mode : Mode)
           go (ov.Simple k x y) z = stays L X f M on
           go (ov.Particles i) z = absurd (z i refl)
 
-pub content-row : (t : List ℕ) (mode : Mode) (ty : ℕ) → Right t mode → ty < types_in t → (o : content_t.Content) → content_is o ≡ (table_of t).content ty → (i : ℕ) → o ≡ ov.Particles i → i < particles_in t
+pub content-row : (t : List ℕ) (mode : Mode) (ty : ℕ) → RightFor t mode → ty < types_in t → (o : content_t.Content) → content_is o ≡ (table_of t).content ty → (i : ℕ) → o ≡ ov.Particles i → i < particles_in t
 content-row t mode ty r h o e i w = let k : ContentOk (particles_in t) (content_is o) = rw e (content-ok t r.is ty h) in rw w at k
 
 -- the row that was read is within the table
-module _ (t : List ℕ) (mode : Mode) (i : ℕ) (p : particle_t.Particle) (e : row_is p ≡ (table_of t).row i) (r : Right t mode) (h : i < particles_in t) where
+module _ (t : List ℕ) (mode : Mode) (i : ℕ) (p : particle_t.Particle) (e : row_is p ≡ (table_of t).row i) (r : RightFor t mode) (h : i < particles_in t) where
   row_fine : RowOk (types_in t) (particles_in t) i (row_is p)
   row_fine = rw e (row_ok t r.is i h)
 
@@ -352,7 +352,7 @@ module _ (L X : List ℕ) (c : Spot) (N : List ℕ) (t : List ℕ) (mode : Mode)
     one-row-as n x f = row_is_lem n ∙ rw (← g.row n, f)
 
     module _ (s : Judgement) (M : List ℕ) where
-      pub one-row-element : Right t mode → Known t ty i → (x y row : ℕ) → p ≡ pv.Element x y row
+      pub one-row-element : RightFor t mode → Known t ty i → (x y row : ℕ) → p ≡ pv.Element x y row
           → Walks L X (element· t mode (d - 1) x (types_by t (row_choices mode.choices row) y row)) c N s M → Walks L X (row· t mode d name ty i) c N s M
       unfolding element· inside·
       one-row-element r k x y row w h = elim (ℕ_discrete i no_row) [
@@ -394,7 +394,7 @@ module _ (L X : List ℕ) (c : Spot) (N : List ℕ) (t : List ℕ) (mode : Mode)
           ∙ (λ j. steps.item_then (counted least most) (events_at L c.event) (texts_at X c.used) (λ v A U. steps.rounds_out (len mode) (held_of t mode.party) (tab t mode) (d - 1) v (λ a. (table_of t).row (none a j)) A U))) h
 
 -- what the rows of a given row are
-module _ (t : List ℕ) (mode : Mode) (name ty i : ℕ) (p : particle_t.Particle) (g : Given t name ty i p) (r : Right t mode) (k : Known t ty i) where
+module _ (t : List ℕ) (mode : Mode) (name ty i : ℕ) (p : particle_t.Particle) (g : Given t name ty i p) (r : RightFor t mode) (k : Known t ty i) where
   pub given-type : (x y row : ℕ) → p ≡ pv.Element x y row → y < types_in t
   given-type x y row w = elim (ℕ_discrete i no_row) [
     | yes e ↦
@@ -481,7 +481,7 @@ pub occur-within : (t : List ℕ) (child n : ℕ) → child < particles_in t →
 occur-within t child n h = record { each = λ j m. omega arith; short = omega arith }
 
 -- content and rows_in: no row of the table is the root's
-module _ (t : List ℕ) (mode : Mode) (right : Right t mode) where
+module _ (t : List ℕ) (mode : Mode) (right : RightFor t mode) where
   pub row_plain : (d name ty i : ℕ) → i < particles_in t → (M : List Bare) (X : List ℕ) → row· t mode d name ty i M X ≡ particle· t mode d i M X
   unfolding row· particle·
   row_plain zero name ty i h M X = sym (steps-laws.particle-deep (len mode) (held_of t mode.party) (tab t mode) M X ((table_of t).row i))

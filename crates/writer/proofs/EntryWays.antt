@@ -29,7 +29,7 @@ use Rattle.writer_parts.specs.Notes.{spells}
 use Rattle.writer_parts.specs.Walk.{events_in, events_at, texts_at, between, Ready, Walked, Walks}
 use Rattle.writer_parts.proofs.WalkLaws.{went, stopped, events-count}
 use Rattle.writer_parts.specs.Opening.{no_row}
-use Rattle.writer.specs.Meaning.{Right, Rounds, element·, inside·, row·, list·}
+use Rattle.writer.specs.Meaning.{RightFor, Rounds, element·, inside·, row·, list·}
 use Rattle.writer.specs.declared.front.Fault as fault_t
 use Rattle.writer.specs.declared.front.Fault.TheVariants as fv
 use Rattle.writer.specs.declared.Answer as code
@@ -111,7 +111,7 @@ module _ (t : List ℕ) (party name ty number : ℕ) (L X : List ℕ) (room : �
       record { each = λ j h. record { root = λ e. k; row = λ n. absurd (n (omega arith)) }; next = λ j h. omega arith }
 
   module _ (mode : Mode) (moded : Moded t party number mode) where
-    pub write-right : Right t mode
+    pub write-right : RightFor t mode
     write-right = record { is = fine.enters.table_right; choosing = moded.choosing; party_known = rw moded.party_is fine.enters.party_known }
 
     asked_is : mode_asked (table_of t).derivations number ≡ got (mode_is mode)

@@ -28,7 +28,7 @@ use Rattle.writer_parts.specs.Opening.{no_row, row_choices}
 use Rattle.writer_parts.specs.Walk.{events_at, texts_at, Ready, Walks, alone}
 use Rattle.writer_parts.proofs.WalkLaws.{walked_as, stays}
 use Rattle.writer_parts.proofs.AttributeWays.{ready_on, item-here}
-use Rattle.writer.specs.Meaning.{Owned, Known, Given, Right, Within, particle·, element·, rounds·, row·, list·}
+use Rattle.writer.specs.Meaning.{Owned, Known, Given, RightFor, Within, particle·, element·, rounds·, row·, list·}
 use Rattle.writer.specs.Groups.{Fits, given·, target·, run·, Aimed, Narrows, Aims}
 use Rattle.writer.specs.declared.groups.Aim as aim_t
 use Rattle.writer.specs.declared.groups.Aim.TheVariants as aim
@@ -49,7 +49,7 @@ module _ (t : List ℕ) (d : ℕ) (x : Run) (valid : verdict t ≡ right) (lies 
     first-inside = particle-inside t valid x.first first-in
 
     -- one row of a run is a row of the table
-    single : (mode : Mode) → Right t mode → (A : List Bare) (U : List ℕ) → run· t mode d x A U ≡ row· t mode d 0 0 x.first A U
+    single : (mode : Mode) → RightFor t mode → (A : List Bare) (U : List ℕ) → run· t mode d x A U ≡ row· t mode d 0 0 x.first A U
     unfolding run· list·
     single mode r A U =
         let one : Within t x.first x.step 1 = rw e at lies in
@@ -153,14 +153,14 @@ module _ (t L X : List ℕ) (d : ℕ) (c : Spot) (N : List ℕ) (ready : Ready L
       }
 
 -- what a given row names
-pub given-fits : (t : List ℕ) (mode : Mode) (name ty i : ℕ) → Right t mode → Known t ty i → (p : particle_t.Particle) → Given t name ty i p → Fits t p
+pub given-fits : (t : List ℕ) (mode : Mode) (name ty i : ℕ) → RightFor t mode → Known t ty i → (p : particle_t.Particle) → Given t name ty i p → Fits t p
 given-fits t mode name ty i r k (pv.Element x y row) g = (given-type t mode name ty i _ g r k x y row refl, given-owned t mode name ty i _ g r k x y row refl)
 given-fits t mode name ty i r k (pv.Sequence first n) g = given-sequence t mode name ty i _ g r k first n refl
 given-fits t mode name ty i r k (pv.Choice first n) g = given-choice t mode name ty i _ g r k first n refl
 given-fits t mode name ty i r k (pv.Occurs child least most) g = given-child t mode name ty i _ g r k child least most refl
 
 -- a row of a number, by the row that was given
-module _ (L X : List ℕ) (c : Spot) (N : List ℕ) (t : List ℕ) (mode : Mode) (d name ty i : ℕ) (z : d ≡ 0 → ⊥) (r : Right t mode) (k : Known t ty i) where
+module _ (L X : List ℕ) (c : Spot) (N : List ℕ) (t : List ℕ) (mode : Mode) (d name ty i : ℕ) (z : d ≡ 0 → ⊥) (r : RightFor t mode) (k : Known t ty i) where
   given-walked : (p : particle_t.Particle) → Given t name ty i p → (s : Judgement) (M : List ℕ) → Walks L X (given· t mode (d - 1) p) c N s M → Walks L X (row· t mode d name ty i) c N s M
   unfolding given·
   given-walked (pv.Element x y row) g s M h = one-row-element L X c N t mode d name ty i z _ g s M r k x y row refl h
@@ -213,7 +213,7 @@ module _ (L X : List ℕ) (c : Spot) (N : List ℕ) (t : List ℕ) (mode : Mode)
           (walked_as (Go x.cursor) (rw e (rounds-none t mode (d - 1) x.first x.step (events_at L x.cursor.event) (texts_at X x.cursor.used))) (stays L X x.cursor M run-ready))
 
 -- a content row that is a sequence
-module _ (t : List ℕ) (mode : Mode) (i : ℕ) (r : Right t mode) (inside : i < particles_in t) (p : particle_t.Particle) (g : row_is p ≡ (table_of t).row i) (first n : ℕ) (w : p ≡ pv.Sequence first n) where
+module _ (t : List ℕ) (mode : Mode) (i : ℕ) (r : RightFor t mode) (inside : i < particles_in t) (p : particle_t.Particle) (g : row_is p ≡ (table_of t).row i) (first n : ℕ) (w : p ≡ pv.Sequence first n) where
   no-root : i ≡ no_row → ⊥
   no-root z = let few = (counts-ok t r.is).particles_few in absurd (omega (arith, few, inside, z))
 

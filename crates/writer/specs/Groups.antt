@@ -11,7 +11,7 @@ use Rattle.writer_parts.specs.declared.Judgement.TheVariants as judged·is
 use Rattle.writer_parts.specs.declared.Spot.{Spot}
 use Rattle.writer_parts.specs.Opening.{row_choices}
 use Rattle.writer_parts.specs.Walk.{Ready, Walks}
-use Rattle.writer.specs.Meaning.{Right, Within, Owned, element·, choose·, occur·, rounds·}
+use Rattle.writer.specs.Meaning.{RightFor, Within, Owned, element·, choose·, occur·, rounds·}
 use Rattle.writer.specs.declared.groups.Aim.{Aim}
 use Rattle.writer.specs.declared.groups.Aim.TheVariants.{Element, Rows, Refuse}
 use Rattle.writer.specs.declared.groups.Run.{Run}
@@ -52,8 +52,8 @@ module _ (t : List ℕ) (mode : Mode) where
 
 -- CONTRACTS, for every mode that the table knows. Of rows
 pub record Narrows (t : List ℕ) (d : ℕ) (x : Run) (r : Aim) : Type 0 where
-  pub is : (mode : Mode) → Right t mode → (L X N : List ℕ) → Ready L X N x.cursor → Aimed t mode L X d (run· t mode d x) x.cursor N r N
+  pub is : (mode : Mode) → RightFor t mode → (L X N : List ℕ) → Ready L X N x.cursor → Aimed t mode L X d (run· t mode d x) x.cursor N r N
 
 -- of a row
 pub record Aims (t L X : List ℕ) (d : ℕ) (p : Particle) (c : Spot) (N : List ℕ) (r : Aim) (M : List ℕ) : Type 0 where
-  pub is : (mode : Mode) → Right t mode → Aimed t mode L X d (given· t mode d p) c N r M
+  pub is : (mode : Mode) → RightFor t mode → Aimed t mode L X d (given· t mode d p) c N r M

@@ -22,8 +22,13 @@ use Rattle.writer_parts.specs.declared.Judgement.TheVariants.{Refuse}
 use Rattle.writer_parts.specs.Opening.{no_row, row_choices}
 use Rattle.writer_parts.specs.Walk.{events_in}
 
--- a table without fault, and a mode that knows what this table has to choose from, for a party that has marks; rows within it
+-- a table without fault, and a mode that knows what this table has to choose from; rows within it
 pub record Right (t : List ℕ) (mode : Mode) : Type 0 where
+  pub is : verdict t ≡ right
+  pub choosing : Choosing t mode.choices
+
+-- the same, for a party that has marks
+pub record RightFor (t : List ℕ) (mode : Mode) : Type 0 where
   pub is : verdict t ≡ right
   pub choosing : Choosing t mode.choices
   pub party_known : mode.party < parties

@@ -11,7 +11,7 @@ ghost use Rattle.table.specs.Words.{types_in, particles_in};
 ghost use Rattle.model.specs.Modes.{types_by};
 ghost use Rattle.writer_parts.specs.Opening.{row_choices};
 ghost use Rattle.writer_parts.specs.Walk.{Ready, Walks};
-ghost use Rattle.writer.specs.Meaning.{Right, Within, Owned, Known, Rounds, Given};
+ghost use Rattle.writer.specs.Meaning.{RightFor, Within, Owned, Known, Rounds, Given};
 ghost use Rattle.writer.specs.Meaning.{deep_at, element·, particle·, rounds·, row·, list·};
 
 use crate::groups::{Aim, reached};
@@ -41,7 +41,7 @@ fn element(
     row: u32,
 ) -> Judgement
     requires { (Ready events.now texts.now notes.old c)
-        × (Right table.now mode)
+        × (RightFor table.now mode)
         × (Owned table.now row)
         × (t < types_in table.now)
         × (depth ≤ most_open) }
@@ -111,7 +111,7 @@ fn content(
     i: u32,
 ) -> Judgement
     requires { (Ready events.now texts.now notes.old c)
-        × (Right table.now mode)
+        × (RightFor table.now mode)
         × (i < particles_in table.now)
         × (depth ≤ most_open) }
     ensures { Walks events.now texts.now (particle· table.now mode depth i) c
@@ -142,7 +142,7 @@ fn rows_in(
     count: u32,
 ) -> Judgement
     requires { (Ready events.now texts.now notes.old c)
-        × (Right table.now mode)
+        × (RightFor table.now mode)
         × (Within table.now first step count)
         × (depth ≤ most_open) }
     ensures { Walks events.now texts.now (rounds· table.now mode depth first step count) c
@@ -189,7 +189,7 @@ fn one_row(
     i: u32,
 ) -> Judgement
     requires { (Ready events.now texts.now notes.old c)
-        × (Right table.now mode)
+        × (RightFor table.now mode)
         × (Known table.now t i)
         × (depth ≤ most_open) }
     ensures { Walks events.now texts.now (row· table.now mode depth name t i) c
@@ -237,7 +237,7 @@ pub fn particle(
     count: u32,
 ) -> Judgement
     requires { (Ready events.now texts.now notes.old c)
-        × (Right table.now mode)
+        × (RightFor table.now mode)
         × (Rounds table.now t first step count)
         × (depth ≤ most_open) }
     ensures { Walks events.now texts.now

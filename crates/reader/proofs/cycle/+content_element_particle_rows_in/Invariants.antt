@@ -3,7 +3,7 @@ use Prim.Native.Nat.{◌+◌, ◌*◌}
 use mathlib.Core.Path.{◌≡◌}
 use lib.ListN.{length}
 use Rattle.reader_parts.specs.Paths.{names_of}
-use Rattle.reader.specs.Meaning.{Known}
+use Rattle.reader.specs.Meaning.{KnownRows}
 use Rattle.reader.proofs.Ways.{Left}
 use Rattle.reader.proofs.cycle.+content_element_particle_rows_in.Given as goal
 
@@ -23,7 +23,7 @@ abbrev pub invariant-particle-loop-n : goal.invariant-particle-loop-n
 invariant-particle-loop-n l = (length l.events ≡ length l.initial.events)
     × (length l.texts ≡ length l.initial.texts)
     × (length l.told ≡ length l.initial.told)
-    × Known l.table l.name l.t l.i l.step l.n
+    × KnownRows l.table l.name l.t l.i l.step l.n
     × Left l.table l.payload l.mode l.name l.t l.depth l.wall.0 l.step l.i l.n l.cursor (names_of l.path) l.events l.texts l.initial.i l.initial.n l.initial.cursor l.initial.events l.initial.texts
 
 abbrev pub decreases-particle-loop-n : goal.decreases-particle-loop-n
