@@ -8,7 +8,7 @@ use Rattle.numbers.specs.Refusal as refusal
 use Rattle.numbers.specs.Refusal.{area_size}
 use Rattle.numbers.specs.Limit as limit
 use Rattle.value.specs.Simple.{AllBytes}
-use Rattle.table.specs.declared.answers.Setting as code
+use Rattle.table.specs.Views.{Set, set_number, set_place}
 use Rattle.buffers.proofs.BytesLaws.{Bytes}
 use Rattle.report.specs.Places.{report_bytes}
 use Rattle.call_parts.specs.Area.{area_of, told}
@@ -66,8 +66,8 @@ module _ (t area area' : List ℕ) (party type mark : ℕ) where
   unfolding set_call
   set-unlent n e = rw (ne_eqb (length area) limit.area n) (ap (λ (x : List ℕ). back refusal.area_size x (t ∷ [])) e)
 
-  pub set_told : length area ≡ limit.area → (s : code.Setting) (t' : List ℕ) → SetByBytes t party type mark s t' → area' ≡ area_of (told s.place 0 0 0 0 [])
-      → back s.number area' (t' ∷ []) ≡ set_call t party type mark (length area)
+  pub set_told : length area ≡ limit.area → (s : Set) (t' : List ℕ) → SetByBytes t party type mark s t' → area' ≡ area_of (told (set_place s) 0 0 0 0 [])
+      → back (set_number s) area' (t' ∷ []) ≡ set_call t party type mark (length area)
   unfolding set_call area_of
   set_told w s t' b a =
       let o = set_outcome t party type in

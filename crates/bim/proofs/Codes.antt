@@ -19,11 +19,11 @@ module _ (s : List ℕ) (at : ℕ) (c : Coding) (area area' : List ℕ) where
   unfolding bits_call
   code-unlent n e = rw (ne_eqb (length area) bits_area n, e)
 
-  pub code-told : (a : Reading) → length area ≡ bits_area → reading_is a ≡ reading_at s at c → area' ≡ bytes_of (code_words (reading_is a)) ++ drop bits_area area → back a.number area' [] ≡ bits_call s at c (length area)
+  pub code-told : (a : Reading) → length area ≡ bits_area → reading_is a ≡ reading_at s at c → area' ≡ bytes_of (code_words (reading_is a)) ++ drop bits_area area → back (reading_is a).number area' [] ≡ bits_call s at c (length area)
   unfolding bits_call
   code-told a w e f =
       let said = bytes_of (code_words (reading_is a)) in
       let whole : area' ≡ said = f ∙ ap (λ (x : List ℕ). said ++ x) (drop_of_length-le area {i = bits_area} (omega arith)) ∙ append-nil said in
-      ap (λ (x : List ℕ). back a.number x []) whole ∙ ap told e ∙ rw (eq-eqb (length area) bits_area w)
+      ap (λ (x : List ℕ). back (reading_is a).number x []) whole ∙ ap told e ∙ rw (eq-eqb (length area) bits_area w)
 
 pub ruleset code-ways = (code-unlent, code-told)

@@ -5,9 +5,8 @@ use Rattle.numbers.specs.Limit as limit
 use Rattle.model.specs.Whole.{Outcome, reading}
 use Rattle.buffers.specs.Bytes.{words_of}
 use Rattle.reader.specs.Answers.{Replies}
-use Rattle.reader.specs.declared.Answer as read
-use Rattle.writer.specs.Answers.{Writes}
-use Rattle.writer.specs.declared.Answer.{Answer}
+use Rattle.reader.specs.Answers as read
+use Rattle.writer.specs.Answers.{Answer, Writes}
 use Rattle.call_parts.specs.Calls.{back, read_bytes, write_list, write_bytes, write_call}
 use Rattle.bim.specs.EventRoom.{ReadBack}
 

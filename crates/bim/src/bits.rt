@@ -1,7 +1,8 @@
 // The lent bit reader for a C host: one code of bytes at a place. The number is given back; value, place and bits
 // left stand in an area.
 ghost use Rattle.std.specs.Prelude.{◌≡◌, [], length};
-ghost use Rattle.bit_reader.specs.Codes.{left_at};
+ghost use Rattle.numbers.specs.Refused.{answered};
+ghost use Rattle.bit_reader.specs.Codes.{left_at, value_in};
 ghost use Rattle.bit_reader.specs.declared.codes.Coding.TheVariants as coding;
 ghost use Rattle.call_parts.specs.Calls.{back};
 ghost use Rattle.bim.specs.Bits.{bits_call};
@@ -9,6 +10,7 @@ ghost use Rattle.bim.specs.Bits.{bits_call};
 use bit_reader::code;
 use bit_reader::codes::{Coding, left_at};
 use buffers::{clear, store};
+use numbers::refusal::Refusal;
 use numbers::{limit, refusal};
 use wire::Bits;
 
@@ -19,14 +21,22 @@ fn read_code(bytes: &[u8], place: u32, coding: Coding, area: &mut [u8]) -> u32
 {
     if area.len() != limit::BITS_AREA {
         clear(area);
-        return refusal::AREA_SIZE;
+        return Refusal::AreaSize.number();
     }
     let a = code(bytes, Bits(place), coding);
-    let next = a.place.0;
-    let left = a.left.0;
-    let told = [a.value, next, left];
-    store(&told, area);
-    a.number
+    let (number, value) = number_and_value(a.code);
+    store(&[value, a.place.0, a.left.0], area);
+    number
+}
+
+// 0 and a code's value; or the number of a refusal, and 0.
+fn number_and_value(code: Result<u32, Refusal>) -> (u32, u32)
+    ensures { result ≡ (answered code, value_in code) }
+{
+    match code {
+        Ok(value) => (refusal::ACCEPTED, value),
+        Err(why) => (why.number(), 0),
+    }
 }
 
 // A number in so many bits.

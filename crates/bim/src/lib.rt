@@ -18,6 +18,7 @@ use call_parts::area::tell_place;
 use call_parts::asked::{Asked, Order};
 use call_parts::sets::set_bytes;
 use call_parts::tables::judge_and_tell;
+use numbers::refusal::Refusal;
 use numbers::{limit, mode, refusal};
 use reads::read_bytes;
 use reads::reports::add_bytes;
@@ -30,7 +31,7 @@ pub fn bim_check_table(table: &[u8], area: &mut [u8]) -> u32
 {
     if area.len() != limit::AREA {
         clear(area);
-        return refusal::AREA_SIZE;
+        return Refusal::AreaSize.number();
     }
     judge_and_tell(table, area)
 }
@@ -55,7 +56,7 @@ pub fn bim_read(
         clear(events);
         clear(texts);
         clear(area);
-        return refusal::AREA_SIZE;
+        return Refusal::AreaSize.number();
     }
     let by = Asked {
         party,
@@ -84,7 +85,7 @@ pub fn bim_write(
     if area.len() != limit::AREA {
         clear(payload);
         clear(area);
-        return refusal::AREA_SIZE;
+        return Refusal::AreaSize.number();
     }
     let by = Order {
         party,
@@ -130,11 +131,18 @@ pub fn bim_set_held(table: &mut [u8], party: u32, ty: u32, mark: u32, area: &mut
 {
     if area.len() != limit::AREA {
         clear(area);
-        return refusal::AREA_SIZE;
+        return Refusal::AreaSize.number();
     }
-    let s = set_bytes(table, party, ty, mark);
-    tell_place(area, s.place);
-    s.number
+    match set_bytes(table, party, ty, mark) {
+        Ok(()) => {
+            tell_place(area, 0);
+            refusal::ACCEPTED
+        }
+        Err(f) => {
+            tell_place(area, f.at);
+            f.why.number()
+        }
+    }
 }
 
 // Writes a stream of records as a shelf file.
@@ -199,7 +207,7 @@ pub fn bim_report_add(
 {
     if report.len() != limit::REPORT {
         clear(report);
-        return refusal::AREA_SIZE;
+        return Refusal::AreaSize.number();
     }
     let by = Asked {
         party,

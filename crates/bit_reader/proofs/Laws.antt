@@ -1,8 +1,13 @@
 -- What a bit reader's answer means: 0 exactly for a code that stands at the place, below the wall; else the place is as it was.
 use Prim.Native.Nat.{ℕ, zero, suc, ◌+◌, ◌*◌, ◌<◌, ◌≤◌}
-use mathlib.Core.Path.{◌≡◌, refl, sym, ◌∙◌}
+use mathlib.Core.Path.{◌≡◌, refl, sym, ap, ap₂, ◌∙◌}
 use mathlib.Core.Bool.{Bool, true, false, cond}
-use mathlib.Core.List.{List}
+use mathlib.Core.List.{List, [], ◌∷◌}
+use lib.ListN.{get_or}
+use Rattle.std.specs.Prelude.{Result, Ok, Err}
+use Rattle.numbers.specs.declared.refusal.Refusal.{Refusal}
+use Rattle.numbers.specs.declared.refusal.Refusal.TheVariants as refusal
+use Rattle.numbers.specs.Refused.{answered as number_answered}
 use native.Mathlib.Omega.{arith}
 use native.Mathlib.Decide.{dec_le}
 use borrow.Author.Tests.{lt-leb}
@@ -17,7 +22,7 @@ use Rattle.wire.specs.Answer.{fixed32}
 use Rattle.wire.proofs.ReadWays.{wide}
 use Rattle.wire.specs.Lawful.{Lawful}
 use Rattle.wire.proofs.Lawful.{fixed-lawful, five-lawful, eight-lawful}
-use Rattle.bit_reader.specs.Codes.{wall_of, left_at, coded, answered, reading_is, reading_at}
+use Rattle.bit_reader.specs.Codes.{Told, wall_of, left_at, coded, answered, value_in, reading_is, reading_at}
 use Rattle.bit_reader.specs.declared.codes.Coding.{Coding}
 use Rattle.bit_reader.specs.declared.codes.Coding.TheVariants.{Fixed, Five, Eight}
 use Rattle.bit_reader.specs.declared.codes.Reading.{Reading}
@@ -116,8 +121,54 @@ refused s at c = go (coded c (bit_at s) (wall_of s) at)
     go (got r) z = absurd (z refl)
     go (fault k) z = (refl, refl)
 
+-- a code that is told by its number and its value
+told_code : (number value : ℕ) → Result ℕ Refusal
+told_code zero v = Ok v
+told_code (suc n) v = Err (get_or refusals (suc n) refusal.Table)
+  where
+    refusals : List Refusal
+    refusals = refusal.Table ∷ refusal.Table ∷ refusal.Root ∷ refusal.PayloadSize ∷ refusal.ModeByte ∷ refusal.PastEnd ∷ refusal.Depth ∷ refusal.EventRoom ∷ refusal.TextRoom ∷ refusal.NotHeld ∷ refusal.Length ∷ refusal.ContentShort ∷ refusal.NotShortest ∷ refusal.TooLarge ∷ refusal.NoSuchCode ∷ refusal.MinusZero ∷ refusal.NotUtf8 ∷ refusal.LeftOver ∷ refusal.NoReading ∷ refusal.Blank ∷ refusal.OutsideRow ∷ refusal.PayloadRoom ∷ refusal.WriteMode ∷ refusal.TextBytes ∷ refusal.AreaSize ∷ refusal.Control ∷ refusal.Party ∷ refusal.Table ∷ refusal.ReservedBits ∷ refusal.NoSchemas ∷ refusal.ManySchemas ∷ refusal.BlockCheck ∷ refusal.BlockTurn ∷ refusal.BlockLayout ∷ refusal.AdvancedFlag ∷ []
+
+code-told : (r : Result ℕ Refusal) → told_code (number_answered r) (value_in r) ≡ r
+unfolding told_code
+code-told (Ok v) = refl
+code-told (Err refusal.Table) = refl
+code-told (Err refusal.Root) = refl
+code-told (Err refusal.PayloadSize) = refl
+code-told (Err refusal.ModeByte) = refl
+code-told (Err refusal.PastEnd) = refl
+code-told (Err refusal.Depth) = refl
+code-told (Err refusal.EventRoom) = refl
+code-told (Err refusal.TextRoom) = refl
+code-told (Err refusal.NotHeld) = refl
+code-told (Err refusal.Length) = refl
+code-told (Err refusal.ContentShort) = refl
+code-told (Err refusal.NotShortest) = refl
+code-told (Err refusal.TooLarge) = refl
+code-told (Err refusal.NoSuchCode) = refl
+code-told (Err refusal.MinusZero) = refl
+code-told (Err refusal.NotUtf8) = refl
+code-told (Err refusal.LeftOver) = refl
+code-told (Err refusal.NoReading) = refl
+code-told (Err refusal.Blank) = refl
+code-told (Err refusal.OutsideRow) = refl
+code-told (Err refusal.PayloadRoom) = refl
+code-told (Err refusal.WriteMode) = refl
+code-told (Err refusal.TextBytes) = refl
+code-told (Err refusal.AreaSize) = refl
+code-told (Err refusal.Control) = refl
+code-told (Err refusal.Party) = refl
+code-told (Err refusal.ReservedBits) = refl
+code-told (Err refusal.NoSchemas) = refl
+code-told (Err refusal.ManySchemas) = refl
+code-told (Err refusal.BlockCheck) = refl
+code-told (Err refusal.BlockTurn) = refl
+code-told (Err refusal.BlockLayout) = refl
+code-told (Err refusal.AdvancedFlag) = refl
+
 -- two answers that the promise allows are equal
 pub determined : (s : List ℕ) (at : ℕ) (c : Coding) (a b : Reading) → reading_is a ≡ reading_at s at c → reading_is b ≡ reading_at s at c → a ≡ b
 determined s at c a b x y =
     let e = x ∙ sym y in
-    λ i. record { number = (e i).number; value = (e i).value; place = record { 0 = (e i).place }; left = record { 0 = (e i).left } }
+    let f : a.code ≡ b.code = sym (code-told a.code) ∙ ap₂ told_code (ap (λ (t : Told). t.number) e) (ap (λ (t : Told). t.value) e) ∙ code-told b.code in
+    λ i. record { code = f i; place = record { 0 = (e i).place }; left = record { 0 = (e i).left } }

@@ -1,5 +1,7 @@
 -- What a bit reader answers: one code as the wire has it, with the wall at the slice's end.
-use Rattle.std.specs.Prelude.{ℕ, ◌-◌, ◌*◌, min, List, length}
+use Rattle.std.specs.Prelude.{ℕ, ◌-◌, ◌*◌, min, List, length, Result, Ok, Err}
+use Rattle.numbers.specs.declared.refusal.Refusal.{Refusal}
+use Rattle.numbers.specs.Refused.{answered as number_answered}
 use Rattle.numbers.specs.Limit.{most_word}
 use Rattle.wire.specs.Res.{Res, got, fault}
 use Rattle.wire.specs.Bits.{bit_at}
@@ -24,8 +26,13 @@ pub record Told : Type 0 where
   pub place : ℕ
   pub left : ℕ
 
+-- the value, 0 where the code is refused
+abbrev pub value_in : Result ℕ Refusal → ℕ
+value_in (Ok v) = v
+value_in (Err e) = 0
+
 abbrev pub reading_is : Reading → Told
-reading_is a = record { number = a.number; value = a.value; place = a.place.0; left = a.left.0 }
+reading_is a = record { number = number_answered a.code; value = value_in a.code; place = a.place.0; left = a.left.0 }
 
 -- a code's value and the place past it, or a refusal
 unfoldable pub coded : Coding → (ℕ → ℕ) → ℕ → ℕ → Res (ℕ × ℕ)

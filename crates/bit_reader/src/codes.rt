@@ -4,7 +4,8 @@ ghost use Rattle.wire.specs.Bits.{bit_at};
 ghost use Rattle.wire.specs.Answer.{read_is};
 ghost use Rattle.bit_reader.specs.Codes as meaning;
 
-use numbers::{limit, refusal};
+use numbers::limit;
+use numbers::refusal::Refusal;
 use wire::reading::{fixed, vlu5, vlu8};
 use wire::{Bits, Read};
 
@@ -16,11 +17,10 @@ pub enum Coding {
     Eight,
 }
 
-// 0 or the number of a refusal; the value, 0 on a refusal; the place past the code, or that of the refused one; the bits left from there.
+// A code's value, or why it is refused; the place past the code, or that of the refused one; the bits left from there.
 #[derive(Clone, Copy)]
 pub struct Reading {
-    pub number: u32,
-    pub value: u32,
+    pub code: Result<u32, Refusal>,
     pub place: Bits,
     pub left: Bits,
 }
@@ -40,15 +40,11 @@ pub fn wall(src: &[u8]) -> Bits
 pub fn left_at(src: &[u8], at: Bits) -> Bits
     ensures { result.0 ≡ meaning.left_at src.now at.0 }
 {
-    let wall = wall(src).0;
-    let a = at.0;
-    if a < wall {
-        return Bits(wall - a);
-    }
-    Bits(0)
+    Bits(wall(src).0.saturating_sub(at.0))
 }
 
 // The code as the wire has it.
+#[tactic(auto, unfolding(crate::specs::Codes::coded))]
 fn read_code(src: &[u8], wall: Bits, at: Bits, coding: Coding) -> Read
     requires { wall.0 ≤ 8 * length src.now }
     ensures { read_is result ≡ meaning.coded coding (bit_at src.now) wall.0 at.0 }
@@ -66,23 +62,15 @@ pub fn code_at(src: &[u8], at: Bits, coding: Coding) -> Reading
 {
     let wall = wall(src);
     match read_code(src, wall, at, coding) {
-        Read::Refuse(number) => {
-            let left = left_at(src, at);
-            Reading {
-                number,
-                value: 0,
-                place: at,
-                left,
-            }
-        }
-        Read::Value(value, place) => {
-            let left = left_at(src, place);
-            Reading {
-                number: refusal::ACCEPTED,
-                value,
-                place,
-                left,
-            }
-        }
+        Err(why) => Reading {
+            code: Err(why),
+            place: at,
+            left: left_at(src, at),
+        },
+        Ok((value, place)) => Reading {
+            code: Ok(value),
+            place,
+            left: left_at(src, place),
+        },
     }
 }

@@ -57,9 +57,6 @@ spelled-length f k wide (x ∷ l) =
 pub bytes-length : (l : List ℕ) → length (bytes_of l) ≡ 4 * length l
 bytes-length l = let h = spelled-length four 4 (λ x. refl) l in omega arith
 
-pub bytes-front : (l : List ℕ) (n : ℕ) → n ≤ length l → length (bytes_of (take n l)) ≡ 4 * n
-bytes-front l n h = bytes-length (take n l) ∙ ap (λ (j : ℕ). 4 * j) (length-take-le n l h)
-
 pub names-length : (l : List ℕ) → length (names_of l) ≡ 2 * length l
 names-length l = let h = spelled-length two 2 (λ x. refl) l in omega arith
 

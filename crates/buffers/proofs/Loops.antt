@@ -5,9 +5,8 @@ use mathlib.Core.List.{List, [], ◌∷◌, ◌++◌, append-nil, append_assoc}
 use native.Mathlib.Omega.{arith}
 use native.Mathlib.Numerals.{add-one}
 use borrow.Rule.Slice.PartMut.{put_mid, Post-is}
-use borrow.Author.Fill.{fill_more}
-use lib.ListN.{length, get_or, set, take, drop, replicate, drop_of_length-le}
-use lib.Seq.{sets, set_at, take-suc, drop_at, drop-cons, drop-drop, take_all, length-take-le, drop-length}
+use lib.ListN.{length, get_or, set, take, drop}
+use lib.Seq.{sets, sets-eq, set_at, take-suc, drop-cons, take_all, length-take-le, drop-length}
 use Rattle.buffers.specs.Bytes.{word_from, four, words_of, spelled, bytes_of}
 use Rattle.buffers.proofs.BytesLaws.{words-length, word_at, spelled-length, spelled-more}
 
@@ -49,36 +48,20 @@ module _ (f : ℕ → List ℕ) (k : ℕ) (wide : (x : ℕ) → length (f x) ≡
   pub stored-all : (s : List ℕ) (i at : ℕ) → length l ≤ i → s ≡ spelled f (take i l) ++ drop at b → s ≡ spelled f l ++ drop at b
   stored-all s i at h e = e ∙ ap (λ (x : List ℕ). spelled f x ++ drop at b) (take_all i l h)
 
--- one word more, and two, at their places
+-- one word more at its place
 pub stored_one : (l b s s' : List ℕ) (i next : ℕ) → i + 1 ≡ next → i < length l → 4 * length l ≤ length b
     → s ≡ bytes_of (take i l) ++ drop (4 * i) b → s' ≡ sets s (4 * i) (four (get_or l i 0)) → s' ≡ bytes_of (take next l) ++ drop (4 * next) b
 stored_one l b s s' i next n h r e g =
     rw n at (stored_more four 4 (λ x. refl) l b s s' i (4 * i) (4 * (i + 1)) h (omega arith) (omega arith) (omega arith) e g)
 
-pub stored-two : (l b s s' : List ℕ) (i next : ℕ) → i + 2 ≡ next → i + 1 < length l → 4 * length l ≤ length b
-    → s ≡ bytes_of (take i l) ++ drop (4 * i) b → s' ≡ sets (sets s (4 * i) (four (get_or l i 0))) (4 * (i + 1)) (four (get_or l (i + 1) 0))
-    → s' ≡ bytes_of (take next l) ++ drop (4 * next) b
-stored-two l b s s' i next n h r e g =
-    stored_one l b _ s' (i + 1) next (omega arith) h r (stored_one l b s _ i (i + 1) refl (omega arith) r e refl) g
-
--- what stands behind a part laid at the front has stayed; so a loop may begin anew there
-module _ (P b₀ b₁ : List ℕ) (i : ℕ) (n : length P ≡ i) (e : b₁ ≡ P ++ drop i b₀) where
-  pub behind : (j : ℕ) → i ≤ j → drop j b₁ ≡ drop j b₀
-  behind j h =
-      let m : i + (j - i) ≡ j = omega arith in
-      let back : (x : List ℕ) → drop (j - i) (drop i x) ≡ drop j x = λ x. drop-drop (j - i) i x ∙ ap (λ (k : ℕ). drop k x) m in
-      ap (drop j) e ∙ sym (back (P ++ drop i b₀)) ∙ ap (drop (j - i)) (drop_at P (drop i b₀) i n) ∙ back b₀
-
-  pub begun : b₁ ≡ P ++ drop i b₁
-  begun = e ∙ ap (λ (x : List ℕ). P ++ x) (sym (behind i (omega arith)))
-
--- zeros from the front
-pub cleared_more : (s b : List ℕ) (i : ℕ) → i < length b → s ≡ replicate i 0 ++ drop i b → set s i 0 ≡ replicate (i + 1) 0 ++ drop (i + 1) b
-cleared_more s b i h e = ap (λ (x : List ℕ). set x i 0) e ∙ fill_more i 0 b h
-
-pub cleared-all : (s b : List ℕ) (i : ℕ) → i ≡ length b → s ≡ replicate i 0 ++ drop i b → s ≡ replicate (length b) 0
-cleared-all s b i h e =
-    e ∙ ap (λ (x : List ℕ). replicate i 0 ++ x) (drop_of_length-le b {i = i} (omega arith)) ∙ append-nil (replicate i 0) ∙ ap (λ (j : ℕ). replicate j 0) h
+-- numbers put in place of a part
+pub part_put : (s ys m : List ℕ) (at end : ℕ) → end ≤ length s → at + length ys ≡ end → m ≡ ys → put_mid at (end - at) s m ≡ sets s at ys
+part_put s ys m at end h n e =
+    ap (λ (x : List ℕ). take at s ++ (x ++ drop (end - at) (drop at s))) e
+    ∙ ap (λ (x : List ℕ). take at s ++ (ys ++ x)) (Post-is at end s (omega arith))
+    ∙ sym (append_assoc (take at s) ys (drop end s))
+    ∙ ap (λ (x : ℕ). take at s ++ ys ++ drop x s) (sym n)
+    ∙ sym (sets-eq ys s at (omega arith))
 
 -- a part that was lent from a place to the end is back
 pub tail-back : (a : ℕ) (xs ys : List ℕ) → a ≤ length xs → put_mid a (length xs - a) xs ys ≡ take a xs ++ ys

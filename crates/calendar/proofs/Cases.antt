@@ -1,7 +1,7 @@
 -- Days of the request's page, computed: by counting where they lie near day 0, else by the formulas, which `Laws` proves to count the same.
 use Prim.Native.Nat.{◌-◌, ◌^◌}
 use mathlib.Core.Path.{◌≡◌, refl, sym}
-use Rattle.calendar.specs.declared.Day.TheVariants.{Number, Nothing}
+use Rattle.std.specs.Prelude.{Some, None}
 use Rattle.calendar.specs.Plain.{date, leap, days_in, next_day, days_after, date_of}
 use Rattle.calendar.specs.Formulas.{year_start, month_start, from_march, monthly, yearly, civil, date_by, days_to, in_word, day_by}
 use Rattle.calendar.proofs.Laws.{date-by}
@@ -27,30 +27,30 @@ unfolding date_by civil yearly monthly from_march
 march-2001 = sym (date-by 51969)
 
 -- the first and the last day have a number, their neighbours none; nor has what is no calendar day
-first-day : day_by 1858 11 17 ≡ Number 0
+first-day : day_by 1858 11 17 ≡ Some 0
 unfolding day_by in_word days_to year_start month_start days_in leap
 first-day = refl
 
-day-before : day_by 1858 11 16 ≡ Nothing
+day-before : day_by 1858 11 16 ≡ None
 unfolding day_by in_word days_to year_start month_start days_in leap
 day-before = refl
 
-last-day : day_by 11761079 12 6 ≡ Number (2 ^ 32 - 1)
+last-day : day_by 11761079 12 6 ≡ Some (2 ^ 32 - 1)
 unfolding day_by in_word days_to year_start month_start days_in leap
 last-day = refl
 
-day-after : day_by 11761079 12 7 ≡ Nothing
+day-after : day_by 11761079 12 7 ≡ None
 unfolding day_by in_word days_to year_start month_start days_in leap
 day-after = refl
 
-leap-1900 : day_by 1900 2 29 ≡ Nothing
+leap-1900 : day_by 1900 2 29 ≡ None
 unfolding day_by in_word days_to year_start month_start days_in leap
 leap-1900 = refl
 
-month-13 : day_by 2024 13 1 ≡ Nothing
+month-13 : day_by 2024 13 1 ≡ None
 unfolding day_by in_word days_to year_start month_start days_in leap
 month-13 = refl
 
-april-31 : day_by 2024 4 31 ≡ Nothing
+april-31 : day_by 2024 4 31 ≡ None
 unfolding day_by in_word days_to year_start month_start days_in leap
 april-31 = refl

@@ -1,13 +1,13 @@
 -- The formulas are the plain calendar. `date-by`: the date of every day number. `day-back`: back of a day's date is the day. `day-date`: a date that has
 -- a number is that day's date. `no-day` and `not-both`: the dates without one are exactly those that are no calendar day or lie outside.
-use Prim.Native.Nat.{ℕ, zero, suc, ◌+◌, ◌-◌, ◌*◌, ◌/◌, ◌^◌, ◌<◌, ◌≤◌}
+use Prim.Native.Nat.{ℕ, zero, suc, ◌+◌, ◌-◌, ◌*◌, ◌/◌, ◌%◌, ◌^◌, ◌<◌, ◌≤◌}
 use mathlib.Core.Path.{◌≡◌, refl, sym, ◌∙◌}
 use mathlib.Core.Bool.{Bool, true, false, cond}
 use native.Mathlib.Omega.{arith}
 use borrow.Author.Tests.{ltb-true, ltb-false, leb-true, leb-false, le-leb, lt-leb, lt-ltb}
 use lib.Dec.{ltb, leb}
 use Rattle.calendar.specs.declared.Date.{Date}
-use Rattle.calendar.specs.declared.Day.TheVariants.{Number, Nothing}
+use Rattle.std.specs.Prelude.{Some, None}
 use Rattle.calendar.specs.Plain.{date, days_in, IsDay, first_date, days_after, date_of, Unnumbered, no_date, too_early, too_late}
 use Rattle.calendar.specs.Formulas.{before, year_start, month_start, from_march, monthly, yearly, civil, date_by, days_to, in_word, day_by}
 use Rattle.calendar.proofs.March.{february-most}
@@ -30,6 +30,10 @@ pub date-by : (n : ℕ) → date_by n ≡ date_of n
 unfolding date_by
 date-by n = let z : n + before ≡ before + n = omega arith in rw z (civil-stands (date_of n) (before + n) (date-stands n))
 
+pub date_by_steps : (n : ℕ) → yearly ((4 * (n + before) + 3) / 146097) (4 * ((4 * (n + before) + 3) % 146097 / 4) + 3) ≡ date_of n
+unfolding date_by civil
+date_by_steps n = date-by n
+
 -- the last day whose number is a word
 pub last-date : date_of (2 ^ 32 - 1) ≡ date 11761079 12 6
 unfolding date_by civil yearly monthly from_march
@@ -38,7 +42,7 @@ last-date = sym (date-by (2 ^ 32 - 1))
 pub date-is-day : (n : ℕ) → IsDay (date_of n)
 date-is-day n = (date-stands n).is
 
-pub day-back : (n : ℕ) → n < 2 ^ 32 → day_by (date_of n).year (date_of n).month (date_of n).day ≡ Number n
+pub day-back : (n : ℕ) → n < 2 ^ 32 → day_by (date_of n).year (date_of n).month (date_of n).day ≡ Some n
 unfolding day_by in_word
 day-back n h =
     let s = date-stands n in
@@ -72,9 +76,9 @@ month-most y (suc (suc (suc (suc (suc (suc (suc (suc (suc (suc (suc zero))))))))
 month-most y (suc (suc (suc (suc (suc (suc (suc (suc (suc (suc (suc (suc zero)))))))))))) h = (omega arith, omega arith)
 month-most y (suc (suc (suc (suc (suc (suc (suc (suc (suc (suc (suc (suc (suc m))))))))))))) h = absurd (omega arith)
 
-pub early-none : (y m d : ℕ) → y < 1858 → 1 ≤ d → d ≤ days_in y m → in_word (days_to y m d) ≡ Nothing
+pub early_none : (y m d : ℕ) → y < 1858 → 1 ≤ d → d ≤ days_in y m → in_word (days_to y m d) ≡ None
 unfolding in_word days_to
-early-none y m d l h k =
+early_none y m d l h k =
     let w = month-most y m (omega arith) in
     let z : leb before (days_to y m d) ≡ false = lt-leb before (days_to y m d) (go (ltb m 3) refl w.0 w.1) in
     rw z
@@ -84,11 +88,11 @@ early-none y m d l h k =
     go true e f g = omega (arith, year_start-most (y - 1) (omega arith), month_start-most (m + 9) (omega (arith, ltb-true m 3 e)))
     go false e f g = omega (arith, year_start-most y (omega arith), month_start-most (m - 3) (omega arith))
 
-word_number : (z n : ℕ) → in_word z ≡ Number n → (n < 2 ^ 32) × (before + n ≡ z)
+word_number : (z n : ℕ) → in_word z ≡ Some n → (n < 2 ^ 32) × (before + n ≡ z)
 unfolding in_word
 word_number z n h = go (leb before z) (ltb (z - before) (2 ^ 32)) refl refl h
   where
-    go : (a b : Bool) → leb before z ≡ a → ltb (z - before) (2 ^ 32) ≡ b → cond a (cond b (Number (z - before)) Nothing) Nothing ≡ Number n
+    go : (a b : Bool) → leb before z ≡ a → ltb (z - before) (2 ^ 32) ≡ b → cond a (cond b (Some (z - before)) None) None ≡ Some n
         → (n < 2 ^ 32) × (before + n ≡ z)
     go true true e f g =
         let q : z - before ≡ n = cc in
@@ -98,11 +102,11 @@ word_number z n h = go (leb before z) (ltb (z - before) (2 ^ 32)) refl refl h
     go true false e f g = absurd (let x : ◌≡◌ {A = ℕ} 0 1 = cc in omega arith)
     go false b e f g = absurd (let x : ◌≡◌ {A = ℕ} 0 1 = cc in omega arith)
 
-word-nothing : (d : Date) (z : ℕ) → Stands d z → in_word z ≡ Nothing → Unnumbered d
+word-nothing : (d : Date) (z : ℕ) → Stands d z → in_word z ≡ None → Unnumbered d
 unfolding in_word
 word-nothing d z s h = go (leb before z) (ltb (z - before) (2 ^ 32)) refl refl h
   where
-    go : (a b : Bool) → leb before z ≡ a → ltb (z - before) (2 ^ 32) ≡ b → cond a (cond b (Number (z - before)) Nothing) Nothing ≡ Nothing → Unnumbered d
+    go : (a b : Bool) → leb before z ≡ a → ltb (z - before) (2 ^ 32) ≡ b → cond a (cond b (Some (z - before)) None) None ≡ None → Unnumbered d
     go true true e f g = absurd (let x : ◌≡◌ {A = ℕ} 0 1 = cc in omega arith)
     go true false e f g =
         let l = leb-true before z e in
@@ -140,7 +144,7 @@ date-small n h =
 module _ (y m d : ℕ) where
   -- what the tests tell: no calendar day, and then no number; or one, whose number is that of the days before it
   pub data Told : Type 0 where
-    none : (IsDay (date y m d) → ⊥) → day_by y m d ≡ Nothing → Told
+    none : (IsDay (date y m d) → ⊥) → day_by y m d ≡ None → Told
     one : IsDay (date y m d) → day_by y m d ≡ in_word (days_to y m d) → Told
 
   told : Told
@@ -152,12 +156,12 @@ module _ (y m d : ℕ) where
       go true false c e f g = none (λ i. omega (arith, i.in-month, leb-false d (days_in y m) f)) (rw (e, f))
       go true true false e f g =
           none (λ i. omega (arith, i.some_year, leb-false 1 y g))
-          (rw (e, f) (early-none y m d (omega (arith, leb-false 1 y g)) (leb-true 1 d e) (leb-true d (days_in y m) f)))
+          (rw (e, f) (early_none y m d (omega (arith, leb-false 1 y g)) (leb-true 1 d e) (leb-true d (days_in y m) f)))
       go true true true e f g =
           one (record { some_year = leb-true 1 y g; from_one = leb-true 1 d e; in-month = leb-true d (days_in y m) f }) (rw (e, f))
 
   -- a date that has a number is that day's date
-  pub day-date : (n : ℕ) → day_by y m d ≡ Number n → (n < 2 ^ 32) × (date_of n ≡ date y m d)
+  pub day-date : (n : ℕ) → day_by y m d ≡ Some n → (n < 2 ^ 32) × (date_of n ≡ date y m d)
   day-date n h = go told
     where
       go : Told → (n < 2 ^ 32) × (date_of n ≡ date y m d)
@@ -169,14 +173,14 @@ module _ (y m d : ℕ) where
           (w.0, sym a ∙ rw w.1 b)
 
   -- what has no number is no calendar day or lies outside, and what is none or lies outside has no number
-  pub no-day : day_by y m d ≡ Nothing → Unnumbered (date y m d)
+  pub no-day : day_by y m d ≡ None → Unnumbered (date y m d)
   no-day h = go told
     where
       go : Told → Unnumbered (date y m d)
       go (none i e) = no_date i
       go (one i e) = word-nothing (date y m d) (days_to y m d) (record { is = i; number = refl }) (sym e ∙ h)
 
-  pub not-both : (n : ℕ) → day_by y m d ≡ Number n → Unnumbered (date y m d) → ⊥
+  pub not-both : (n : ℕ) → day_by y m d ≡ Some n → Unnumbered (date y m d) → ⊥
   not-both n h u =
       let f = day-date n h in
       let s : Stands (date y m d) (before + n) = rw f.1 at (date-stands n) in

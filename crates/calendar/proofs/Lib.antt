@@ -3,5 +3,4 @@ mod March
 mod Civil
 mod Next
 pub mod Laws
-mod Ways
 mod Cases

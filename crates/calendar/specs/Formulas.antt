@@ -1,9 +1,7 @@
 -- The same by formulas, which compute at once; `proofs/Laws.antt` proves them of the plain calendar, so that no reader has to believe them.
 -- Years are counted from March here, so that the leap day ends one: day 0 of that count is 1 March of year 0.
-use Rattle.std.specs.Prelude.{ℕ, ◌+◌, ◌-◌, ◌*◌, ◌/◌, ◌%◌, ◌^◌, cond, ltb, leb}
+use Rattle.std.specs.Prelude.{ℕ, ◌+◌, ◌-◌, ◌*◌, ◌/◌, ◌%◌, ◌^◌, cond, ltb, leb, Option, Some, None}
 use Rattle.calendar.specs.declared.Date.{Date}
-use Rattle.calendar.specs.declared.Day.{Day}
-use Rattle.calendar.specs.declared.Day.TheVariants.{Number, Nothing}
 use Rattle.calendar.specs.Plain.{date, days_in}
 
 -- the days from 1 March of year 0 to 1858-11-17
@@ -40,8 +38,8 @@ days_to y m d =
     cond (ltb m 3) (year_start (y - 1) + month_start (m + 9) + (d - 1)) (year_start y + month_start (m - 3) + (d - 1))
 
 -- a day of its month that is not before day 0 and whose number is a word; or none
-unfoldable pub in_word : ℕ → Day
-in_word z = cond (leb before z) (cond (ltb (z - before) (2 ^ 32)) (Number (z - before)) Nothing) Nothing
+unfoldable pub in_word : ℕ → Option ℕ
+in_word z = cond (leb before z) (cond (ltb (z - before) (2 ^ 32)) (Some (z - before)) None) None
 
-unfoldable pub day_by : (year month day : ℕ) → Day
-day_by y m d = cond (leb 1 d) (cond (leb d (days_in y m)) (in_word (days_to y m d)) Nothing) Nothing
+unfoldable pub day_by : (year month day : ℕ) → Option ℕ
+day_by y m d = cond (leb 1 d) (cond (leb d (days_in y m)) (in_word (days_to y m d)) None) None

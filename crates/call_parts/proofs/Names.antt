@@ -1,5 +1,5 @@
 -- The names of an area: those of the path, then zeros up to most_names.
-use Prim.Native.Nat.{ℕ, ◌+◌, ◌-◌, ◌*◌, ◌≤◌, ◌<◌}
+use Prim.Native.Nat.{ℕ, zero, suc, ◌+◌, ◌-◌, ◌*◌, ◌≤◌, ◌<◌}
 use mathlib.Core.Path.{◌≡◌, refl, sym, ap, ◌∙◌}
 use mathlib.Core.List.{List, [], ◌∷◌, ◌++◌, append-nil}
 use native.Mathlib.Omega.{arith}
@@ -8,30 +8,13 @@ use lib.Seq.{sets, get_or-append-add, get_or-take, take_at, length-take-le}
 use borrow.Rule.Slice.PartMut.{put_mid}
 use Rattle.numbers.specs.Limit.{most_names}
 use Rattle.numbers.specs.Limit as limit
+use Rattle.std.proofs.lemmas.List.{drop-replicate}
 use Rattle.signed.proofs.Laws.{ordered}
 use Rattle.model.specs.Whole.{filled}
 use Rattle.buffers.specs.Bytes.{two, spelled, bytes_of, names_of}
-use Rattle.buffers.proofs.BytesLaws.{bytes-length}
+use Rattle.buffers.proofs.BytesLaws.{bytes-length, spelled-append}
 use Rattle.call_parts.specs.Area.{area_of, told, place_word, names_at}
 use Rattle.buffers.proofs.Loops.{stored-none, stored_more, stored-all, tail-back}
-
--- one of the first count names, or 0
-module _ (names : List ℕ) (count i : ℕ) where
-  pub name_in : i < count → get_or names i 0 ≡ get_or (take count names) i 0
-  name_in h = sym (get_or-take count names i 0 h)
-
-  pub name-past : i < count → length names ≤ i → 0 ≡ get_or (take count names) i 0
-  name-past h g = sym (get_or-take count names i 0 h ∙ get_or-eq_default names 0 g)
-
-  pub name-over : count ≤ i → 0 ≡ get_or (take count names) i 0
-  name-over h = sym (get_or-eq_default (take count names) 0 (omega (arith, length-take count names)))
-
-pub ruleset name-ways = (name_in, name-past, name-over)
-
--- no name: zeros
-pub names-zero : (names s s' : List ℕ) (count : ℕ) → count ≡ 0 → length s ≡ 2 * most_names → s' ≡ replicate (length s) 0 → s' ≡ names_of (filled most_names (take count names))
-unfolding filled spelled
-names-zero names s s' count e n z = z ∙ rw (n, e)
 
 -- zeros change no name
 zero-at : (n i : ℕ) → get_or {A = ℕ} (replicate n 0) i 0 ≡ 0
@@ -49,30 +32,34 @@ filled_at n l i = ordered i (length l) (λ h. sym (get_or-append l z 0 i h)) (λ
         let e : length l + (i - length l) ≡ i = omega arith in
         get_or-eq_default l 0 h ∙ sym (ap (λ (j : ℕ). get_or (l ++ z) j 0) (sym e) ∙ get_or-append-add l z (i - length l) 0 ∙ zero-at (n - length l) (i - length l))
 
-filled-length : (n : ℕ) (l : List ℕ) → length l ≤ n → length (filled n l) ≡ n
-unfolding filled
-filled-length n l h = length-append l (replicate (n - length l) 0) ∙ omega (arith, length-replicate {A = ℕ} (n - length l) 0)
+-- zeros are spelled as zeros
+zeros-named : (n : ℕ) → names_of (replicate n 0) ≡ replicate (2 * n) 0
+unfolding spelled
+zeros-named zero = refl
+zeros-named (suc n) = let e : 2 * suc n ≡ suc (suc (2 * n)) = omega arith in rw (e, zeros-named n)
 
--- most_names names stored
-module _ (path s₀ : List ℕ) (small : length path ≤ most_names) (sized : length s₀ ≡ 2 * most_names) where
+-- names stored over zeros
+module _ (names zeros : List ℕ) (small : length names ≤ most_names) (clear : zeros ≡ replicate (2 * most_names) 0) where
   abbrev pub Names : ℕ → List ℕ → Type 0
-  Names i s = s ≡ names_of (take i (filled most_names path)) ++ drop (2 * i) s₀
+  Names i s = s ≡ names_of (take i names) ++ drop (2 * i) zeros
 
-  pub names-none : Names 0 s₀
-  names-none = stored-none two 2 (λ x. refl) (filled most_names path) s₀
+  pub names-none : Names 0 zeros
+  names-none = stored-none two 2 (λ x. refl) names zeros
 
-  pub names_more : (s s' : List ℕ) (i name : ℕ) → i < most_names → name ≡ get_or path i 0 → Names i s → s' ≡ sets s (2 * i) (two name) → Names (i + 1) s'
+  pub names_more : (s s' : List ℕ) (i name : ℕ) → i < length names → name ≡ get_or names i 0 → Names i s → s' ≡ sets s (2 * i) (two name) → Names (i + 1) s'
   names_more s s' i name h e n g =
-      let f = filled-length most_names path small in
-      stored_more two 2 (λ x. refl) (filled most_names path) s₀ s s' i (2 * i) (2 * (i + 1)) (omega arith) (omega arith) (omega arith) (omega arith) n
-      (g ∙ ap (λ (x : ℕ). sets s (2 * i) (two x)) (e ∙ filled_at most_names path i))
+      let z : length zeros ≡ 2 * most_names = rw clear (length-replicate {A = ℕ} (2 * most_names) 0) in
+      stored_more two 2 (λ x. refl) names zeros s s' i (2 * i) (2 * (i + 1)) h (omega arith) (omega arith) (omega arith) n
+      (g ∙ ap (λ (x : ℕ). sets s (2 * i) (two x)) e)
 
-  pub names-all : (s : List ℕ) (i : ℕ) → most_names ≤ i → Names i s → s ≡ names_of (filled most_names path)
-  names-all s i h n =
-      let f = filled-length most_names path small in
-      stored-all two 2 (λ x. refl) (filled most_names path) s₀ s i (2 * i) (omega arith) n
-      ∙ ap (λ (x : List ℕ). names_of (filled most_names path) ++ x) (drop_of_length-le s₀ {i = 2 * i} (omega arith))
-      ∙ append-nil (names_of (filled most_names path))
+  pub names-all : (s : List ℕ) → Names (length names) s → s ≡ names_of (filled most_names names)
+  unfolding filled
+  names-all s n =
+      let e : 2 * most_names - 2 * length names ≡ 2 * (most_names - length names) = omega arith in
+      stored-all two 2 (λ x. refl) names zeros s (length names) (2 * length names) (omega arith) n
+      ∙ ap (λ (x : List ℕ). names_of names ++ x)
+      (rw clear (drop-replicate {X = ℕ} (2 * length names) (2 * most_names) 0 ∙ rw e (sym (zeros-named (most_names - length names)))))
+      ∙ sym (spelled-append two names (replicate (most_names - length names) 0))
 
 -- the six words stored, then the names behind them
 module _ (place mode events text bits count x : ℕ) (names area area' part : List ℕ) (sized : length area ≡ limit.area) (e : x ≡ place_word place)

@@ -9,13 +9,17 @@ use lib.Dec.{ltb}
 use lib.ListN.{length, take, drop, get_or, set, length-take}
 use Rattle.numbers.specs.Refusal as refusal
 use Rattle.numbers.specs.Limit as limit
+use Rattle.numbers.specs.Refused.{number_of}
+use Rattle.numbers.specs.declared.refusal.Refusal.{Refusal}
+use Rattle.numbers.specs.declared.refusal.Refusal.TheVariants as variant
+use Rattle.numbers.specs.declared.refusal.Fault.{Fault}
+use Rattle.std.specs.Prelude.{Ok, Err}
 use Rattle.table.specs.First.{Verdict}
 use Rattle.table.specs.First.Verdict.{right, wrong}
 use Rattle.table.specs.Valid.{verdict}
 use Rattle.table.specs.Words.{type_at, word_at, types_in}
 use Rattle.table.specs.Setting.{Setting, marked, setting, setting_by}
-use Rattle.table.specs.Views.{setting_is}
-use Rattle.table.specs.declared.answers.Setting as code
+use Rattle.table.specs.Views.{Set, set_number, set_place, setting_is}
 use Rattle.table.proofs.Bits.{marked-small}
 use Rattle.table.proofs.Laws.{mark-ok, sized, rows-within}
 use Rattle.model.specs.Whole.{declines}
@@ -105,13 +109,49 @@ module _ (t : List ℕ) (party type mark : ℕ) where
           }
 
 -- `set_in_words`: the words lent are the front of those that are left
-pub front-set : (n : ℕ) (l w : List ℕ) (s : code.Setting) (party type mark : ℕ) → n ≤ length l → length w ≡ length (take n l)
+pub front-set : (n : ℕ) (l w : List ℕ) (s : Set) (party type mark : ℕ) → n ≤ length l → length w ≡ length (take n l)
     → setting_is s w ≡ setting (take n l) party type mark → setting_is s (take n (w ++ drop n l)) ≡ setting (take n l) party type mark
 front-set n l w s party type mark h k e = ap (setting_is s) (take_at w (drop n l) n (omega (arith, length-take n l))) ∙ e
 
+-- no refusal has the number of an acceptance
+refusal-some : (e : Refusal) → number_of e ≡ 0 → ⊥
+refusal-some variant.Table z = absurd (omega arith)
+refusal-some variant.Root z = absurd (omega arith)
+refusal-some variant.PayloadSize z = absurd (omega arith)
+refusal-some variant.ModeByte z = absurd (omega arith)
+refusal-some variant.PastEnd z = absurd (omega arith)
+refusal-some variant.Depth z = absurd (omega arith)
+refusal-some variant.EventRoom z = absurd (omega arith)
+refusal-some variant.TextRoom z = absurd (omega arith)
+refusal-some variant.NotHeld z = absurd (omega arith)
+refusal-some variant.Length z = absurd (omega arith)
+refusal-some variant.ContentShort z = absurd (omega arith)
+refusal-some variant.NotShortest z = absurd (omega arith)
+refusal-some variant.TooLarge z = absurd (omega arith)
+refusal-some variant.NoSuchCode z = absurd (omega arith)
+refusal-some variant.MinusZero z = absurd (omega arith)
+refusal-some variant.NotUtf8 z = absurd (omega arith)
+refusal-some variant.LeftOver z = absurd (omega arith)
+refusal-some variant.NoReading z = absurd (omega arith)
+refusal-some variant.Blank z = absurd (omega arith)
+refusal-some variant.OutsideRow z = absurd (omega arith)
+refusal-some variant.PayloadRoom z = absurd (omega arith)
+refusal-some variant.WriteMode z = absurd (omega arith)
+refusal-some variant.TextBytes z = absurd (omega arith)
+refusal-some variant.AreaSize z = absurd (omega arith)
+refusal-some variant.Control z = absurd (omega arith)
+refusal-some variant.Party z = absurd (omega arith)
+refusal-some variant.ReservedBits z = absurd (omega arith)
+refusal-some variant.NoSchemas z = absurd (omega arith)
+refusal-some variant.ManySchemas z = absurd (omega arith)
+refusal-some variant.BlockCheck z = absurd (omega arith)
+refusal-some variant.BlockTurn z = absurd (omega arith)
+refusal-some variant.BlockLayout z = absurd (omega arith)
+refusal-some variant.AdvancedFlag z = absurd (omega arith)
+
 -- Over the words lent: `left` is what the setting made of them.
 module _ (t room words left : List ℕ) (k : ℕ) (h : Lends k (length t) (length room)) (l : words ≡ take k (words_of t) ++ drop k room)
-    (party type mark : ℕ) (s : code.Setting) (e : setting_is s (take k left) ≡ setting (take k words) party type mark) where
+    (party type mark : ℕ) (s : Set) (e : setting_is s (take k left) ≡ setting (take k words) party type mark) where
   abbrev m : ℕ
   m = length t / 4
 
@@ -121,7 +161,7 @@ module _ (t room words left : List ℕ) (k : ℕ) (h : Lends k (length t) (lengt
   -- a whole table, or too few of its words to be one
   data Lent : Type 0 where
     all : table_verdict t ≡ verdict (words_of t) → setting_is s (take k left) ≡ meant → k ≡ m → Lent
-    few : (i : ℕ) → table_verdict t ≡ wrong (place_in_table k m i) → s.number ≡ refusal.table → s.place ≡ i → Lent
+    few : (i : ℕ) → table_verdict t ≡ wrong (place_in_table k m i) → set_number s ≡ refusal.table → set_place s ≡ i → Lent
 
   lent : Lent
   unfolding setting setting_by
@@ -133,34 +173,39 @@ module _ (t room words left : List ℕ) (k : ℕ) (h : Lends k (length t) (lengt
           let same : setting_is s (take k left) ≡ setting (take k (words_of t)) party type mark = e ∙ ap (λ (x : List ℕ). setting x party type mark) f in
           few i w (ap (λ (x : Setting). x.number) same ∙ rw v) (ap (λ (x : Setting). x.place) same ∙ rw v)
 
-  number_is : s.number ≡ (set_outcome t party type).number
+  number_is : set_number s ≡ (set_outcome t party type).number
   unfolding set_outcome set_by
   number_is = go lent
     where
-      go : Lent → s.number ≡ (set_outcome t party type).number
+      go : Lent → set_number s ≡ (set_outcome t party type).number
       go (all v same n) = ap (λ (x : Setting). x.number) same ∙ (agrees t party type mark v).number
       go (few i v n p) = n ∙ sym (rw v)
 
-  place_is : place_in_table k m s.place ≡ (set_outcome t party type).place
+  place_is : place_in_table k m (set_place s) ≡ (set_outcome t party type).place
   unfolding set_outcome set_by
   place_is = go lent
     where
-      go : Lent → place_in_table k m s.place ≡ (set_outcome t party type).place
+      go : Lent → place_in_table k m (set_place s) ≡ (set_outcome t party type).place
       go (all v same n) =
-          ap (λ (j : ℕ). place_in_table k j s.place) (sym n) ∙ in-table-same k s.place ∙ ap (λ (x : Setting). x.place) same
+          ap (λ (j : ℕ). place_in_table k j (set_place s)) (sym n) ∙ in-table-same k (set_place s) ∙ ap (λ (x : Setting). x.place) same
           ∙ (agrees t party type mark v).place
       go (few i v n p) = ap (place_in_table k m) p ∙ sym (rw v)
 
-  pub set-refused : (place : ℕ) → (s.number ≡ 0 → ⊥) → place ≡ place_in_table k m s.place
-      → SetByBytes t party type mark (record { number = s.number; place = place }) t
-  set-refused place n p = record {
-    number = number_is;
-    place = p ∙ place_is;
-    table = refused-left t party type mark _ (λ z. n (number_is ∙ z));
-  }
+  pub set-refused : (f : Fault ℕ) → s ≡ Err f → (place : ℕ) → place ≡ place_in_table k m f.at
+      → SetByBytes t party type mark (Err record { why = f.why; at = place }) t
+  set-refused f r place p =
+      let n : number_of f.why ≡ (set_outcome t party type).number = sym (ap set_number r) ∙ number_is in
+      record {
+        number = n;
+        place = p ∙ ap (place_in_table k m) (sym (ap set_place r)) ∙ place_is;
+        table = refused-left t party type mark _ (λ z. refusal-some f.why (n ∙ z));
+      }
 
   -- where the setting is accepted
-  module _ (n : s.number ≡ 0) where
+  module _ (r : s ≡ Ok tt) where
+    n : set_number s ≡ 0
+    n = ap set_number r
+
     record Found : Type 0 where
       pub same : setting_is s (take k left) ≡ meant
       pub accepted : Accepts t party type mark meant
@@ -190,7 +235,7 @@ module _ (t room words left : List ℕ) (k : ℕ) (h : Lends k (length t) (lengt
         ∙ get_or-set_same (words_of t) (type_at type) _ 0 (omega (arith, a.within, words-length t))
         ∙ ap (marked party mark) (sym low.0)
 
-    pub set-accepted : (t' : List ℕ) → t' ≡ mark_stored t left type → SetByBytes t party type mark s t'
+    pub set-accepted : (t' : List ℕ) → t' ≡ mark_stored t left type → SetByBytes t party type mark (Ok tt) t'
     unfolding table_left
     set-accepted t' same =
         let f = found in
@@ -201,12 +246,10 @@ module _ (t room words left : List ℕ) (k : ℕ) (h : Lends k (length t) (lengt
         (let b = a.small in let c = ap (marked party mark) low.0 in omega arith) in
         let zero_number : (set_outcome t party type).number ≡ 0 = sym number_is ∙ n in
         record {
-          number = number_is;
-          place = ap (λ (x : Setting). x.place) f.same ∙ (agrees t party type mark f.verdict-is).place;
+          number = sym zero_number;
+          place = sym f.accepted.place ∙ (agrees t party type mark f.verdict-is).place;
           table = same ∙ ap (λ (x : ℕ). set t (4 * type_at type + 3) (x % 256)) w ∙ ap (set t (4 * type_at type + 3)) small ∙ sym (rw zero_number);
         }
-
-pub ruleset setting-ways = (set-refused, set_holds, set-accepted)
 
 -- a setting tells number and place, and nothing else
 pub tells : (t : List ℕ) (party type : ℕ) → set_outcome t party type ≡ declines (set_outcome t party type).number (set_outcome t party type).place []

@@ -49,7 +49,7 @@ module _ (l : List ℕ) (e : first 0 (header_words l) ≡ right) where
 -- the header's verdict comes first
 header-first : (l : List ℕ) (i : ℕ) → first 0 (header_words l) ≡ wrong i → verdict l ≡ wrong i
 unfolding verdict verdict_from
-header-first l i e = then-wrong _ _ i e ∙ e
+header-first l i e = then-wrong _ _ i e
 
 -- and names a word that is given
 given-false : (l : List ℕ) (i least most : ℕ) → given l i least most ≡ false → i < length l

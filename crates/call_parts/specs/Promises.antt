@@ -5,7 +5,7 @@ use denote.Triple.Both.{Both}
 use Rattle.numbers.specs.Limit as limit
 use Rattle.model.specs.Whole.{Outcome}
 use Rattle.table.specs.Words.{type_at, word_at}
-use Rattle.table.specs.declared.answers.Setting as setting
+use Rattle.table.specs.Views.{Set, set_number, set_place}
 use Rattle.call_parts.specs.Area.{area_of}
 use Rattle.call_parts.specs.Calls.{set_outcome, table_left}
 
@@ -49,7 +49,7 @@ abbrev pub mark_stored : (t words : List ℕ) (type : ℕ) → List ℕ
 mark_stored t words type = set t (4 * type_at type + 3) (word_at words (type_at type) % 256)
 
 -- a mark set: the table before, party, type and mark; the answer; the table after
-pub record SetByBytes (t : List ℕ) (party type mark : ℕ) (r : setting.Setting) (t' : List ℕ) : Type 0 where
-  pub number : r.number ≡ (set_outcome t party type).number
-  pub place : r.place ≡ (set_outcome t party type).place
+pub record SetByBytes (t : List ℕ) (party type mark : ℕ) (r : Set) (t' : List ℕ) : Type 0 where
+  pub number : set_number r ≡ (set_outcome t party type).number
+  pub place : set_place r ≡ (set_outcome t party type).place
   pub table : t' ≡ table_left t party type mark (set_outcome t party type).number

@@ -1,5 +1,5 @@
 // The area in which a host finds an answer.
-ghost use Rattle.std.specs.Prelude.{◌≡◌, [], ◌*◌, ◌≤◌, length, get_or, take};
+ghost use Rattle.std.specs.Prelude.{◌≡◌, [], ◌*◌, ◌≤◌, length, take};
 ghost use Rattle.numbers.specs.Limit as limit;
 ghost use Rattle.numbers.specs.Limit.{most_names};
 ghost use Rattle.model.specs.Whole.{filled};
@@ -9,8 +9,6 @@ ghost use Rattle.call_parts.specs.Area as meaning;
 use buffers::{clear, put_half, store};
 use numbers::limit;
 
-const MOST_PLACE: usize = limit::MOST_WORD as usize;
-
 // The bytes of the six words that stand before the names.
 const HEAD: usize = limit::AREA - 2 * limit::MOST_NAMES;
 
@@ -18,49 +16,19 @@ const HEAD: usize = limit::AREA - 2 * limit::MOST_NAMES;
 fn place_word(place: usize) -> u32
     ensures { result ≡ meaning.place_word place }
 {
-    if place < MOST_PLACE {
-        place as u32
-    } else {
-        limit::MOST_WORD
-    }
+    place.min(limit::MOST_WORD as usize) as u32
 }
 
-// The name at i of the first count, else 0.
-fn name_at(names: &[u16], count: usize, i: usize) -> u16
-    ensures { result ≡ get_or (take count names.now) i 0 }
-{
-    if i < count {
-        if i < names.len() {
-            return names[i];
-        }
-    }
-    0
-}
-
-// Stores the first count names, and zeros for the rest of MOST_NAMES, name by name.
-fn put_each(s: &mut [u8], names: &[u16], count: usize)
+// Stores the names, and zeros for the rest of MOST_NAMES.
+fn put_names(s: &mut [u8], names: &[u16])
     requires room { length s.old ≡ 2 * most_names }
-    requires most { count ≤ most_names }
-    ensures { s.new ≡ names_of (filled most_names (take count names.now)) }
+    requires most { length names.now ≤ most_names }
+    ensures { s.new ≡ names_of (filled most_names names.now) }
 {
-    let mut i = 0;
-    while i < limit::MOST_NAMES {
-        put_half(s, 2 * i, name_at(names, count, i));
-        i += 1;
+    clear(s);
+    for (i, &name) in names.iter().enumerate() {
+        put_half(s, 2 * i, name);
     }
-}
-
-// Stores the first count names and clears the rest. Most answers have none: those bytes are cleared in one pass.
-fn put_names(s: &mut [u8], names: &[u16], count: usize)
-    requires room { length s.old ≡ 2 * most_names }
-    requires most { count ≤ most_names }
-    ensures { s.new ≡ names_of (filled most_names (take count names.now)) }
-{
-    if count == 0 {
-        clear(s);
-        return;
-    }
-    put_each(s, names, count);
 }
 
 // The whole area: six words, then the names.
@@ -82,7 +50,7 @@ pub fn tell(
 {
     let head = [place_word(place), mode, events, text, bits, count as u32];
     store(&head, area);
-    put_names(&mut area[HEAD..limit::AREA], names, count);
+    put_names(&mut area[HEAD..limit::AREA], &names[..count]);
 }
 
 // The area of an answer that is a place alone.
@@ -90,6 +58,5 @@ pub fn tell_place(area: &mut [u8], place: usize)
     requires { length area.old ≡ limit.area }
     ensures { area.new ≡ meaning.area_of (meaning.told place 0 0 0 0 []) }
 {
-    let none = [0u16; limit::MOST_NAMES];
-    tell(area, place, 0, 0, 0, 0, &none, 0);
+    tell(area, place, 0, 0, 0, 0, &[], 0);
 }

@@ -23,9 +23,6 @@ pub const SOME_EVENT_WORDS: usize = 4 * 512;
 
 pub const MANY_EVENT_WORDS: usize = 4 * 1024;
 
-// The rungs above few are numbered down to the last, 0, which has room for all.
-pub const FIRST_RUNG: u32 = 2;
-
 // The bytes of a payload that is least, and of one that is small.
 pub const LEAST_PAYLOAD: usize = 4;
 

@@ -8,50 +8,46 @@ use lib.ListN.{length}
 use Rattle.numbers.specs.Mode.{always}
 use Rattle.table.specs.Valid.{verdict}
 use Rattle.table.specs.Views.{verdict_is}
-use Rattle.table.specs.declared.answers.Verdict as checked
-use Rattle.table.specs.declared.answers.Verdict.TheVariants.{Right, Wrong}
-use Rattle.model.specs.Whole.{reading, writing}
+use Rattle.std.specs.Prelude.{Result, Ok, Err}
+use Rattle.numbers.proofs.Refusals.{number-one, number-some}
+use Rattle.table.specs.declared.answers.Flaw.{Flaw}
+use Rattle.model.specs.Whole.{Outcome, reading, writing}
 use Rattle.writer_parts.specs.Walk.{events_in}
 use Rattle.reader.specs.Answers as reads
-use Rattle.reader.specs.declared.Answer as replied
 use Rattle.writer.specs.Answers as writes
-use Rattle.writer.specs.declared.Answer as wrote
 use Rattle.bit_reader.specs.declared.codes.Coding.{Coding}
 use Rattle.call_parts.specs.Calls.{Back, back, check_table, read_call, write_call, set_call}
 use Rattle.bim.specs.Bits.{bits_call}
 use Rattle.demands.specs.Determined.{SameReply, SameWritten, SameBack}
 
 -- table::check
-pub check-determined : (l : List ℕ) (u v : checked.Verdict) → verdict_is u ≡ verdict l → verdict_is v ≡ verdict l → u ≡ v
+pub check-determined : (l : List ℕ) (u v : Result Unit Flaw) → verdict_is u ≡ verdict l → verdict_is v ≡ verdict l → u ≡ v
 check-determined l u v x y = go u v (x ∙ sym y)
   where
-    go : (u v : checked.Verdict) → verdict_is u ≡ verdict_is v → u ≡ v
-    go Right Right e = refl
-    go Right (Wrong j) e = absurd (let z : ◌≡◌ {A = ℕ} 0 1 = cc in omega arith)
-    go (Wrong i) Right e = absurd (let z : ◌≡◌ {A = ℕ} 0 1 = cc in omega arith)
-    go (Wrong i) (Wrong j) e = ap Wrong cc
+    go : (u v : Result Unit Flaw) → verdict_is u ≡ verdict_is v → u ≡ v
+    go (Ok x) (Ok y) e = refl
+    go (Ok x) (Err j) e = absurd (let z : ◌≡◌ {A = ℕ} 0 1 = cc in omega arith)
+    go (Err i) (Ok y) e = absurd (let z : ◌≡◌ {A = ℕ} 0 1 = cc in omega arith)
+    go (Err i) (Err j) e = let z : i.0 ≡ j.0 = cc in λ k. Err (record { 0 = z k })
 
-pub read-determined : (l : List ℕ) (party name type : ℕ) (s : List ℕ) (words bytes : ℕ) (r r' : replied.Answer) (E E' T T' : List ℕ)
+pub read-determined : (l : List ℕ) (party name type : ℕ) (s : List ℕ) (words bytes : ℕ) (r r' : reads.Answer) (E E' T T' : List ℕ)
     → reads.Replies (reading l party name type s words bytes) words bytes r E T → reads.Replies (reading l party name type s words bytes) words bytes r' E' T' → SameReply r r' E E' T T'
 read-determined l party name type s words bytes r r' E E' T T' x y =
     record { answer = x.answer ∙ sym y.answer; events = x.events_left_lem ∙ sym y.events_left_lem; texts = x.texts_left_lem ∙ sym y.texts_left_lem }
 
-pub write-determined : (l : List ℕ) (party name type mode : ℕ) (L X : List ℕ) (room : ℕ) (r r' : wrote.Answer) (P P' : List ℕ)
+pub write-determined : (l : List ℕ) (party name type mode : ℕ) (L X : List ℕ) (room : ℕ) (r r' : writes.Answer) (P P' : List ℕ)
     → writes.Writes (writing l party name type mode L X room) mode (events_in L) (length X) room r P → writes.Writes (writing l party name type mode L X room) mode (events_in L) (length X) room r' P'
     → SameWritten r r' P P'
-write-determined l party name type mode L X room r r' P P' x y =
-    let e = x.answer ∙ sym y.answer in
-    record {
-      answer = λ i. record {
-        number = (e i).number;
-        place = (e i).place;
-        mode = (e i).mode;
-        events = (e i).events;
-        text = record { 0 = (e i).text };
-        bits = record { 0 = (e i).bits };
-      };
-      payload = x.left ∙ sym y.left;
-    }
+write-determined l party name type mode L X room r r' P P' x y = record { answer = go r r' (x.answer ∙ sym y.answer); payload = x.left ∙ sym y.left }
+  where
+    go : (r r' : writes.Answer) → writes.answer_is r ≡ writes.answer_is r' → r ≡ r'
+    go (Ok w) (Ok w') e =
+        λ i. Ok (record { mode = (e i).mode; events = (e i).events; text = record { 0 = (e i).text }; bits = record { 0 = (e i).bits } })
+    go (Ok w) (Err f) e = absurd (number-some f.why (sym (ap (λ (o : Outcome). o.number) e)))
+    go (Err f) (Ok w) e = absurd (number-some f.why (ap (λ (o : Outcome). o.number) e))
+    go (Err f) (Err f') e =
+        let n = number-one {a = f.why} {b = f'.why} (ap (λ (o : Outcome). o.number) e) in
+        λ i. Err (record { why = n i; at = (e i).place })
 
 same_back : (o : Back) (n n' : ℕ) (A A' : List ℕ) (B B' : List (List ℕ)) → back n A B ≡ o → back n' A' B' ≡ o → SameBack n n' A A' B B'
 same_back o n n' A A' B B' x y =

@@ -1,17 +1,16 @@
 -- What two outcomes of a call share that its promise allows.
 use Rattle.std.specs.Prelude.{ℕ, ◌≡◌, List}
 use Rattle.reader.specs.Answers as reads
-use Rattle.reader.specs.declared.Answer as replied
-use Rattle.writer.specs.declared.Answer as wrote
+use Rattle.writer.specs.Answers as writes
 
 -- reader::read
-pub record SameReply (r r' : replied.Answer) (E E' T T' : List ℕ) : Type 0 where
+pub record SameReply (r r' : reads.Answer) (E E' T T' : List ℕ) : Type 0 where
   pub answer : reads.answer_is r ≡ reads.answer_is r'
   pub events : E ≡ E'
   pub texts : T ≡ T'
 
 -- writer::write
-pub record SameWritten (r r' : wrote.Answer) (P P' : List ℕ) : Type 0 where
+pub record SameWritten (r r' : writes.Answer) (P P' : List ℕ) : Type 0 where
   pub answer : r ≡ r'
   pub payload : P ≡ P'
 

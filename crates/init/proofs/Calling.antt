@@ -10,11 +10,10 @@ use Rattle.numbers.specs.Refusal.{no_reading}
 use Rattle.numbers.specs.Limit.{init_words}
 use Rattle.buffers.specs.Bytes.{bytes_of, words_of, stored}
 use Rattle.buffers.proofs.BytesLaws.{words-length}
-use Rattle.init.specs.declared.Answer.{Answer}
 use Rattle.init.specs.Read.{init_read}
 use Rattle.init.specs.Write.{init_write}
 use Rattle.init.specs.Write.Writing.{refused}
-use Rattle.init.specs.Back.{back_is, read_back}
+use Rattle.init.specs.Back.{Answer, number_in, place_in, count_in, back_is, read_back}
 use Rattle.init.specs.Made.{Made, made_is, write_back}
 use Rattle.init.specs.Calls.{back, read_told, read_call, area_of, write_told, write_bytes, write_call}
 
@@ -33,13 +32,13 @@ pub placed-fits : (words old : List ℕ) (p : ℕ) → length words ≡ init_wor
 placed-fits words old p n l = omega (arith, length-set words 0 p)
 
 -- the words read, of which the first becomes the place, stored over an init of the right size
-pub read_told_lem : (s : List ℕ) (room p : ℕ) (a : Answer) (words old b c : List ℕ) → length old ≡ 128 → length words ≡ init_words
-    → back_is a words c ≡ read_back room (init_read s (room / 4)) → p ≡ min a.place 4294967295 → b ≡ stored (set words 0 p) old
-    → back a.number b (c ∷ []) ≡ read_call s room (length old)
+pub read_told_lem : (s : List ℕ) (room p r : ℕ) (a : Answer) (words old b c : List ℕ) → length old ≡ 128 → length words ≡ init_words
+    → back_is a words c ≡ read_back room (init_read s (room / 4)) → r ≡ number_in a → p ≡ min (place_in a) 4294967295 → b ≡ stored (set words 0 p) old
+    → back r b (c ∷ []) ≡ read_call s room (length old)
 unfolding read_call read_told
-read_told_lem s room p a words old b c l n e h g =
+read_told_lem s room p r a words old b c l n e k h g =
     let f : b ≡ bytes_of (set words 0 p) = stored-all (set words 0 p) old b (omega (arith, length-set words 0 p)) g in
-    simp (eq-eqb (length old) 128 l) (rw (f, h) (ap read_told e))
+    simp (eq-eqb (length old) 128 l) (rw (k, f, h) (ap read_told e))
 
 -- THE WRITER
 pub other-init : (init codecs given m : List ℕ) (b : Made) → (length init ≡ 128 → ⊥) → b ≡ write_back (length m) (refused no_reading 0)
@@ -62,18 +61,15 @@ by-words init codecs given m room words b l n e h =
 
 pub ruleset byte-ways = (other-init, by-words)
 
--- place and count fill the area
-pub told : (place count p n : ℕ) (area area' : List ℕ) → area' ≡ stored (p ∷ n ∷ []) area → length area ≡ 8 → p ≡ min place 4294967295
-    → n ≡ min count 4294967295 → area' ≡ area_of place count
-unfolding area_of
-told place count p n area area' g l hp hn = stored-all (p ∷ n ∷ []) area area' l g ∙ ap bytes_of (rw (hp, hn))
-
 module _ (init codecs given : List ℕ) (room area : ℕ) where
   pub write-other : (b c : List ℕ) → (area ≡ 8 → ⊥) → b ≡ replicate area 0 → c ≡ replicate room 0 → back 24 b (c ∷ []) ≡ write_call init codecs given room area
   unfolding write_call
   write-other b c n e g = simp (ne_eqb area 8 n) (rw (e, g))
 
-  pub write-told : (r : ℕ) (a : Answer) (b c : List ℕ) → area ≡ 8 → made_is a c ≡ write_back room (write_bytes init codecs given room) → r ≡ a.number
-      → b ≡ area_of a.place a.count → back r b (c ∷ []) ≡ write_call init codecs given room area
-  unfolding write_call write_told
-  write-told r a b c n e f g = simp (eq-eqb area 8 n) (rw (f, g) (ap write_told e))
+  -- place and count fill the area
+  pub write-told : (r p n : ℕ) (a : Answer) (b c old : List ℕ) → length old ≡ area → area ≡ 8 → made_is a c ≡ write_back room (write_bytes init codecs given room) → r ≡ number_in a
+      → p ≡ min (place_in a) 4294967295 → n ≡ min (count_in a) 4294967295 → b ≡ stored (p ∷ n ∷ []) old → back r b (c ∷ []) ≡ write_call init codecs given room area
+  unfolding write_call write_told area_of
+  write-told r p n a b c old l e f g hp hn h =
+      let k : b ≡ area_of (place_in a) (count_in a) = stored-all (p ∷ n ∷ []) old b (omega arith) h ∙ ap bytes_of (rw (hp, hn)) in
+      simp (eq-eqb area 8 e) (rw (g, k) (ap write_told f))

@@ -1,6 +1,5 @@
 pub mod PhaseWays
 pub mod ItemWays
-pub mod KeepWays
 pub mod Found
 pub mod Codes
 pub mod Spans

@@ -2,11 +2,10 @@
 use Prim.Native.Nat.{ℕ, zero, suc, ◌+◌, ◌-◌, ◌*◌, ◌/◌, ◌%◌, ◌≤◌, ◌<◌}
 use mathlib.Core.Path.{◌≡◌, refl, sym, ap, ◌∙◌}
 use mathlib.Core.Bool.{Bool, true, false}
+use mathlib.Core.Logic.{◌⊎◌, inl, inr}
 use native.Mathlib.Omega.{arith}
 use borrow.Author.Tests.{eq-eqb, ne_eqb}
 use lib.Dec.{eqb}
-use mir.Val.{Fits}
-use mir.Syntax.{w64}
 use Rattle.numbers.specs.Limit.{init_words}
 use Rattle.init.specs.declared.Item.TheVariants as item
 use Rattle.init.specs.declared.Slot.TheVariants as slot
@@ -90,7 +89,7 @@ module _ (l : Left) (room : l.slot + 5 * l.schemas ≤ init_words) where
   unfolding rest_of plan_of goes ends item_of slot_of reach rank formats
   settle-none z y x e = record { comes = sym (formats-left z y x ∙ ap formats e); lies = omega arith; falls = omega arith }
 
-pub ruleset settle-ways = (settle-type, settle-codec, settle-schema, settle-formats, settle-none)
+pub ruleset settle_ways = (settle-type, settle-codec, settle-schema, settle-formats, settle-none)
 
 -- so many schemas, codecs, types
 pub begin-way : (n : ℕ) (f : Bool) (r : Phase) → 12 + 5 * n ≤ init_words → Follows (rest (left 12 n 0 0 f)) init_words (3 * n + 3) r → Follows (later 12 n f) init_words 26 r
@@ -107,7 +106,7 @@ pub types-way : (l : Left) (n : ℕ) (r : Phase) → Follows (rest (left l.slot 
 unfolding rest rest_of
 types-way l n r w = record { comes = w.comes; lies = w.lies; falls = w.falls }
 
-pub ruleset list-ways = (begin-way, codecs-way, types-way)
+pub ruleset list_ways = (begin-way, codecs-way, types-way)
 
 -- behind the unit byte
 pub unit-plain : (v : ℕ) → v / 16 % 2 ≡ 1 → Follows (rest_of UnitByte v) init_words 29 NoFlags
@@ -118,7 +117,7 @@ pub unit-flags : (v : ℕ) → (v / 16 % 2 ≡ 1 → ⊥) → Follows (rest_of U
 unfolding rest_of plan_of goes ends item_of slot_of reach rank features
 unit-flags v e = record { comes = rw (ne_eqb _ _ e); lies = omega arith; falls = omega arith }
 
-pub ruleset unit-ways = (unit-plain, unit-flags)
+pub ruleset unit_ways = (unit-plain, unit-flags)
 
 module _ (ph : Phase) (v : ℕ) where
   abbrev behind : Phase → Type 0
@@ -132,21 +131,15 @@ module _ (ph : Phase) (v : ℕ) where
   unfolding rest_of plan_of goes ends item_of slot_of reach rank spare later features
   next-no-flags e = rw e (record { comes = refl; lies = omega arith; falls = omega arith })
 
-  pub next-formats : ph ≡ Formats → behind Description
+  pub next-formats : (ph ≡ Formats) ⊎ (ph ≡ NoFormats) → behind Description
   unfolding rest_of plan_of goes ends item_of slot_of reach rank spare later features
-  next-formats e = rw e (record { comes = refl; lies = omega arith; falls = omega arith })
+  next-formats (inl e) = rw e (record { comes = refl; lies = omega arith; falls = omega arith })
+  next-formats (inr e) = rw e (record { comes = refl; lies = omega arith; falls = omega arith })
 
-  pub next-no-formats : ph ≡ NoFormats → behind Description
+  pub next-end : (ph ≡ Description) ⊎ (ph ≡ End) → behind End
   unfolding rest_of plan_of goes ends item_of slot_of reach rank spare later features
-  next-no-formats e = rw e (record { comes = refl; lies = omega arith; falls = omega arith })
-
-  pub next-description : ph ≡ Description → behind End
-  unfolding rest_of plan_of goes ends item_of slot_of reach rank spare later features
-  next-description e = rw e (record { comes = refl; lies = omega arith; falls = omega arith })
-
-  pub next-end : ph ≡ End → behind End
-  unfolding rest_of plan_of goes ends item_of slot_of reach rank spare later features
-  next-end e = rw e (record { comes = refl; lies = omega arith; falls = omega arith })
+  next-end (inl e) = rw e (record { comes = refl; lies = omega arith; falls = omega arith })
+  next-end (inr e) = rw e (record { comes = refl; lies = omega arith; falls = omega arith })
 
   pub next-length : ph ≡ Length → behind (Flags v)
   unfolding rest_of plan_of goes ends item_of slot_of reach rank spare later features
@@ -204,117 +197,4 @@ module _ (ph : Phase) (v : ℕ) where
   unfolding grown reach
   fits_one l e h = rw e at h
 
-pub ruleset next-ways = (next-profile, next-no-flags, next-formats, next-no-formats, next-description, next-end, next-length, next-flags, next-uri, next-hint, next-codec, next-unit, next-schemas, next-codecs, next-types, next_one, fits-schemas, fits-codecs, fits-types, fits_one)
-
--- the item of a phase that holds something, and its slot
-module _ (ph : Phase) where
-  pub item-flags : (n : ℕ) → ph ≡ Flags n → item.Flags n ≡ item_of ph
-  unfolding item_of
-  item-flags n e = rw e
-
-  pub slot-flags : (n : ℕ) → ph ≡ Flags n → slot.Init 4 ≡ slot_of ph
-  unfolding slot_of
-  slot-flags n e = rw e
-
-  pub item-schemas : (f : Bool) → ph ≡ Schemas f → item.Schemas ≡ item_of ph
-  unfolding item_of
-  item-schemas f e = rw e
-
-  pub slot-schemas : (f : Bool) → ph ≡ Schemas f → slot.Init 6 ≡ slot_of ph
-  unfolding slot_of
-  slot-schemas f e = rw e
-
-  pub item-uri : (l : Left) → ph ≡ Uri l → item.Uri ≡ item_of ph
-  unfolding item_of
-  item-uri l e = rw e
-
-  pub slot-uri : (l : Left) → ph ≡ Uri l → slot.Init l.slot ≡ slot_of ph
-  unfolding slot_of
-  slot-uri l e = rw e
-
-  pub item-hint : (l : Left) → ph ≡ Hint l → item.Text ≡ item_of ph
-  unfolding item_of
-  item-hint l e = rw e
-
-  pub slot-hint : (l : Left) → ph ≡ Hint l → slot.Init (l.slot + 2) ≡ slot_of ph
-  unfolding slot_of
-  slot-hint l e = rw e
-
-  pub item-codecs : (l : Left) → ph ≡ Codecs l → item.Number ≡ item_of ph
-  unfolding item_of
-  item-codecs l e = rw e
-
-  pub slot-codecs : (l : Left) → ph ≡ Codecs l → slot.Init (l.slot + 4) ≡ slot_of ph
-  unfolding slot_of
-  slot-codecs l e = rw e
-
-  pub item-codec : (l : Left) → ph ≡ Codec l → item.Text ≡ item_of ph
-  unfolding item_of
-  item-codec l e = rw e
-
-  pub slot-codec : (l : Left) → ph ≡ Codec l → slot.Codecs ≡ slot_of ph
-  unfolding slot_of
-  slot-codec l e = rw e
-
-  pub item-types : (l : Left) → ph ≡ Types l → item.Number ≡ item_of ph
-  unfolding item_of
-  item-types l e = rw e
-
-  pub slot-types : (l : Left) → ph ≡ Types l → slot.Codecs ≡ slot_of ph
-  unfolding slot_of
-  slot-types l e = rw e
-
-  pub item-one : (l : Left) → ph ≡ OneType l → item.Number ≡ item_of ph
-  unfolding item_of
-  item-one l e = rw e
-
-  pub slot-one : (l : Left) → ph ≡ OneType l → slot.Codecs ≡ slot_of ph
-  unfolding slot_of
-  slot-one l e = rw e
-
-  -- the words of a schema lie in init
-  pub hint-lies : (l : Left) → ph ≡ Hint l → reach ph ≤ init_words → Fits w64 (l.slot + 2)
-  unfolding reach
-  hint-lies l e h = let g : reach (Hint l) ≤ init_words = rw e at h in record { fits = omega arith }
-
-  pub codecs-lie : (l : Left) → ph ≡ Codecs l → reach ph ≤ init_words → Fits w64 (l.slot + 4)
-  unfolding reach
-  codecs-lie l e h = let g : reach (Codecs l) ≤ init_words = rw e at h in record { fits = omega arith }
-
-pub ruleset row-ways = (hint-lies, codecs-lie, item-flags, slot-flags, item-schemas, slot-schemas, item-uri, slot-uri, item-hint, slot-hint, item-codecs, slot-codecs, item-codec, slot-codec, item-types, slot-types, item-one, slot-one)
-
--- and that it is not the end
-module _ (ph : Phase) where
-  pub goes-flags : (n : ℕ) → ph ≡ Flags n → false ≡ ends ph
-  unfolding ends
-  goes-flags n e = rw e
-
-  pub goes-schemas : (f : Bool) → ph ≡ Schemas f → false ≡ ends ph
-  unfolding ends
-  goes-schemas f e = rw e
-
-  pub goes-uri : (l : Left) → ph ≡ Uri l → false ≡ ends ph
-  unfolding ends
-  goes-uri l e = rw e
-
-  pub goes-hint : (l : Left) → ph ≡ Hint l → false ≡ ends ph
-  unfolding ends
-  goes-hint l e = rw e
-
-  pub goes-codecs : (l : Left) → ph ≡ Codecs l → false ≡ ends ph
-  unfolding ends
-  goes-codecs l e = rw e
-
-  pub goes-codec : (l : Left) → ph ≡ Codec l → false ≡ ends ph
-  unfolding ends
-  goes-codec l e = rw e
-
-  pub goes-types : (l : Left) → ph ≡ Types l → false ≡ ends ph
-  unfolding ends
-  goes-types l e = rw e
-
-  pub goes_one : (l : Left) → ph ≡ OneType l → false ≡ ends ph
-  unfolding ends
-  goes_one l e = rw e
-
-pub ruleset end-ways = (goes-flags, goes-schemas, goes-uri, goes-hint, goes-codecs, goes-codec, goes-types, goes_one)
+pub ruleset next_ways = (next-profile, next-no-flags, next-formats, next-end, next-length, next-flags, next-uri, next-hint, next-codec, next-unit, next-schemas, next-codecs, next-types, next_one, fits-schemas, fits-codecs, fits-types, fits_one)

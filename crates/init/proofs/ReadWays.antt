@@ -10,7 +10,10 @@ use lib.ListN.{length, drop, length-append, length-drop}
 use lib.Seq.{sets, sets-eq, take_at, drop_at, drop-drop}
 use Rattle.buffers.specs.Bytes.{four, bytes_of, spelled}
 use Rattle.buffers.proofs.BytesLaws.{bytes-length, spelled-append}
+use Rattle.std.specs.Prelude.{Result, Ok, Err}
 use Rattle.numbers.specs.Refusal.{event_room}
+use Rattle.numbers.specs.declared.refusal.Refusal.{Refusal}
+use Rattle.numbers.specs.Refused.{number_of}
 use Rattle.numbers.specs.Limit.{init_words, most_message}
 use Rattle.wire.specs.Res.{got, fault}
 use Rattle.init.specs.declared.Item.{Item}
@@ -18,30 +21,33 @@ use Rattle.init.specs.declared.Slot.{Slot}
 use Rattle.init.specs.declared.Slot.TheVariants as slot
 use Rattle.init.specs.declared.Phase.{Phase}
 use Rattle.init.specs.declared.items.Found.{Found}
-use Rattle.init.specs.declared.items.Found.TheVariants as found
 use Rattle.init.specs.declared.items.Words.{Words}
-use Rattle.init.specs.declared.reading.Kept.{Kept}
-use Rattle.init.specs.declared.reading.Kept.TheVariants as kept
 use Rattle.init.specs.declared.reading.State.{State}
-use Rattle.init.specs.declared.reading.Turn.{Turn}
-use Rattle.init.specs.declared.reading.Turn.TheVariants as turn
-use Rattle.init.specs.Items.{item_at, two, one, other, words, head_of}
+use Rattle.init.specs.Items.{item_at, two, one, other, laid, words, head_of}
 use Rattle.init.specs.Found.{found_is, told}
 use Rattle.init.specs.Plan.{plan}
 use Rattle.init.specs.Plan.Plan.{done}
-use Rattle.init.specs.Phases.{item_of, slot_of, rest_of, ends, goes, plan_of, reach, grown, rank, spare}
-use Rattle.init.specs.Promises.{Follows}
+use Rattle.init.specs.Phases.{item_of, slot_of, rest_of, ends, goes, plan_of, reach, grown, spare}
 use Rattle.init.specs.Read.{Reading, on_item, store, read}
 use Rattle.init.specs.Read.Reading.{refused}
-use Rattle.init.specs.Reads.{words_in, width_in, slot_index, store_is, store_of, Carried, Reads, Gone, Turned, Done, Stopped, start, whole}
+use Rattle.init.specs.Reads.{words_in, width_in, slot_index, store_of, Carried, Reads, Gone, Turned, Done, Stopped, start, whole}
 use Rattle.init.specs.Reads.Store.{stored, full}
-use Rattle.init.proofs.KeepWays.{laid-length}
 use Rattle.init.proofs.Found.{item-seen, slot-lies, grown-lies, spare-spends, spends}
 
--- the code's own item is what the meaning has
-seen : (f : Found) (i : Item) (s : List ℕ) (wall at v p q : ℕ) → found_is f ≡ item_at i s wall at → f ≡ found.Item v p q → item_at i s wall at ≡ got (v, p, q)
-unfolding found_is
-seen f i s wall at v p q e g = sym e ∙ ap found_is g
+-- one word or two
+laid-length : (t : Bool) (a b : ℕ) → length (laid t a b) ≡ cond t 2 1
+unfolding laid
+laid-length true a b = refl
+laid-length false a b = refl
+
+told-laid : (t : Bool) (a b : ℕ) → words_in (told t a b) ≡ laid t a b
+unfolding laid
+told-laid true a b = refl
+told-laid false a b = refl
+
+told-width : (t : Bool) (a b : ℕ) → width_in (told t a b) ≡ cond t 2 1
+told-width true a b = refl
+told-width false a b = refl
 
 -- words behind those that stand over a buffer
 pub more-words : (l ws b : List ℕ) (u : ℕ) → length l ≡ u → 4 * (u + length ws) ≤ length b
@@ -138,59 +144,60 @@ near (slot.Init j) m t u q d at p l used x₀ x₁ x₂ x₃ x₄ x₅ x₆ = om
 near slot.Codecs m true u q d at p l used x₀ x₁ x₂ x₃ x₄ x₅ x₆ = omega arith
 near slot.Codecs m false u q d at p l used x₀ x₁ x₂ x₃ x₄ x₅ x₆ = omega arith
 
-module _ (st : State) (s : List ℕ) (wall : ℕ) (i : Item) (f : Found) (same : i ≡ item_of st.phase) (goes : ends st.phase ≡ false)
+module _ (st : State) (s : List ℕ) (wall : ℕ) (i : Item) (f : Result Found Refusal) (same : i ≡ item_of st.phase) (goes : ends st.phase ≡ false)
     (e : found_is f ≡ item_at i s wall st.at) where
-  here : (v p q : ℕ) → f ≡ found.Item v p q → item_at (item_of st.phase) s wall st.at ≡ got (v, p, q)
-  here v p q g = rw same at (seen f i s wall st.at v p q e g)
+  here : (x : Found) → f ≡ Ok x → item_at (item_of st.phase) s wall st.at ≡ got (x.number, x.content, x.end)
+  unfolding found_is
+  here x g = rw same at (sym e ∙ ap found_is g)
 
   -- a refusal of the item
-  pub item-stops : (e' : ℕ) → f ≡ found.Refuse e' → (init codecs init' codecs' b : List ℕ) (answer : Reading) → Reads s b wall answer st init codecs
-      → Turned s b wall answer st (turn.Refuse e') init' codecs'
+  pub item-stops : (e' : Refusal) → f ≡ Err e' → (init codecs b : List ℕ) (answer : Reading) → Reads s b wall answer st init codecs
+      → answer ≡ refused (number_of e') st.at
   unfolding found_is on_item
-  item-stops e' g init codecs init' codecs' b answer r =
-      let h : item_at (item_of st.phase) s wall st.at ≡ fault e' = rw same at (sym e ∙ ap found_is g) in
+  item-stops e' g init codecs b answer r =
+      let h : item_at (item_of st.phase) s wall st.at ≡ fault (number_of e') = rw same at (sym e ∙ ap found_is g) in
       r.comes ∙ read_step st.phase goes s wall (length b / 4) st.at init r.words ∙ rw h
 
-  module _ (v p q : ℕ) (g : f ≡ found.Item v p q) where
-    pub place-lies : wall ≤ most_message → p ≤ most_message
-    place-lies h = let a = (item-seen (item_of st.phase) s wall st.at v p q (here v p q g)).passed in omega (arith, a.next, a.within)
+  module _ (it : Found) (g : f ≡ Ok it) where
+    pub place-lies : wall ≤ most_message → it.content ≤ most_message
+    place-lies h = let a = (item-seen (item_of st.phase) s wall st.at it.number it.content it.end (here it g)).passed in omega (arith, a.next, a.within)
 
-    pub next-lies : reach st.phase ≤ init_words → grown st.phase v ≤ init_words
-    next-lies h = grown-lies st.phase v h (item-seen (item_of st.phase) s wall st.at v p q (here v p q g)).passed.judged
+    pub next-lies : reach st.phase ≤ init_words → grown st.phase it.number ≤ init_words
+    next-lies h = grown-lies st.phase it.number h (item-seen (item_of st.phase) s wall st.at it.number it.content it.end (here it g)).passed.judged
 
-    module _ (sl : Slot) (w : Words) (k : w ≡ told (two i) (one i v p) (other i v p)) (at_slot : sl ≡ slot_of st.phase) where
-      told-words : words_in w ≡ words (item_of st.phase) v p
+    module _ (sl : Slot) (w : Words) (k : w ≡ told (two i) (one i it.number it.content) (other i it.number it.content)) (at_slot : sl ≡ slot_of st.phase) where
+      told-words : words_in w ≡ words (item_of st.phase) it.number it.content
       unfolding words
-      told-words = rw (k, same)
+      told-words = rw (k, same) (told-laid _ _ _)
 
       pub slot-fits : (n : ℕ) → n ≡ init_words → reach st.phase ≤ init_words → slot_index sl + width_in w ≤ n
-      slot-fits n m h = rw (m, k, same, at_slot) (slot-lies st.phase h)
+      slot-fits n m h = rw (m, k, same, at_slot, told-width (two (item_of st.phase)) (one (item_of st.phase) it.number it.content) (other (item_of st.phase) it.number it.content)) (slot-lies st.phase h)
 
       module _ (init codecs init' codecs' : List ℕ) where
         reaches : (b : List ℕ) (answer : Reading) (r : Reads s b wall answer st init codecs)
             → answer
-            ≡ store (slot_of st.phase) (length b / 4) st.at (words (item_of st.phase) v p) init r.words
-            (λ init'' l. read s wall (length b / 4) (rest_of st.phase v) q init'' l)
+            ≡ store (slot_of st.phase) (length b / 4) st.at (words (item_of st.phase) it.number it.content) init r.words
+            (λ init'' l. read s wall (length b / 4) (rest_of st.phase it.number) it.end init'' l)
         unfolding on_item
-        reaches b answer r = r.comes ∙ read_step st.phase goes s wall (length b / 4) st.at init r.words ∙ rw (here v p q g)
+        reaches b answer r = r.comes ∙ read_step st.phase goes s wall (length b / 4) st.at init r.words ∙ rw (here it g)
 
         -- no room, or the next state
-        pub item-goes : (o : Turn) → Carried sl (words_in w) st v q init codecs o init' codecs' → (b : List ℕ) (answer : Reading)
+        pub item-goes : (o : Result State Refusal) → Carried sl (words_in w) st it.number it.end init codecs o init' codecs' → (b : List ℕ) (answer : Reading)
             → Reads s b wall answer st init codecs → Turned s b wall answer st o init' codecs'
-        item-goes (turn.Refuse e') (x, z) b answer r =
-            let z' : full init' codecs' ≡ store_of (slot_of st.phase) (words (item_of st.phase) v p) st.used init codecs = z ∙ rw (told-words, at_slot) in
+        item-goes (Err e') (x, z) b answer r =
+            let z' : full init' codecs' ≡ store_of (slot_of st.phase) (words (item_of st.phase) it.number it.content) st.used init codecs = z ∙ rw (told-words, at_slot) in
             reaches b answer r
-            ∙ full-stops st.at st.used (words (item_of st.phase) v p) init r.words b codecs r.count r.stands r.room (slot_of st.phase) init' codecs'
+            ∙ full-stops st.at st.used (words (item_of st.phase) it.number it.content) init r.words b codecs r.count r.stands r.room (slot_of st.phase) init' codecs'
             z' _
             ∙ rw x
-        item-goes (turn.Go st') (x, z, n) b answer r =
-            let z' : stored st'.used init' codecs' ≡ store_of (slot_of st.phase) (words (item_of st.phase) v p) st.used init codecs = z ∙ rw (told-words, at_slot) in
-            let y = store_goes st.at st.used (words (item_of st.phase) v p) init r.words b codecs r.count r.stands r.room (slot_of st.phase) st'.used init' codecs' z' in
-            let a = item-seen (item_of st.phase) s wall st.at v p q (here v p q g) in
+        item-goes (Ok st') (x, z, n) b answer r =
+            let z' : stored st'.used init' codecs' ≡ store_of (slot_of st.phase) (words (item_of st.phase) it.number it.content) st.used init codecs = z ∙ rw (told-words, at_slot) in
+            let y = store_goes st.at st.used (words (item_of st.phase) it.number it.content) init r.words b codecs r.count r.stands r.room (slot_of st.phase) st'.used init' codecs' z' in
+            let a = item-seen (item_of st.phase) s wall st.at it.number it.content it.end (here it g) in
             let c = spare-spends st.phase goes in
-            let few : st'.used ≤ 2 * q =
-            near (slot_of st.phase) (length (words (item_of st.phase) v p)) (two (item_of st.phase)) st'.used q (spends (head_of (item_of st.phase))) st.at p
-            (length r.words) st.used (words-length (item_of st.phase) v p) y.few c r.count r.few a.goes (omega (arith, a.passed.next)) in
+            let few : st'.used ≤ 2 * it.end =
+            near (slot_of st.phase) (length (words (item_of st.phase) it.number it.content)) (two (item_of st.phase)) st'.used it.end (spends (head_of (item_of st.phase))) st.at it.content
+            (length r.words) st.used (words-length (item_of st.phase) it.number it.content) y.few c r.count r.few a.goes (omega (arith, a.passed.next)) in
             record {
               reads = record {
                 words = y.words;
@@ -206,20 +213,6 @@ module _ (st : State) (s : List ℕ) (wall : ℕ) (i : Item) (f : Found) (same :
             }
 
 pub ruleset turn-ways = (item-stops, place-lies, next-lies, slot-fits, item-goes)
-
--- the ways of the store itself
-module _ (slot : Slot) (w : Words) (st : State) (v q : ℕ) (init codecs init' codecs' : List ℕ) (o : Kept)
-    (z : store_is o init' codecs' ≡ store_of slot (words_in w) st.used init codecs) where
-  pub store-full : o ≡ kept.Full → Carried slot (words_in w) st v q init codecs (turn.Refuse event_room) init' codecs'
-  unfolding store_is
-  store-full x = (refl, rw x at z)
-
-  pub store_then : (u : ℕ) (ph : Phase) → o ≡ kept.Used u → Follows (rest_of st.phase v) init_words (rank st.phase + spare (slot_of st.phase)) ph
-      → Carried slot (words_in w) st v q init codecs (turn.Go (record { phase = ph; at = q; used = u })) init' codecs'
-  unfolding store_is
-  store_then u ph x n = (refl, rw x at z, n)
-
-pub ruleset carry-ways = (store-full, store_then)
 
 -- where a reading starts, and where it ends
 pub start-reads : (s b : List ℕ) (wall : ℕ) (init : List ℕ) → Reads s b wall (whole s b wall init) start init b
@@ -243,9 +236,9 @@ reads-done s b wall answer st init codecs e r = record {
   comes = r.comes ∙ rw (at-end st.phase e);
 }
 
-module _ (s b : List ℕ) (wall : ℕ) (answer : Reading) (st : State) (o : Turn) (init codecs : List ℕ) (t : Turned s b wall answer st o init codecs) where
-  pub turn-stops : (e : ℕ) → o ≡ turn.Refuse e → st.at ≤ wall → Stopped wall answer e st.at
+module _ (s b : List ℕ) (wall : ℕ) (answer : Reading) (st : State) (o : Result State Refusal) (init codecs : List ℕ) (t : Turned s b wall answer st o init codecs) where
+  pub turn-stops : (e : Refusal) → o ≡ Err e → st.at ≤ wall → Stopped wall answer (number_of e) st.at
   turn-stops e x h = record { within = h; comes = rw x at t }
 
-  pub turn-goes : (st' : State) → o ≡ turn.Go st' → Gone s b wall answer st st' init codecs
+  pub turn-goes : (st' : State) → o ≡ Ok st' → Gone s b wall answer st st' init codecs
   turn-goes st' x = rw x at t

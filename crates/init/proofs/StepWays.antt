@@ -1,141 +1,38 @@
 -- Ways through the functions that write an item.
-use Prim.Native.Nat.{ℕ, ◌+◌, ◌-◌, ◌/◌, ◌≤◌}
+use Prim.Native.Nat.{ℕ, ◌+◌, ◌≤◌}
 use mathlib.Core.Path.{◌≡◌, refl, sym, ap, ◌∙◌}
 use mathlib.Core.Bool.{Bool, true, false, cond}
 use mathlib.Core.List.{List, [], ◌++◌}
 use native.Mathlib.Omega.{arith}
 use native.Mathlib.Decide.{dec_le, ℕ_discrete}
-use borrow.Author.Tests.{leb-true, le-leb, lt-leb, eq-eqb, ne_eqb}
+use borrow.Author.Tests.{le-leb, lt-leb, eq-eqb, ne_eqb}
 use lib.Dec.{leb, eqb}
-use lib.ListN.{length, take, drop, replicate}
-use lib.Seq.{length-take-le}
-use Rattle.buffers.specs.Bytes.{words_of}
-use Rattle.buffers.proofs.BytesLaws.{words-length}
-use Rattle.numbers.specs.Refusal.{no_reading, text_bytes, no_schemas, many_schemas}
+use lib.ListN.{length}
+use Rattle.numbers.specs.Refusal.{no_reading, no_schemas, many_schemas}
+use Rattle.std.specs.Prelude.{Result, Ok, Err, Option, Some, None}
+use Rattle.numbers.specs.declared.refusal.Refusal.TheVariants as refusal
+use Rattle.numbers.specs.declared.refusal.Fault.{Fault}
+use Rattle.numbers.specs.Refused.{number_of}
 use Rattle.numbers.specs.Limit.{init_words, most_schemas, most_word}
 use Rattle.init.specs.declared.Item.{Item}
-use Rattle.init.specs.declared.Item.TheVariants.{Number, UnitByte, Length, Flags, Schemas, Uri, Text, Formats, NoFlags, NoFormats}
+use Rattle.init.specs.declared.Item.TheVariants.{Schemas}
 use Rattle.init.specs.declared.Slot.{Slot}
 use Rattle.init.specs.declared.Slot.TheVariants as slots
 use Rattle.init.specs.declared.Phase.{Phase}
 use Rattle.init.specs.declared.Phase.TheVariants as phase
-use Rattle.init.specs.declared.writing.Value.{Value as Values}
-use Rattle.init.specs.declared.writing.Value.TheVariants as code
-use Rattle.init.specs.declared.writing.Ink.{Ink}
 use Rattle.init.specs.declared.writing.Desk.{Desk}
-use Rattle.init.specs.declared.writing.Step.{Step}
-use Rattle.init.specs.declared.writing.Step.TheVariants as step
-use Rattle.init.specs.declared.writing.Room.{Room}
-use Rattle.init.specs.declared.writing.Room.TheVariants as room
-use Rattle.init.specs.Items.{head_of, body, two}
+use Rattle.init.specs.Items.{head_of, two}
 use Rattle.init.specs.Plan.{plan}
 use Rattle.init.specs.Plan.Plan.{done}
 use Rattle.init.specs.Phases.{item_of, slot_of, rest_of, ends, goes, plan_of, reach, grown, rank, spare}
 use Rattle.init.specs.Promises.{Follows}
 use Rattle.init.specs.Reads.{slot_index}
-use Rattle.init.specs.Write.{Writing, value_of, content_of, lies_of, content, bytes_for, on_value, index, word_in, there_of, used_by, emit, write}
+use Rattle.init.specs.Write.{Writing, value_of, content_of, lies_of, bytes_for, on_value, index, word_in, there_of, used_by, emit, write}
 use Rattle.init.specs.Write.Value.{value, wrong}
 use Rattle.init.specs.Write.Writing.{refused}
-use Rattle.init.specs.Writes.{value_is, value_in, most_of, Page, ink_is, page, inked, UsesIs, Put, Worded, Writes, Onward, Stepped, Finished, wholly, desk}
+use Rattle.init.specs.Writes.{value_is, value_in, most_of, Values, Page, page, inked, UsesIs, Put, Worded, Writes, Onward, Stepped, Finished, wholly, desk}
 use Rattle.init.proofs.WriteWays.{inked-append}
 use Rattle.init.proofs.Found.{slot-lies}
-
--- what follows an item's number, by the item
-pub lies-number : (i : Item) (bytes a v : ℕ) → i ≡ Number → true ≡ lies_of (content_of i) bytes a v
-unfolding lies_of content_of
-lies-number i bytes a v e = rw e
-
-pub content-number : (i : Item) (given : List ℕ) (a v : ℕ) (p : Page) → i ≡ Number → p ≡ inked p (content (content_of i) given a v)
-unfolding content content_of inked
-content-number i given a v p e = rw e
-
-pub lies-unitbyte : (i : Item) (bytes a v : ℕ) → i ≡ UnitByte → true ≡ lies_of (content_of i) bytes a v
-unfolding lies_of content_of
-lies-unitbyte i bytes a v e = rw e
-
-pub content-unitbyte : (i : Item) (given : List ℕ) (a v : ℕ) (p : Page) → i ≡ UnitByte → p ≡ inked p (content (content_of i) given a v)
-unfolding content content_of inked
-content-unitbyte i given a v p e = rw e
-
-pub lies-length : (i : Item) (bytes a v : ℕ) → i ≡ Length → true ≡ lies_of (content_of i) bytes a v
-unfolding lies_of content_of
-lies-length i bytes a v e = rw e
-
-pub content-length : (i : Item) (given : List ℕ) (a v : ℕ) (p : Page) → i ≡ Length → p ≡ inked p (content (content_of i) given a v)
-unfolding content content_of inked
-content-length i given a v p e = rw e
-
-pub lies-schemas : (i : Item) (bytes a v : ℕ) → i ≡ Schemas → true ≡ lies_of (content_of i) bytes a v
-unfolding lies_of content_of
-lies-schemas i bytes a v e = rw e
-
-pub content-schemas : (i : Item) (given : List ℕ) (a v : ℕ) (p : Page) → i ≡ Schemas → p ≡ inked p (content (content_of i) given a v)
-unfolding content content_of inked
-content-schemas i given a v p e = rw e
-
-pub lies-noflags : (i : Item) (bytes a v : ℕ) → i ≡ NoFlags → true ≡ lies_of (content_of i) bytes a v
-unfolding lies_of content_of
-lies-noflags i bytes a v e = rw e
-
-pub content-noflags : (i : Item) (given : List ℕ) (a v : ℕ) (p : Page) → i ≡ NoFlags → p ≡ inked p (content (content_of i) given a v)
-unfolding content content_of inked
-content-noflags i given a v p e = rw e
-
-pub lies-noformats : (i : Item) (bytes a v : ℕ) → i ≡ NoFormats → true ≡ lies_of (content_of i) bytes a v
-unfolding lies_of content_of
-lies-noformats i bytes a v e = rw e
-
-pub content-noformats : (i : Item) (given : List ℕ) (a v : ℕ) (p : Page) → i ≡ NoFormats → p ≡ inked p (content (content_of i) given a v)
-unfolding content content_of inked
-content-noformats i given a v p e = rw e
-
-pub lies-flags : (i : Item) (bytes a v : ℕ) → (n : ℕ) → i ≡ Flags n → true ≡ lies_of (content_of i) bytes a v
-unfolding lies_of content_of
-lies-flags i bytes a v n e = rw e
-
-pub content-flags : (i : Item) (given : List ℕ) (a v : ℕ) (p q : Page) (n z : ℕ) → i ≡ Flags n → z ≡ body i v → q ≡ inked p (replicate z 0) → q ≡ inked p (content (content_of i) given a v)
-unfolding content content_of body
-content-flags i given a v p q n z e f g = let h : z ≡ n - 1 = rw e at f in let k : q ≡ inked p (replicate (n - 1) 0) = rw h at g in rw e k
-
-pub lies-uri : (i : Item) (bytes a v : ℕ) (t : Bool) → i ≡ Uri → t ≡ leb (a + v) bytes → t ≡ lies_of (content_of i) bytes a v
-unfolding lies_of content_of
-lies-uri i bytes a v t e f = rw e f
-
-pub ends-uri : (i : Item) (bytes a v : ℕ) → i ≡ Uri → lies_of (content_of i) bytes a v ≡ true → a + v ≤ bytes
-unfolding lies_of content_of
-ends-uri i bytes a v e f = leb-true (a + v) bytes (rw e at f)
-
-pub content-uri : (i : Item) (given : List ℕ) (a v : ℕ) (p q : Page) → i ≡ Uri → q ≡ inked p (take v (drop a given)) → q ≡ inked p (content (content_of i) given a v)
-unfolding content content_of
-content-uri i given a v p q e f = rw e f
-
-pub lies-text : (i : Item) (bytes a v : ℕ) (t : Bool) → i ≡ Text → t ≡ leb (a + v) bytes → t ≡ lies_of (content_of i) bytes a v
-unfolding lies_of content_of
-lies-text i bytes a v t e f = rw e f
-
-pub ends-text : (i : Item) (bytes a v : ℕ) → i ≡ Text → lies_of (content_of i) bytes a v ≡ true → a + v ≤ bytes
-unfolding lies_of content_of
-ends-text i bytes a v e f = leb-true (a + v) bytes (rw e at f)
-
-pub content-text : (i : Item) (given : List ℕ) (a v : ℕ) (p q : Page) → i ≡ Text → q ≡ inked p (take v (drop a given)) → q ≡ inked p (content (content_of i) given a v)
-unfolding content content_of
-content-text i given a v p q e f = rw e f
-
-pub lies-formats : (i : Item) (bytes a v : ℕ) (t : Bool) → i ≡ Formats → t ≡ leb (a + v) bytes → t ≡ lies_of (content_of i) bytes a v
-unfolding lies_of content_of
-lies-formats i bytes a v t e f = rw e f
-
-pub ends-formats : (i : Item) (bytes a v : ℕ) → i ≡ Formats → lies_of (content_of i) bytes a v ≡ true → a + v ≤ bytes
-unfolding lies_of content_of
-ends-formats i bytes a v e f = leb-true (a + v) bytes (rw e at f)
-
-pub content-formats : (i : Item) (given : List ℕ) (a v : ℕ) (p q : Page) → i ≡ Formats → q ≡ inked p (take v (drop a given)) → q ≡ inked p (content (content_of i) given a v)
-unfolding content content_of
-content-formats i given a v p q e f = rw e f
-
-pub ruleset lies-ways = (lies-number, lies-unitbyte, lies-length, lies-schemas, lies-noflags, lies-noformats, lies-flags, lies-uri, lies-text, lies-formats)
-
-pub ruleset content-ways = (content-number, content-unitbyte, content-length, content-schemas, content-noflags, content-noformats, content-flags, ends-uri, content-uri, ends-text, content-text, ends-formats, content-formats)
 
 pub both : (p q r : Page) (l m : List ℕ) → q ≡ inked p l → r ≡ inked q m → r ≡ inked p (l ++ m)
 both p q r l m e f = f ∙ ap (λ (x : Page). inked x m) e ∙ sym (inked-append p l m)
@@ -144,12 +41,12 @@ module _ (i : Item) (given : List ℕ) (st : Desk) (a v u at : ℕ) (m m' : List
   pub lies-true : t ≡ true → lies_of (content_of i) (length given) a v ≡ true
   lies-true f = cc
 
-  pub value-goes : (k : Ink) (ph : Phase) → t ≡ true → ink_is m' k ≡ inked (ink_is m st.ink) (bytes_for i given a v)
+  pub value-goes : (k : Option ℕ) (ph : Phase) → t ≡ true → page m' k ≡ inked (page m st.ink) (bytes_for i given a v)
       → Follows (rest_of st.phase v) init_words (rank st.phase + spare (slot_of st.phase)) ph
-      → Put i given st a v u at m (step.Go (record { phase = ph; used = u; ink = k })) m'
+      → Put i given st a v u at m (Ok (record { phase = ph; used = u; ink = k })) m'
   value-goes k ph f g h = (lies-true f, g, refl, h)
 
-  pub value-stops : t ≡ false → Put i given st a v u at m (step.Refuse text_bytes (at + 1)) m'
+  pub value-stops : t ≡ false → Put i given st a v u at m (Err (record { why = refusal.TextBytes; at = at + 1 })) m'
   value-stops f = ((cc), refl, refl)
 
 pub ruleset value-ways = (lies-true, value-goes, value-stops)
@@ -187,26 +84,26 @@ grown-lies phase.Description a b v h e = omega arith
 grown-lies phase.End a b v h e = omega arith
 
 module _ (i : Item) (given : List ℕ) (st : Desk) (a b u at : ℕ) (m m' : List ℕ) (r : Values) (e : value_is r ≡ value_of i a b) where
-  judged : (v : ℕ) → r ≡ code.Value v → value_of i a b ≡ value v
+  judged : (v : ℕ) → r ≡ Ok v → value_of i a b ≡ value v
   unfolding value_is
   judged v f = sym e ∙ ap value_is f
 
-  pub number-lies : (v : ℕ) → r ≡ code.Value v → i ≡ item_of st.phase → reach st.phase ≤ init_words → grown st.phase v ≤ init_words
+  pub number-lies : (v : ℕ) → r ≡ Ok v → i ≡ item_of st.phase → reach st.phase ≤ init_words → grown st.phase v ≤ init_words
   number-lies v f g h = let k : value_of (item_of st.phase) a b ≡ value v = rw g at (judged v f) in grown-lies st.phase a b v h k
 
-  pub number_small : (v : ℕ) → r ≡ code.Value v → value_in r ≤ most_of (head_of i) → v ≤ most_of (head_of i)
+  pub number_small : (v : ℕ) → r ≡ Ok v → value_in r ≤ most_of (head_of i) → v ≤ most_of (head_of i)
   unfolding value_in
   number_small v f h = rw f at h
 
-  pub words-stop : (e' k : ℕ) → r ≡ code.Wrong e' k → Worded i given st a b u at m (step.Refuse e' (at + k)) m'
+  pub words-stop : (f : Fault ℕ) (k : ℕ) → r ≡ Err f → k ≡ f.at → Worded i given st a b u at m (Err (record { why = f.why; at = at + k })) m'
   unfolding emit on_value value_is
-  words-stop e' k f = λ g. let h : value_of i a b ≡ wrong e' k = sym e ∙ ap value_is f in rw h
+  words-stop f k w z = λ g. let h : value_of i a b ≡ wrong (number_of f.why) f.at = sym e ∙ ap value_is w in rw (h, z)
 
-  pub words-go : (v : ℕ) (o : Step) → r ≡ code.Value v → Put i given st a v u at m o m' → Worded i given st a b u at m o m'
+  pub words-go : (v : ℕ) (o : Result Desk (Fault ℕ)) → r ≡ Ok v → Put i given st a v u at m o m' → Worded i given st a b u at m o m'
   unfolding emit on_value
-  words-go v (step.Go st') f (l, k, x, y) =
+  words-go v (Ok st') f (l, k, x, y) =
       record { number = v; same = λ g. rw (judged v f, l); inks = k; uses = x; follows = y }
-  words-go v (step.Refuse e' k) f (l, x, y) = λ g. rw (judged v f, l, x, y)
+  words-go v (Err w) f (l, x, y) = λ g. rw (judged v f, l, x, y)
 
 pub ruleset words-ways = (number-lies, number_small, words-stop, words-go)
 
@@ -229,7 +126,7 @@ spends slots.Codecs i used = wide (two i)
     wide true = omega arith
     wide false = omega arith
 
-module _ (st : Desk) (init c given : List ℕ) (n : ℕ) (i : Item) (sl : Slot) (item-is : i ≡ item_of st.phase) (slot_is : sl ≡ slot_of st.phase) where
+module _ (st : Desk) (init codecs given : List ℕ) (n : ℕ) (i : Item) (sl : Slot) (item-is : i ≡ item_of st.phase) (slot_is : sl ≡ slot_of st.phase) where
   pub slot_small : reach st.phase ≤ init_words → slot_index sl ≤ init_words
   slot_small h = let g = slot-lies st.phase h in rw slot_is (omega arith)
 
@@ -241,22 +138,16 @@ module _ (st : Desk) (init c given : List ℕ) (n : ℕ) (i : Item) (sl : Slot) 
       by (slots.Init j) g k = omega arith
       by slots.Codecs g k = omega arith
 
-  module _ (fits : n ≤ length c / 4) (goes : ends st.phase ≡ false) (o : Room) (us : UsesIs sl i n st.used o) (m m' : List ℕ) where
-    abbrev codecs : List ℕ
-    codecs = take n (words_of c)
-
-    count : length codecs ≡ n
-    count = length-take-le n (words_of c) (omega (arith, words-length c))
-
-    pub item-missing : o ≡ room.Missing → (m₀ : List ℕ) (answer : Writing) → Writes init codecs given m₀ answer st m
-        → Stepped init codecs given n m₀ answer st (step.Refuse no_reading (init_words + n)) m'
+  module _ (count : length codecs ≡ n) (goes : ends st.phase ≡ false) (o : Option ℕ) (us : UsesIs sl i n st.used o) (m m' : List ℕ) where
+    pub item-missing : o ≡ None → (m₀ : List ℕ) (answer : Writing) → Writes init codecs given m₀ answer st m
+        → Stepped init codecs given n m₀ answer st (Err (record { why = refusal.NoReading; at = init_words + n })) m'
     item-missing e m₀ answer w =
         let u : there_of sl i n st.used ≡ false = rw e at us in
         let u' : there_of (slot_of st.phase) (item_of st.phase) n st.used ≡ false = rw (item-is, slot_is) at u in
         w.comes ∙ write_step st.phase goes init codecs given st.used w.out ∙ rw (count, u')
 
-    pub item-steps : (u a b at : ℕ) (r : Step) → a ≡ word_in sl init codecs st.used 0 → b ≡ word_in sl init codecs st.used 1
-        → at ≡ index sl st.used → st.used ≤ n → Worded i given st a b u at m r m' → o ≡ room.Used u → (m₀ : List ℕ) (answer : Writing) → Writes init codecs given m₀ answer st m
+    pub item-steps : (u a b at : ℕ) (r : Result Desk (Fault ℕ)) → a ≡ word_in sl init codecs st.used 0 → b ≡ word_in sl init codecs st.used 1
+        → at ≡ index sl st.used → st.used ≤ n → Worded i given st a b u at m r m' → o ≡ Some u → (m₀ : List ℕ) (answer : Writing) → Writes init codecs given m₀ answer st m
         → Stepped init codecs given n m₀ answer st r m'
     item-steps u a b at r ea eb eat few wd e m₀ answer w =
         let us' : (u ≡ used_by sl i st.used) × (u ≤ n) × (there_of sl i n st.used ≡ true) = rw e at us in
@@ -266,18 +157,18 @@ module _ (st : Desk) (init c given : List ℕ) (n : ℕ) (i : Item) (sl : Slot) 
         w.comes ∙ write_step st.phase goes init codecs given st.used w.out ∙ rw (count, th, ea, eb, eat, us'.0, item-is, slot_is) in
         by r wd c us'.0 us'.1
       where
-        by : (r : Step) → Worded i given st a b u at m r m'
+        by : (r : Result Desk (Fault ℕ)) → Worded i given st a b u at m r m'
             → answer ≡ emit i given a b at (λ v bytes. write init codecs given (rest_of st.phase v) u (w.out ++ bytes)) → u ≡ used_by sl i st.used → u ≤ n
             → Stepped init codecs given n m₀ answer st r m'
-        by (step.Refuse e' k) x c y z = c ∙ x _
-        by (step.Go st') x c y z =
+        by (Err w) x c y z = c ∙ x _
+        by (Ok st') x c y z =
             let s = spends sl i st.used in
             let f = x.follows.falls in
             let sp : spare sl ≡ spare (slot_of st.phase) = rw slot_is in
             record {
               writes = record {
                 out = w.out ++ bytes_for i given a x.number;
-                inks = x.inks ∙ ap (λ (y' : Page). inked y' (bytes_for i given a x.number)) w.inks ∙ sym (inked-append (page m₀ 0 false) w.out (bytes_for i given a x.number));
+                inks = x.inks ∙ ap (λ (y' : Page). inked y' (bytes_for i given a x.number)) w.inks ∙ sym (inked-append (page m₀ (Some 0)) w.out (bytes_for i given a x.number));
                 comes = c ∙ x.same _ ∙ rw (x.follows.comes, x.uses);
               };
               lies = x.follows.lies;
@@ -301,10 +192,10 @@ pub writes-done : (init codecs given m₀ : List ℕ) (n : ℕ) (answer : Writin
 unfolding write
 writes-done init codecs given m₀ n answer st m e h w = record { out = w.out; inks = w.inks; uses = h; comes = w.comes ∙ rw (at-end st.phase e) }
 
-module _ (init codecs given : List ℕ) (n : ℕ) (m₀ : List ℕ) (answer : Writing) (st : Desk) (o : Step) (m : List ℕ)
+module _ (init codecs given : List ℕ) (n : ℕ) (m₀ : List ℕ) (answer : Writing) (st : Desk) (o : Result Desk (Fault ℕ)) (m : List ℕ)
     (t : Stepped init codecs given n m₀ answer st o m) where
-  pub step-stops : (e k : ℕ) → o ≡ step.Refuse e k → answer ≡ refused e k
-  step-stops e k x = rw x at t
+  pub step-stops : (f : Fault ℕ) → o ≡ Err f → answer ≡ refused (number_of f.why) f.at
+  step-stops f x = rw x at t
 
-  pub step-goes : (st' : Desk) → o ≡ step.Go st' → Onward init codecs given n m₀ answer st st' m
+  pub step-goes : (st' : Desk) → o ≡ Ok st' → Onward init codecs given n m₀ answer st st' m
   step-goes st' x = rw x at t

@@ -18,7 +18,7 @@ pub enum Item {
     // The bytes that the flags take.
     Length,
     // The flags, in so many bytes; the first of them has all seven flags.
-    Flags(u32),
+    Flags(u16),
     // The number of schemas.
     Schemas,
     // A count of bytes, and that many: one at least.
@@ -40,20 +40,13 @@ pub enum Slot {
     Codecs,
 }
 
-// An item and where its words stand.
-#[derive(Clone, Copy)]
-pub struct Row {
-    pub item: Item,
-    pub slot: Slot,
-}
-
 // What of the schemas is still to come: a schema's place in init, and how many schemas, codecs and types follow.
 #[derive(Clone, Copy)]
 pub struct Left {
     pub slot: usize,
-    pub schemas: u32,
-    pub codecs: u32,
-    pub types: u32,
+    pub schemas: u16,
+    pub codecs: u16,
+    pub types: u16,
     pub formats: bool,
 }
 
@@ -64,7 +57,7 @@ pub enum Phase {
     UnitByte,
     NoFlags,
     Length,
-    Flags(u32),
+    Flags(u16),
     Schemas(bool),
     Uri(Left),
     Hint(Left),
@@ -76,12 +69,4 @@ pub enum Phase {
     NoFormats,
     Description,
     End,
-}
-
-// What is answered: a number, a place, and how much there is: words of codecs read, bytes of a message written.
-#[derive(Clone, Copy)]
-pub struct Answer {
-    pub number: u32,
-    pub place: usize,
-    pub count: usize,
 }

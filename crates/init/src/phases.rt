@@ -5,106 +5,42 @@ ghost use Rattle.init.specs.Phases as meaning;
 ghost use Rattle.init.specs.Promises.{Follows};
 ghost use Rattle.init.specs.declared.Phase.TheVariants as phases;
 
-use crate::{Item, Left, Phase, Row, Slot};
+use crate::{Item, Left, Phase, Slot};
 
 // The first word of init that a schema has.
 pub const FIRST_SCHEMA: usize = 12;
 
 // Whether no item is left.
+#[tactic(auto, unfolding(crate::specs::Phases::ends))]
 pub fn is_end(phase: Phase) -> bool
     ensures { result ≡ meaning.ends phase }
 {
-    match phase {
-        Phase::Profile => false,
-        Phase::UnitByte => false,
-        Phase::NoFlags => false,
-        Phase::Length => false,
-        Phase::Flags(_) => false,
-        Phase::Schemas(_) => false,
-        Phase::Uri(_) => false,
-        Phase::Hint(_) => false,
-        Phase::Codecs(_) => false,
-        Phase::Codec(_) => false,
-        Phase::Types(_) => false,
-        Phase::OneType(_) => false,
-        Phase::Formats => false,
-        Phase::NoFormats => false,
-        Phase::Description => false,
-        Phase::End => true,
-    }
+    matches!(phase, Phase::End)
 }
 
 // The next item, and where its words stand.
-pub fn row(phase: Phase) -> Row
+#[tactic(auto, unfolding(crate::specs::Phases::item_of, crate::specs::Phases::slot_of, crate::specs::Phases::reach))]
+pub fn row(phase: Phase) -> (Item, Slot)
     requires { meaning.reach phase ≤ init_words }
-    ensures item { result.item ≡ meaning.item_of phase }
-    ensures slot { result.slot ≡ meaning.slot_of phase }
+    ensures item { result.0 ≡ meaning.item_of phase }
+    ensures slot { result.1 ≡ meaning.slot_of phase }
 {
     match phase {
-        Phase::Profile => Row {
-            item: Item::Number,
-            slot: Slot::Init(1),
-        },
-        Phase::UnitByte => Row {
-            item: Item::UnitByte,
-            slot: Slot::Init(2),
-        },
-        Phase::NoFlags => Row {
-            item: Item::NoFlags,
-            slot: Slot::Init(4),
-        },
-        Phase::Length => Row {
-            item: Item::Length,
-            slot: Slot::Init(3),
-        },
-        Phase::Flags(n) => Row {
-            item: Item::Flags(n),
-            slot: Slot::Init(4),
-        },
-        Phase::Schemas(_) => Row {
-            item: Item::Schemas,
-            slot: Slot::Init(6),
-        },
-        Phase::Uri(l) => Row {
-            item: Item::Uri,
-            slot: Slot::Init(l.slot),
-        },
-        Phase::Hint(l) => Row {
-            item: Item::Text,
-            slot: Slot::Init(l.slot + 2),
-        },
-        Phase::Codecs(l) => Row {
-            item: Item::Number,
-            slot: Slot::Init(l.slot + 4),
-        },
-        Phase::Codec(_) => Row {
-            item: Item::Text,
-            slot: Slot::Codecs,
-        },
-        Phase::Types(_) => Row {
-            item: Item::Number,
-            slot: Slot::Codecs,
-        },
-        Phase::OneType(_) => Row {
-            item: Item::Number,
-            slot: Slot::Codecs,
-        },
-        Phase::Formats => Row {
-            item: Item::Formats,
-            slot: Slot::Init(8),
-        },
-        Phase::NoFormats => Row {
-            item: Item::NoFormats,
-            slot: Slot::Init(9),
-        },
-        Phase::Description => Row {
-            item: Item::Text,
-            slot: Slot::Init(10),
-        },
-        Phase::End => Row {
-            item: Item::NoFormats,
-            slot: Slot::Codecs,
-        },
+        Phase::Profile => (Item::Number, Slot::Init(1)),
+        Phase::UnitByte => (Item::UnitByte, Slot::Init(2)),
+        Phase::NoFlags => (Item::NoFlags, Slot::Init(4)),
+        Phase::Length => (Item::Length, Slot::Init(3)),
+        Phase::Flags(n) => (Item::Flags(n), Slot::Init(4)),
+        Phase::Schemas(_) => (Item::Schemas, Slot::Init(6)),
+        Phase::Uri(l) => (Item::Uri, Slot::Init(l.slot)),
+        Phase::Hint(l) => (Item::Text, Slot::Init(l.slot + 2)),
+        Phase::Codecs(l) => (Item::Number, Slot::Init(l.slot + 4)),
+        Phase::Codec(_) => (Item::Text, Slot::Codecs),
+        Phase::Types(_) | Phase::OneType(_) => (Item::Number, Slot::Codecs),
+        Phase::Formats => (Item::Formats, Slot::Init(8)),
+        Phase::NoFormats => (Item::NoFormats, Slot::Init(9)),
+        Phase::Description => (Item::Text, Slot::Init(10)),
+        Phase::End => (Item::NoFormats, Slot::Codecs),
     }
 }
 
@@ -113,46 +49,36 @@ fn settle(l: Left) -> Phase
     requires { l.slot + 5 * l.schemas ≤ init_words }
     ensures { Follows (meaning.rest l) init_words (3 * l.schemas + 3) result }
 {
-    let slot = l.slot;
-    let schemas = l.schemas;
-    let codecs = l.codecs;
-    let types = l.types;
-    let formats = l.formats;
-    if 0 < types {
+    if 0 < l.types {
         return Phase::OneType(Left {
-            slot,
-            schemas,
-            codecs,
-            types: types - 1,
-            formats,
+            types: l.types - 1,
+            ..l
         });
     }
-    if 0 < codecs {
+    if 0 < l.codecs {
         return Phase::Codec(Left {
-            slot,
-            schemas,
-            codecs: codecs - 1,
+            codecs: l.codecs - 1,
             types: 0,
-            formats,
+            ..l
         });
     }
-    if 0 < schemas {
+    if 0 < l.schemas {
         return Phase::Uri(Left {
-            slot,
-            schemas: schemas - 1,
+            schemas: l.schemas - 1,
             codecs: 0,
             types: 0,
-            formats,
+            ..l
         });
     }
-    if formats {
+    if l.formats {
         return Phase::Formats;
     }
     Phase::NoFormats
 }
 
 // The schemas, of which there are so many.
-fn begin(schemas: u32, formats: bool) -> Phase
+#[tactic(auto, using(crate::proofs::PhaseWays::list_ways))]
+fn begin(schemas: u16, formats: bool) -> Phase
     requires { 12 + 5 * schemas ≤ init_words }
     ensures { Follows (meaning.later 12 schemas formats) init_words 26 result }
 {
@@ -166,42 +92,30 @@ fn begin(schemas: u32, formats: bool) -> Phase
 }
 
 // The codecs of a schema, of which there are so many.
-fn list_codecs(l: Left, codecs: u32) -> Phase
+#[tactic(auto, using(crate::proofs::PhaseWays::list_ways))]
+fn list_codecs(l: Left, codecs: u16) -> Phase
     requires { l.slot + 5 * (l.schemas + 1) ≤ init_words }
     ensures { Follows (meaning.rest_of (phases.Codecs l) codecs) init_words (3 * l.schemas + 3) result }
 {
-    let slot = l.slot + 5;
-    let schemas = l.schemas;
-    let formats = l.formats;
     settle(Left {
-        slot,
-        schemas,
+        slot: l.slot + 5,
         codecs,
         types: 0,
-        formats,
+        ..l
     })
 }
 
 // The types of a codec, of which there are so many.
-fn list_types(l: Left, types: u32) -> Phase
+#[tactic(auto, using(crate::proofs::PhaseWays::list_ways))]
+fn list_types(l: Left, types: u16) -> Phase
     requires { l.slot + 5 * l.schemas ≤ init_words }
     ensures { Follows (meaning.rest_of (phases.Types l) types) init_words (3 * l.schemas + 3) result }
 {
-    let slot = l.slot;
-    let schemas = l.schemas;
-    let codecs = l.codecs;
-    let formats = l.formats;
-    settle(Left {
-        slot,
-        schemas,
-        codecs,
-        types,
-        formats,
-    })
+    settle(Left { types, ..l })
 }
 
 // What comes behind the unit byte.
-fn after_unit(v: u32) -> Phase
+fn after_unit(v: u16) -> Phase
     ensures { Follows (meaning.rest_of phases.UnitByte v) init_words 29 result }
 {
     if v / 16 % 2 == 1 {
@@ -211,7 +125,8 @@ fn after_unit(v: u32) -> Phase
 }
 
 // What comes behind an item whose number is v.
-pub fn next(phase: Phase, v: u32) -> Phase
+#[tactic(auto, using(crate::proofs::PhaseWays::next_ways))]
+pub fn next(phase: Phase, v: u16) -> Phase
     requires { meaning.grown phase v ≤ init_words }
     ensures { Follows (meaning.rest_of phase v) init_words (meaning.rank phase + meaning.spare (meaning.slot_of phase)) result }
 {
@@ -228,9 +143,7 @@ pub fn next(phase: Phase, v: u32) -> Phase
         Phase::Codec(l) => Phase::Types(l),
         Phase::Types(l) => list_types(l, v),
         Phase::OneType(l) => settle(l),
-        Phase::Formats => Phase::Description,
-        Phase::NoFormats => Phase::Description,
-        Phase::Description => Phase::End,
-        Phase::End => Phase::End,
+        Phase::Formats | Phase::NoFormats => Phase::Description,
+        Phase::Description | Phase::End => Phase::End,
     }
 }

@@ -1,7 +1,8 @@
 // A start-up message written, item by item.
-ghost use Rattle.std.specs.Prelude.{◌≡◌, true, false, List, [], ◌∷◌, ◌++◌, ℕ, ◌+◌, ◌*◌, ◌/◌, ◌≤◌, ◌<◌, length, take, drop, replicate, get_or, leb};
+ghost use Rattle.std.specs.Prelude.{◌≡◌, true, false, List, [], ◌∷◌, ◌++◌, ℕ, ◌+◌, ◌*◌, ◌/◌, ◌≤◌, ◌<◌, Err, length, take, drop, replicate, get_or};
 ghost use Rattle.buffers.specs.Bytes.{words_of};
 ghost use Rattle.numbers.specs.Limit.{init_words, most_vlu8, most_word};
+ghost use Rattle.numbers.specs.Refused.{number_of};
 ghost use Rattle.init.specs.declared.Item.TheVariants as item;
 ghost use Rattle.init.specs.Items as items;
 ghost use Rattle.init.specs.Write as meaning;
@@ -10,173 +11,204 @@ ghost use Rattle.init.specs.Write.{Writing as writings};
 ghost use Rattle.init.specs.Made.{made_is, write_back, Closed};
 ghost use Rattle.init.specs.Phases.{item_of, reach, grown, ends};
 ghost use Rattle.init.specs.Reads.{slot_index};
-ghost use Rattle.init.specs.Writes.{Put, Worded, Writes, Stepped, Written, wholly, UsesIs, value_is, value_in, most_of, ink_is, inked};
+ghost use Rattle.init.specs.Writes.{Put, Worded, Writes, Stepped, Written, wholly, UsesIs, value_is, value_in, most_of, page, inked};
 
 use crate::items::body_of;
 use crate::phases::{is_end, next, row};
-use crate::{Answer, Item, Phase, Slot};
+use crate::{Item, Phase, Slot};
 use buffers::{clear, word};
-use numbers::{limit, refusal};
+use numbers::limit;
+use numbers::refusal::{Fault, Refusal};
 
-// An item's number by its words, or the number of a refusal and which of the words is at fault.
-#[derive(Clone, Copy)]
-pub enum Value {
-    Value(u32),
-    Wrong(u32, u8),
-}
+const MOST_VLU8: u16 = limit::MOST_VLU8 as u16;
 
-// A number that is at most so much, of a word.
-fn within(v: u32, most: u32, at: u8) -> Value
+const MOST_FORMATS: u16 = limit::MOST_FORMATS as u16;
+
+// A number that is at most so much, of a word: here and below at says which of an item's words is at fault.
+#[tactic(auto, unfolding(crate::specs::Writes::value_is, crate::specs::Writes::value_in))]
+fn within(v: u32, most: u16, at: u8) -> Result<u16, Fault<u8>>
     ensures is { value_is result ≡ meaning.within v most at }
     ensures small { value_in result ≤ most }
 {
-    if v <= most {
-        return Value::Value(v);
+    if v <= u32::from(most) {
+        return Ok(v as u16);
     }
-    Value::Wrong(refusal::OUTSIDE_ROW, at)
+    Err(Fault {
+        why: Refusal::OutsideRow,
+        at,
+    })
 }
 
 // The unit byte.
-fn unit_of(a: u32, b: u32) -> Value
+#[tactic(auto, unfolding(crate::specs::Write::value_of, crate::specs::Writes::value_is, crate::specs::Writes::value_in))]
+fn unit_of(a: u32, b: u32) -> Result<u16, Fault<u8>>
     ensures is { value_is result ≡ meaning.value_of item.UnitByte a b }
     ensures small { value_in result ≤ 255 }
 {
     if limit::MOST_UNIT < a {
-        return Value::Wrong(refusal::OUTSIDE_ROW, 0);
+        return Err(Fault {
+            why: Refusal::OutsideRow,
+            at: 0,
+        });
     }
     if b == 0 {
-        return Value::Value(32 * a + 31);
+        return Ok(32 * a as u16 + 31);
     }
-    Value::Value(32 * a + 15)
+    Ok(32 * a as u16 + 15)
 }
 
 // The bytes of the flags.
-fn length_of(a: u32, b: u32) -> Value
-    ensures is { value_is result ≡ meaning.value_of item.Length a b }
+#[tactic(auto, unfolding(crate::specs::Write::value_of, crate::specs::Writes::value_is, crate::specs::Writes::value_in))]
+fn length_of(a: u32) -> Result<u16, Fault<u8>>
+    ensures is { value_is result ≡ meaning.value_of item.Length a 0 }
     ensures small { value_in result ≤ most_vlu8 }
 {
     if a % 8 == 1 {
-        return within(a / 8 + 1, limit::MOST_VLU8, 0);
+        return within(a / 8 + 1, MOST_VLU8, 0);
     }
-    Value::Wrong(refusal::OUTSIDE_ROW, 0)
+    Err(Fault {
+        why: Refusal::OutsideRow,
+        at: 0,
+    })
 }
 
 // The flags.
-fn flags_of(a: u32, b: u32) -> Value
+#[tactic(auto, unfolding(crate::specs::Write::value_of, crate::specs::Writes::value_is, crate::specs::Writes::value_in))]
+fn flags_of(a: u32, b: u32) -> Result<u16, Fault<u8>>
     ensures is { value_is result ≡ meaning.value_of (item.Flags 0) a b }
     ensures small { value_in result ≤ 255 }
 {
     if 127 < a {
-        return Value::Wrong(refusal::OUTSIDE_ROW, 0);
+        return Err(Fault {
+            why: Refusal::OutsideRow,
+            at: 0,
+        });
     }
     if a / 8 % 8 != 0 {
-        return Value::Wrong(refusal::ADVANCED_FLAG, 0);
+        return Err(Fault {
+            why: Refusal::AdvancedFlag,
+            at: 0,
+        });
     }
     if b != 0 {
-        return Value::Wrong(refusal::OUTSIDE_ROW, 1);
+        return Err(Fault {
+            why: Refusal::OutsideRow,
+            at: 1,
+        });
     }
-    Value::Value(2 * a)
+    Ok(2 * a as u16)
 }
 
 // The number of schemas.
-fn schemas_of(a: u32, b: u32) -> Value
-    ensures is { value_is result ≡ meaning.value_of item.Schemas a b }
+#[tactic(auto, unfolding(crate::specs::Write::value_of, crate::specs::Writes::value_is, crate::specs::Writes::value_in))]
+fn schemas_of(a: u32) -> Result<u16, Fault<u8>>
+    ensures is { value_is result ≡ meaning.value_of item.Schemas a 0 }
     ensures small { value_in result ≤ most_vlu8 }
 {
     if a == 0 {
-        return Value::Wrong(refusal::NO_SCHEMAS, 0);
+        return Err(Fault {
+            why: Refusal::NoSchemas,
+            at: 0,
+        });
     }
     if limit::MOST_SCHEMAS < a {
-        return Value::Wrong(refusal::MANY_SCHEMAS, 0);
+        return Err(Fault {
+            why: Refusal::ManySchemas,
+            at: 0,
+        });
     }
-    Value::Value(a)
+    Ok(a as u16)
 }
 
 // The count of a stretch that is not empty.
-fn uri_of(a: u32, b: u32) -> Value
-    ensures is { value_is result ≡ meaning.value_of item.Uri a b }
+#[tactic(auto, unfolding(crate::specs::Write::value_of, crate::specs::Writes::value_is, crate::specs::Writes::value_in))]
+fn uri_of(b: u32) -> Result<u16, Fault<u8>>
+    ensures is { value_is result ≡ meaning.value_of item.Uri 0 b }
     ensures small { value_in result ≤ most_vlu8 }
 {
     if b == 0 {
-        return Value::Wrong(refusal::OUTSIDE_ROW, 1);
+        return Err(Fault {
+            why: Refusal::OutsideRow,
+            at: 1,
+        });
     }
-    within(b, limit::MOST_VLU8, 1)
+    within(b, MOST_VLU8, 1)
 }
 
 // Words that say that there are no flags.
-fn no_flags(a: u32, b: u32) -> Value
+#[tactic(auto, unfolding(crate::specs::Write::value_of, crate::specs::Writes::value_is, crate::specs::Writes::value_in))]
+fn no_flags(a: u32, b: u32) -> Result<u16, Fault<u8>>
     ensures is { value_is result ≡ meaning.value_of item.NoFlags a b }
     ensures small { value_in result ≤ 0 }
 {
     if a != 0 {
-        return Value::Wrong(refusal::OUTSIDE_ROW, 0);
+        return Err(Fault {
+            why: Refusal::OutsideRow,
+            at: 0,
+        });
     }
     if b != 0 {
-        return Value::Wrong(refusal::OUTSIDE_ROW, 1);
+        return Err(Fault {
+            why: Refusal::OutsideRow,
+            at: 1,
+        });
     }
-    Value::Value(0)
+    Ok(0)
 }
 
 // A word that says that there are no formats.
-fn no_formats(a: u32, b: u32) -> Value
-    ensures is { value_is result ≡ meaning.value_of item.NoFormats a b }
+#[tactic(auto, unfolding(crate::specs::Write::value_of, crate::specs::Writes::value_is, crate::specs::Writes::value_in))]
+fn no_formats(a: u32) -> Result<u16, Fault<u8>>
+    ensures is { value_is result ≡ meaning.value_of item.NoFormats a 0 }
     ensures small { value_in result ≤ 0 }
 {
     if a != 0 {
-        return Value::Wrong(refusal::OUTSIDE_ROW, 0);
+        return Err(Fault {
+            why: Refusal::OutsideRow,
+            at: 0,
+        });
     }
-    Value::Value(0)
+    Ok(0)
 }
 
 // An item's number.
-fn value_of(item: Item, a: u32, b: u32) -> Value
+#[tactic(auto, unfolding(crate::specs::Write::value_of, crate::specs::Writes::most_of, crate::specs::Items::head_of))]
+fn value_of(item: Item, a: u32, b: u32) -> Result<u16, Fault<u8>>
     ensures is { value_is result ≡ meaning.value_of item a b }
     ensures small { value_in result ≤ most_of (items.head_of item) }
 {
     match item {
-        Item::Number => within(a, limit::MOST_VLU8, 0),
+        Item::Number => within(a, MOST_VLU8, 0),
         Item::UnitByte => unit_of(a, b),
-        Item::Length => length_of(a, b),
+        Item::Length => length_of(a),
         Item::Flags(_) => flags_of(a, b),
-        Item::Schemas => schemas_of(a, b),
-        Item::Uri => uri_of(a, b),
-        Item::Text => within(b, limit::MOST_VLU8, 1),
-        Item::Formats => within(b, limit::MOST_FORMATS, 1),
+        Item::Schemas => schemas_of(a),
+        Item::Uri => uri_of(b),
+        Item::Text => within(b, MOST_VLU8, 1),
+        Item::Formats => within(b, MOST_FORMATS, 1),
         Item::NoFlags => no_flags(a, b),
-        Item::NoFormats => no_formats(a, b),
+        Item::NoFormats => no_formats(a),
     }
 }
 
-// How far a message is written; full where it has passed the room lent, and then no more is.
-#[derive(Clone, Copy)]
-pub struct Ink {
-    pub at: usize,
-    pub full: bool,
-}
-
-// A byte written.
-fn put(message: &mut [u8], ink: Ink, x: u8) -> Ink
-    ensures { ink_is message.new result ≡ inked (ink_is message.old ink) (x ∷ []) }
+// A byte written at a place: where the next one goes. Nowhere is one that the room lent has no place for, and then no more is written.
+#[tactic(auto, unfolding(crate::specs::Writes::inked, crate::specs::Writes::dot))]
+fn put(message: &mut [u8], ink: Option<usize>, x: u8) -> Option<usize>
+    ensures { page message.new result ≡ inked (page message.old ink) (x ∷ []) }
 {
-    let at = ink.at;
-    let full = ink.full;
-    if full {
-        return ink;
-    }
+    let at = ink?;
     if at < message.len() {
         message[at] = x;
-        return Ink {
-            at: at + 1,
-            full: false,
-        };
+        return Some(at + 1);
     }
-    Ink { at, full: true }
+    None
 }
 
 // A vluimsbf8, shortest.
-fn put_number(message: &mut [u8], ink: Ink, v: u32) -> Ink
+#[tactic(auto, unfolding(crate::specs::Items::bytes8, crate::specs::Writes::inked))]
+fn put_number(message: &mut [u8], ink: Option<usize>, v: u16) -> Option<usize>
     requires { v ≤ most_vlu8 }
-    ensures { ink_is message.new result ≡ inked (ink_is message.old ink) (items.bytes8 v) }
+    ensures { page message.new result ≡ inked (page message.old ink) (items.bytes8 v) }
 {
     if v < 128 {
         return put(message, ink, v as u8);
@@ -188,146 +220,103 @@ fn put_number(message: &mut [u8], ink: Ink, v: u32) -> Ink
 }
 
 // An item's number.
-fn put_head(message: &mut [u8], ink: Ink, item: Item, v: u32) -> Ink
+#[tactic(auto, unfolding(crate::specs::Items::head_bytes, crate::specs::Items::head_of, crate::specs::Writes::most_of, crate::specs::Writes::inked))]
+fn put_head(message: &mut [u8], ink: Option<usize>, item: Item, v: u16) -> Option<usize>
     requires { v ≤ most_of (items.head_of item) }
-    ensures { ink_is message.new result
-        ≡ inked (ink_is message.old ink) (items.head_bytes (items.head_of item) v) }
+    ensures { page message.new result
+        ≡ inked (page message.old ink) (items.head_bytes (items.head_of item) v) }
 {
     match item {
-        Item::Number => put_number(message, ink, v),
-        Item::UnitByte => put(message, ink, v as u8),
-        Item::Length => put_number(message, ink, v),
-        Item::Flags(_) => put(message, ink, v as u8),
-        Item::Schemas => put_number(message, ink, v),
-        Item::Uri => put_number(message, ink, v),
-        Item::Text => put_number(message, ink, v),
-        Item::Formats => put(message, ink, v as u8),
-        Item::NoFlags => ink,
-        Item::NoFormats => ink,
+        Item::UnitByte | Item::Flags(_) | Item::Formats => put(message, ink, v as u8),
+        Item::NoFlags | Item::NoFormats => ink,
+        _ => put_number(message, ink, v),
     }
 }
 
-// Bytes of those given.
-fn put_stretch(message: &mut [u8], ink: Ink, given: &[u8], from: usize, n: usize) -> Ink
-    requires { from + n ≤ length given.now }
-    ensures { ink_is message.new result
-        ≡ inked (ink_is message.old ink) (take n (drop from given.now)) }
+// Bytes one after another.
+fn put_stretch(message: &mut [u8], ink: Option<usize>, bytes: &[u8]) -> Option<usize>
+    ensures { page message.new result ≡ inked (page message.old ink) bytes.now }
 {
     let mut p = ink;
-    let mut i: usize = 0;
-    while i < n {
-        let x = given[from + i];
+    for &x in bytes {
         p = put(message, p, x);
-        i += 1;
     }
     p
 }
 
 // Zeros.
-fn put_zeros(message: &mut [u8], ink: Ink, n: usize) -> Ink
-    ensures { ink_is message.new result ≡ inked (ink_is message.old ink) (replicate n 0) }
+fn put_zeros(message: &mut [u8], ink: Option<usize>, n: usize) -> Option<usize>
+    ensures { page message.new result ≡ inked (page message.old ink) (replicate n 0) }
 {
     let mut p = ink;
-    let mut i: usize = 0;
-    while i < n {
+    for _ in 0..n {
         p = put(message, p, 0);
-        i += 1;
     }
     p
 }
 
-// Where a writing is: the next item, the words of codecs used, and how far the message is written.
+// Where a writing is: the next item, the words of codecs used, and where the next byte goes.
 #[derive(Clone, Copy)]
 pub struct Desk {
     pub phase: Phase,
     pub used: usize,
-    pub ink: Ink,
-}
-
-// What comes of one item: the next state, or number and place of a refusal.
-#[derive(Clone, Copy)]
-pub enum Step {
-    Go(Desk),
-    Refuse(u32, usize),
+    pub ink: Option<usize>,
 }
 
 // A word at an item's slot, 0 where there is none.
-fn word_in(slot: Slot, init: &[u32], codecs: &[u8], n: usize, used: usize, k: usize) -> u32
-    requires codecs { n ≤ length codecs.now / 4 }
+#[tactic(auto, unfolding(crate::specs::Write::word_in, crate::specs::Reads::slot_index))]
+fn word_in(slot: Slot, init: &[u32], codecs: &[u8], used: usize, k: usize) -> u32
     requires init { length init.now ≡ init_words }
-    requires small { (k < 2) × (used ≤ n) × (slot_index slot ≤ init_words) }
-    ensures { result ≡ meaning.word_in slot init.now (take n (words_of codecs.now)) used k }
+    requires small { (k < 2) × (used ≤ length codecs.now / 4) × (slot_index slot ≤ init_words) }
+    ensures { result ≡ meaning.word_in slot init.now (words_of codecs.now) used k }
 {
     match slot {
         Slot::Init(i) => {
             let j = i + k;
-            if j < init.len() {
-                return init[j];
-            }
-            0
+            if j < init.len() { init[j] } else { 0 }
         }
         Slot::Codecs => {
             let j = used + k;
-            if j < n {
-                return word(codecs, 4 * j);
+            if j < codecs.len() / 4 {
+                word(codecs, 4 * j)
+            } else {
+                0
             }
-            0
         }
-    }
-}
-
-// Whether an item has two words.
-fn is_two(item: Item) -> bool
-    ensures { result ≡ items.two item }
-{
-    match item {
-        Item::Number => false,
-        Item::UnitByte => false,
-        Item::Length => false,
-        Item::Flags(_) => true,
-        Item::Schemas => false,
-        Item::Uri => true,
-        Item::Text => true,
-        Item::Formats => true,
-        Item::NoFlags => true,
-        Item::NoFormats => false,
     }
 }
 
 // The words of an item.
+#[tactic(auto, unfolding(crate::specs::Items::two))]
 fn width_of(item: Item) -> usize
     ensures { (result ≡ meaning.width item) × (result ≤ 2) }
 {
-    if is_two(item) {
-        return 2;
+    match item {
+        Item::Flags(_) | Item::Uri | Item::Text | Item::Formats | Item::NoFlags => 2,
+        _ => 1,
     }
-    1
 }
 
-// The words of codecs used behind an item, or some of its words are missing.
-#[derive(Clone, Copy)]
-pub enum Room {
-    Used(usize),
-    Missing,
-}
-
-fn uses(slot: Slot, item: Item, n: usize, used: usize) -> Room
+// The words of codecs used behind an item, if its own are all there.
+#[tactic(auto, unfolding(crate::specs::Write::used_by, crate::specs::Write::there_of))]
+fn uses(slot: Slot, item: Item, n: usize, used: usize) -> Option<usize>
     requires { (used ≤ n) × (n ≤ most_word) }
     ensures { UsesIs slot item n used result }
 {
     match slot {
-        Slot::Init(_) => Room::Used(used),
+        Slot::Init(_) => Some(used),
         Slot::Codecs => {
             let w = width_of(item);
             if n - used < w {
-                return Room::Missing;
+                return None;
             }
-            Room::Used(used + w)
+            Some(used + w)
         }
     }
 }
 
 // A word's index.
+#[tactic(auto, unfolding(crate::specs::Write::index))]
 fn index(slot: Slot, used: usize) -> usize
     requires { used ≤ most_word }
     ensures { result ≡ meaning.index slot used }
@@ -338,59 +327,55 @@ fn index(slot: Slot, used: usize) -> usize
     }
 }
 
-// Whether a stretch ends among so many bytes given.
-fn ends_in(bytes: usize, a: u32, v: u32) -> bool
-    ensures { result ≡ leb (a + v) bytes }
-{
-    let end = (a as usize) + (v as usize);
-    end <= bytes
-}
-
 // Whether an item's stretch, if it has one, ends among the bytes given.
-fn lies_in(item: Item, bytes: usize, a: u32, v: u32) -> bool
+#[tactic(auto, unfolding(crate::specs::Write::lies_of, crate::specs::Write::content_of))]
+fn lies_in(item: Item, bytes: usize, a: u32, v: u16) -> bool
     ensures { result ≡ lies_of (meaning.content_of item) bytes a v }
 {
     match item {
-        Item::Number => true,
-        Item::UnitByte => true,
-        Item::Length => true,
-        Item::Flags(_) => true,
-        Item::Schemas => true,
-        Item::Uri => ends_in(bytes, a, v),
-        Item::Text => ends_in(bytes, a, v),
-        Item::Formats => ends_in(bytes, a, v),
-        Item::NoFlags => true,
-        Item::NoFormats => true,
+        Item::Uri | Item::Text | Item::Formats => a as usize + usize::from(v) <= bytes,
+        _ => true,
     }
 }
 
 // What follows an item's number.
-fn put_content(message: &mut [u8], ink: Ink, given: &[u8], item: Item, a: u32, v: u32) -> Ink
+#[tactic(auto, unfolding(crate::specs::Write::lies_of, crate::specs::Write::content_of, crate::specs::Write::content, crate::specs::Items::body, crate::specs::Writes::inked))]
+fn put_content(
+    message: &mut [u8],
+    ink: Option<usize>,
+    given: &[u8],
+    item: Item,
+    a: u32,
+    v: u16,
+) -> Option<usize>
     requires { lies_of (meaning.content_of item) (length given.now) a v ≡ true }
-    ensures { ink_is message.new result
-        ≡ inked (ink_is message.old ink)
+    ensures { page message.new result
+        ≡ inked (page message.old ink)
         (meaning.content (meaning.content_of item) given.now a v) }
 {
     match item {
-        Item::Number => ink,
-        Item::UnitByte => ink,
-        Item::Length => ink,
-        Item::Flags(_) => put_zeros(message, ink, body_of(item, v) as usize),
-        Item::Schemas => ink,
-        Item::Uri => put_stretch(message, ink, given, a as usize, v as usize),
-        Item::Text => put_stretch(message, ink, given, a as usize, v as usize),
-        Item::Formats => put_stretch(message, ink, given, a as usize, v as usize),
-        Item::NoFlags => ink,
-        Item::NoFormats => ink,
+        Item::Flags(_) => put_zeros(message, ink, usize::from(body_of(item, v))),
+        Item::Uri | Item::Text | Item::Formats => {
+            let from = a as usize;
+            put_stretch(message, ink, &given[from..from + usize::from(v)])
+        }
+        _ => ink,
     }
 }
 
 // An item's number and what follows it.
-fn put_item(message: &mut [u8], ink: Ink, given: &[u8], item: Item, a: u32, v: u32) -> Ink
+fn put_item(
+    message: &mut [u8],
+    ink: Option<usize>,
+    given: &[u8],
+    item: Item,
+    a: u32,
+    v: u16,
+) -> Option<usize>
     requires number { v ≤ most_of (items.head_of item) }
     requires lies { lies_of (meaning.content_of item) (length given.now) a v ≡ true }
-    ensures { ink_is message.new result
-        ≡ inked (ink_is message.old ink) (bytes_for item given.now a v) }
+    ensures { page message.new result
+        ≡ inked (page message.old ink) (bytes_for item given.now a v) }
 {
     let i = put_head(message, ink, item, v);
     put_content(message, i, given, item, a, v)
@@ -403,27 +388,28 @@ fn write_value(
     st: Desk,
     item: Item,
     a: u32,
-    v: u32,
+    v: u16,
     u: usize,
     at: usize,
-) -> Step
+) -> Result<Desk, Fault<usize>>
     requires number { v ≤ most_of (items.head_of item) }
     requires lies { grown st.phase v ≤ init_words }
     requires at { at ≤ init_words + most_word }
     ensures { Put item given.now st a v u at message.old result message.new }
 {
-    let phase = st.phase;
-    let ink = st.ink;
     if lies_in(item, given.len(), a, v) {
-        let i = put_item(message, ink, given, item, a, v);
-        let then = next(phase, v);
-        return Step::Go(Desk {
-            phase: then,
+        let ink = put_item(message, st.ink, given, item, a, v);
+        let phase = next(st.phase, v);
+        return Ok(Desk {
+            phase,
             used: u,
-            ink: i,
+            ink,
         });
     }
-    Step::Refuse(refusal::TEXT_BYTES, at + 1)
+    Err(Fault {
+        why: Refusal::TextBytes,
+        at: at + 1,
+    })
 }
 
 // An item written by its words a and b.
@@ -436,174 +422,152 @@ fn write_words(
     b: u32,
     u: usize,
     at: usize,
-) -> Step
+) -> Result<Desk, Fault<usize>>
     requires item { item ≡ item_of st.phase }
     requires lies { reach st.phase ≤ init_words }
     requires at { at ≤ init_words + most_word }
     ensures { Worded item given.now st a b u at message.old result message.new }
 {
     match value_of(item, a, b) {
-        Value::Wrong(e, k) => Step::Refuse(e, at + (k as usize)),
-        Value::Value(v) => write_value(given, message, st, item, a, v, u, at),
+        Err(fault) => Err(Fault {
+            why: fault.why,
+            at: at + usize::from(fault.at),
+        }),
+        Ok(v) => write_value(given, message, st, item, a, v, u, at),
     }
-}
-
-// The two words at an item's slot.
-#[derive(Clone, Copy)]
-pub struct Pair(pub u32, pub u32);
-
-fn pair_in(slot: Slot, init: &[u32], codecs: &[u8], n: usize, used: usize) -> Pair
-    requires codecs { n ≤ length codecs.now / 4 }
-    requires init { length init.now ≡ init_words }
-    requires small { (used ≤ n) × (slot_index slot ≤ init_words) }
-    ensures first { result.0 ≡ meaning.word_in slot init.now (take n (words_of codecs.now)) used 0 }
-    ensures second { result.1 ≡ meaning.word_in slot init.now (take n (words_of codecs.now)) used 1 }
-{
-    let a = word_in(slot, init, codecs, n, used, 0);
-    let b = word_in(slot, init, codecs, n, used, 1);
-    Pair(a, b)
 }
 
 // One item written.
 fn write_item(
     init: &[u32],
     codecs: &[u8],
-    n: usize,
     given: &[u8],
     message: &mut [u8],
     st: Desk,
-) -> Step
-    requires codecs { (n ≤ length codecs.now / 4) × (n ≤ most_word) }
+) -> Result<Desk, Fault<usize>>
+    requires codecs { length codecs.now / 4 ≤ most_word }
     requires init { length init.now ≡ init_words }
-    requires used { st.used ≤ n }
+    requires used { st.used ≤ length codecs.now / 4 }
     requires lies { reach st.phase ≤ init_words }
     requires goes { ends st.phase ≡ false }
     ensures { (m₀ : List ℕ) (answer : Writing)
-        → Writes init.now (take n (words_of codecs.now)) given.now m₀ answer st
-        message.old
-        → Stepped init.now (take n (words_of codecs.now)) given.now n m₀ answer st
-        result message.new }
+        → Writes init.now (words_of codecs.now) given.now m₀ answer st message.old
+        → Stepped init.now (words_of codecs.now) given.now (length codecs.now / 4) m₀
+        answer st result message.new }
 {
-    let phase = st.phase;
-    let used = st.used;
-    let r = row(phase);
-    let item = r.item;
-    let slot = r.slot;
-    match uses(slot, item, n, used) {
-        Room::Missing => Step::Refuse(refusal::NO_READING, limit::INIT_WORDS + n),
-        Room::Used(u) => {
-            let w = pair_in(slot, init, codecs, n, used);
-            let at = index(slot, used);
-            write_words(given, message, st, item, w.0, w.1, u, at)
+    let (item, slot) = row(st.phase);
+    let n = codecs.len() / 4;
+    match uses(slot, item, n, st.used) {
+        None => Err(Fault {
+            why: Refusal::NoReading,
+            at: limit::INIT_WORDS + n,
+        }),
+        Some(u) => {
+            let a = word_in(slot, init, codecs, st.used, 0);
+            let b = word_in(slot, init, codecs, st.used, 1);
+            let at = index(slot, st.used);
+            write_words(given, message, st, item, a, b, u, at)
         }
     }
 }
 
-// All items written: the words of codecs used and the ink, or number and place of a refusal.
-#[derive(Clone, Copy)]
-pub enum Wrote {
-    Done(usize, Ink),
-    Refuse(u32, usize),
-}
-
-// Item by item up to the end, or to a refusal.
-fn write_items(init: &[u32], codecs: &[u8], n: usize, given: &[u8], message: &mut [u8]) -> Wrote
-    requires codecs { (n ≤ length codecs.now / 4) × (n ≤ most_word) }
+// Item by item up to the end, or to a refusal at a word.
+fn write_items(
+    init: &[u32],
+    codecs: &[u8],
+    given: &[u8],
+    message: &mut [u8],
+) -> Result<Desk, Fault<usize>>
+    requires codecs { length codecs.now / 4 ≤ most_word }
     requires init { length init.now ≡ init_words }
-    ensures { Written message.old n (wholly init.now (take n (words_of codecs.now))
+    ensures { Written message.old (length codecs.now / 4) (wholly init.now (words_of codecs.now)
         given.now) result message.new }
 {
-    let ink = Ink { at: 0, full: false };
     let mut st = Desk {
         phase: Phase::Profile,
         used: 0,
-        ink,
+        ink: Some(0),
     };
-    loop {
-        let phase = st.phase;
-        let used = st.used;
-        let pen = st.ink;
-        if is_end(phase) {
-            return Wrote::Done(used, pen);
-        }
-        match write_item(init, codecs, n, given, message, st) {
-            Step::Refuse(e, k) => {
-                return Wrote::Refuse(e, k);
+    while !is_end(st.phase) {
+        match write_item(init, codecs, given, message, st) {
+            Err(fault) => {
+                return Err(fault);
             }
-            Step::Go(d) => {
-                st = d;
+            Ok(then) => {
+                st = then;
             }
         }
     }
+    Ok(st)
 }
 
 // A refusal leaves nothing but zeros.
-pub fn refuse(message: &mut [u8], number: u32, place: usize) -> Answer
-    ensures { made_is result message.new ≡ write_back (length message.old) (writings.refused number place) }
+#[tactic(auto, unfolding(crate::specs::Made::write_back, crate::specs::Back::number_in, crate::specs::Back::place_in, crate::specs::Back::count_in))]
+pub fn refuse(message: &mut [u8], why: Refusal, at: usize) -> Fault<usize>
+    ensures { made_is (Err result) message.new ≡ write_back (length message.old) (writings.refused (number_of why) at) }
 {
     clear(message);
-    Answer {
-        number,
-        place,
-        count: 0,
-    }
+    Fault { why, at }
 }
 
 // At the end of the items: no word of codecs may be left, and the message must have had room.
-fn finish(message: &mut [u8], n: usize, used: usize, ink: Ink) -> Answer
+#[tactic(auto, unfolding(crate::specs::Made::Closed, crate::specs::Made::ended, crate::specs::Back::number_in, crate::specs::Back::place_in, crate::specs::Back::count_in))]
+fn finish(
+    message: &mut [u8],
+    n: usize,
+    used: usize,
+    ink: Option<usize>,
+) -> Result<usize, Fault<usize>>
     requires { (used ≤ n) × (n ≤ most_word) }
-    ensures { Closed n used (ink_is message.old ink) (made_is result message.new) }
+    ensures { Closed n used (page message.old ink) (made_is result message.new) }
 {
     if used < n {
-        return refuse(message, refusal::NO_READING, limit::INIT_WORDS + used);
+        return Err(refuse(message, Refusal::NoReading, limit::INIT_WORDS + used));
     }
-    let full = ink.full;
-    if full {
-        return refuse(message, refusal::PAYLOAD_ROOM, 0);
-    }
-    let at = ink.at;
-    Answer {
-        number: refusal::ACCEPTED,
-        place: 0,
-        count: at,
+    match ink {
+        None => Err(refuse(message, Refusal::PayloadRoom, 0)),
+        Some(at) => Ok(at),
     }
 }
 
-// The items written on a cleared page.
-fn write_cleared(init: &[u32], codecs: &[u8], n: usize, given: &[u8], message: &mut [u8]) -> Answer
-    requires codecs { (n ≤ length codecs.now / 4) × (n ≤ most_word) }
-    requires init { (length init.now ≡ init_words) × (n ≡ get_or init.now 7 0) }
+// The items written on a cleared page: all words of codecs are the message's.
+fn write_cleared(
+    init: &[u32],
+    codecs: &[u8],
+    given: &[u8],
+    message: &mut [u8],
+) -> Result<usize, Fault<usize>>
+    requires codecs { (length codecs.now / 4 ≡ get_or init.now 7 0) × (length codecs.now / 4 ≤ most_word) }
+    requires init { length init.now ≡ init_words }
     requires zeros { message.old ≡ replicate (length message.old) 0 }
     ensures { made_is result message.new
         ≡ write_back (length message.old)
         (init_write init.now (words_of codecs.now) given.now
         (length message.old)) }
 {
-    match write_items(init, codecs, n, given, message) {
-        Wrote::Refuse(e, k) => refuse(message, e, k),
-        Wrote::Done(used, ink) => finish(message, n, used, ink),
+    match write_items(init, codecs, given, message) {
+        Err(fault) => Err(refuse(message, fault.why, fault.at)),
+        Ok(st) => finish(message, codecs.len() / 4, st.used, st.ink),
     }
 }
 
-// A word as a count.
-fn count_of(x: u32) -> usize
-    ensures { (result ≡ x) × (result ≤ most_word) }
-{
-    x as usize
-}
-
-// A message written from the words of init and of codecs, whose stretches lie in the bytes given.
-pub fn write(init: &[u32], codecs: &[u8], given: &[u8], message: &mut [u8]) -> Answer
+// A message written from the words of init and of codecs, whose stretches lie in the bytes given: how many bytes, or a refusal at a word.
+pub fn write(
+    init: &[u32],
+    codecs: &[u8],
+    given: &[u8],
+    message: &mut [u8],
+) -> Result<usize, Fault<usize>>
     requires { length init.now ≡ init_words }
     ensures { made_is result message.new
         ≡ write_back (length message.old)
         (init_write init.now (words_of codecs.now) given.now
         (length message.old)) }
 {
-    let n = count_of(init[7]);
+    let n = init[7] as usize;
     if codecs.len() / 4 < n {
-        return refuse(message, refusal::NO_READING, 7);
+        return Err(refuse(message, Refusal::NoReading, 7));
     }
     clear(message);
-    write_cleared(init, codecs, n, given, message)
+    write_cleared(init, &codecs[..4 * n], given, message)
 }

@@ -14,13 +14,6 @@ use Rattle.list.specs.Digits.{IsPrefixLen, last_digits, IsDigitCount}
 use Rattle.signed.proofs.Laws.{ordered}
 use Rattle.list.specs.Text.{places, decimal}
 
-pub put-more : (o s out : List ℕ) (at i : ℕ) → at + i < length o → i < length s → out ≡ paste o at s i → set out (at + i) (get_or s i 0) ≡ paste o at s (i + 1)
-put-more o s out at i h g e = ap (λ (x : List ℕ). set x (at + i) (get_or s i 0)) e ∙ paste-suc o at s i 0 h g ∙ ap (paste o at s) (sym (add-one i))
-
-pub put_all : (o s out : List ℕ) (at i : ℕ) → at ≤ length o → i ≡ length s → out ≡ paste o at s i → take (at + length s) out ≡ take at o ++ s
-put_all o s out at i h n e =
-    ap (λ (x : List ℕ). take (at + length s) x) (e ∙ ap (paste o at s) n) ∙ take-paste o at s (length s) h (omega arith) ∙ ap (λ (x : List ℕ). take at o ++ x) (take-length s)
-
 -- a power of ten is 10 or more
 ten : (k : ℕ) → 10 ≤ 10 ^ suc k
 ten zero = omega arith

@@ -15,8 +15,7 @@ use Rattle.table.specs.First.{first, judge, ◌then◌}
 use Rattle.table.specs.Valid.{given, header_words, verdict, verdict_from, length_right, form_size}
 use Rattle.model.specs.Whole.{Reply, reading, after_verdict}
 use Rattle.model.specs.Whole.Reply.{declined}
-use Rattle.reader.specs.Answers.{Replies}
-use Rattle.reader.specs.declared.Answer.{Answer}
+use Rattle.reader.specs.Answers.{Answer, Replies}
 use Rattle.buffers.specs.Bytes.{half_from, words_of}
 use Rattle.buffers.proofs.BytesLaws.{words-length}
 use Rattle.list.specs.Listing.{count_in, name_at, type_at, payload_at, table_in, payload_in, listed, listing}

@@ -4,8 +4,7 @@ use Rattle.numbers.specs.Refusal as refusal
 use Rattle.numbers.specs.Limit.{most_table_words}
 use Rattle.model.specs.Whole.{Reply, reading}
 use Rattle.model.specs.Whole.Reply.{declined}
-use Rattle.reader.specs.Answers.{Replies}
-use Rattle.reader.specs.declared.Answer.{Answer}
+use Rattle.reader.specs.Answers.{Answer, Replies}
 use Rattle.buffers.specs.Bytes.{word_from, half_from, words_of}
 
 -- the word count, and where the root name, the root type and the payload stand behind the words

@@ -3,8 +3,7 @@ use Rattle.std.specs.Prelude.{ℕ, zero, suc, ◌/◌, ◌≡◌, cond, List, []
 use Rattle.std.proofs.Common.{ap₂}
 use Rattle.list.specs.Digits.{last_digits}
 use Rattle.model.specs.Whole.{Outcome, outcome, events_left}
-use Rattle.reader.specs.Answers.{answer_is, Replies}
-use Rattle.reader.specs.declared.Answer.{Answer}
+use Rattle.reader.specs.Answers.{Answer, answer_is, Replies}
 use Rattle.list.specs.Ascii.{ascii}
 use Rattle.list.specs.Listing.{listing}
 

@@ -5,13 +5,13 @@ ghost use Rattle.list.specs.Listing as meaning;
 
 use buffers::{half, load, word};
 use numbers::limit;
-use reader::{Answer, read};
+use reader::{Reading, Refused, read};
 
 // The listing is party 0's.
 const LISTED_FOR: u32 = 0;
 
 // A table of no words.
-fn unread(input: &[u8], events: &mut [u32], texts: &mut [u8]) -> Answer
+fn unread(input: &[u8], events: &mut [u32], texts: &mut [u8]) -> Result<Reading, Refused>
     ensures { meaning.Answers meaning.unread
         events.old texts.old result events.new texts.new }
 {
@@ -34,7 +34,12 @@ fn payload_end(from: usize, size: usize) -> usize
 }
 
 // The parts behind a count of n words.
-fn read_parts(input: &[u8], n: usize, events: &mut [u32], texts: &mut [u8]) -> Answer
+fn read_parts(
+    input: &[u8],
+    n: usize,
+    events: &mut [u32],
+    texts: &mut [u8],
+) -> Result<Reading, Refused>
     requires { (n ≤ most_table_words) × (meaning.payload_at n ≤ length input.now) }
     ensures { meaning.Answers (meaning.listed input.now n)
         events.old texts.old result events.new texts.new }
@@ -58,7 +63,7 @@ fn read_parts(input: &[u8], n: usize, events: &mut [u32], texts: &mut [u8]) -> A
 }
 
 // The whole input.
-pub fn read_input(input: &[u8], events: &mut [u32], texts: &mut [u8]) -> Answer
+pub fn read_input(input: &[u8], events: &mut [u32], texts: &mut [u8]) -> Result<Reading, Refused>
     ensures { meaning.Answers (meaning.listing input.now)
         events.old texts.old result events.new texts.new }
 {

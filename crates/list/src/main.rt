@@ -9,8 +9,7 @@ ghost use Rattle.std.specs.Prelude.{IfOk};
 ghost use Rattle.list.specs.Digits.{IsPrefixLen};
 
 use listing::read_input;
-use numbers::{limit, refusal};
-use reader::Answer;
+use numbers::limit;
 use std::io;
 use std::io::Read;
 use text::{event_line, heading, refusal as refusal_line};
@@ -26,15 +25,8 @@ fn print_event(rt: &impl Print, kind: u32, p: u32, q: u32, bits: u32) -> io::Res
 
 // A line for each of n events.
 fn print_events(rt: &impl Print, events: &[u32], n: usize) -> io::Result<()> {
-    let mut left = n;
-    let mut i = 0;
-    while i + 3 < events.len() {
-        if left == 0 {
-            return Ok(());
-        }
-        print_event(rt, events[i], events[i + 1], events[i + 2], events[i + 3])?;
-        left -= 1;
-        i += 4;
+    for event in events.chunks_exact(4).take(n) {
+        print_event(rt, event[0], event[1], event[2], event[3])?;
     }
     Ok(())
 }
@@ -71,10 +63,11 @@ fn main(rt: HostRuntime) -> io::Result<()> {
     let n = read_full(&mut rt.stdin(), &mut input)?;
     let mut events = [0u32; limit::MOST_EVENT_WORDS];
     let mut texts = [0u8; limit::MOST_PAYLOAD];
-    let a = read_input(&input[..n], &mut events, &mut texts);
-    if a.number != refusal::ACCEPTED {
-        return print_refusal(&rt, a.number, a.place);
+    match read_input(&input[..n], &mut events, &mut texts) {
+        Err(r) => print_refusal(&rt, r.fault.why.number(), r.fault.at),
+        Ok(a) => {
+            print_heading(&rt, a.events, a.text.0, a.bits.0)?;
+            print_events(&rt, &events, a.events as usize)
+        }
     }
-    print_heading(&rt, a.events, a.text.0, a.bits.0)?;
-    print_events(&rt, &events, a.events as usize)
 }

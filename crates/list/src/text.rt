@@ -11,12 +11,9 @@ fn put(out: &mut [u8], at: usize, s: &[u8]) -> usize
     ensures place { result ≡ at + length s.now }
     ensures added { take result out.new ≡ take at out.old ++ s.now }
 {
-    let mut i = 0;
-    while i < s.len() {
-        out[at + i] = s[i];
-        i += 1;
-    }
-    at + s.len()
+    let end = at + s.len();
+    out[at..end].copy_from_slice(s);
+    end
 }
 
 // A number in decimal.

@@ -11,8 +11,7 @@ use Rattle.wire.specs.Width.{width, least_from}
 use Rattle.wire.specs.Number.{code5, code_of5, more}
 use Rattle.signed.specs.Words.{sign_of, magnitude_of}
 use Rattle.value.specs.Code.{Code, HasCode, choice, five, signed, some, shifted, stamp, word_less, choice_bits, bits_of}
-use Rattle.calendar.specs.declared.Day.{Day}
-use Rattle.calendar.specs.declared.Day.TheVariants.{Number, Nothing}
+use Rattle.std.specs.Prelude.{Option, Some, None}
 use Rattle.value.specs.Dates.{day_in, clock_in, stamp_bits, day_bits}
 use Rattle.value.specs.Simple.{one_of, Simple, bytes, SimpleIs, a_code, a_text, a_date}
 use Rattle.model.specs.Model.{Item, event, Types, codes, sends, chosen, default_type, effective_type, Plan, Nodes, tree_bits as total, event_of}
@@ -42,11 +41,11 @@ five-bits : (v : ℕ) → Bits (code5 v)
 unfolding code5
 five-bits v = groups-bits (more 7 v) v
 
-day-bits : (clock : Bool) (d : Day) (ms : ℕ) → Bits (day_bits clock d ms)
+day-bits : (clock : Bool) (d : Option ℕ) (ms : ℕ) → Bits (day_bits clock d ms)
 unfolding day_bits stamp_bits
-day-bits true (Number n) ms = bits-append (digits 32 n) (digits 32 ms) (digits-bits 32 n) (digits-bits 32 ms)
-day-bits false (Number n) ms = bits-append (digits 32 n) [] (digits-bits 32 n) tt
-day-bits clock Nothing ms = tt
+day-bits true (Some n) ms = bits-append (digits 32 n) (digits 32 ms) (digits-bits 32 n) (digits-bits 32 ms)
+day-bits false (Some n) ms = bits-append (digits 32 n) [] (digits-bits 32 n) tt
+day-bits clock None ms = tt
 
 code-bits : (c : Code) (v : ℕ) → Bits (bits_of c v)
 unfolding bits_of

@@ -5,4 +5,5 @@ pub mod Limit
 pub mod Mode
 pub mod Particle
 pub mod Refusal
+pub mod Refused
 pub mod Simple

@@ -1,70 +1,93 @@
 // What a call answers. "Item" is the bits of one event in the reader, the event's index in the writer: where the refusal is.
+ghost use Rattle.std.specs.Prelude.{◌≡◌};
+ghost use Rattle.numbers.specs.Refused.{number_of};
 
 // Nothing is refused.
 pub const ACCEPTED: u32 = 0;
-// The table is malformed.
-pub const TABLE: u32 = 1;
-// The root type is not in the table, or the root name is over MOST_NAME.
-pub const ROOT: u32 = 2;
-// The payload is empty or over MOST_PAYLOAD bytes.
-pub const PAYLOAD_SIZE: u32 = 3;
-// The mode byte is none of 0F, 4F, 8F.
-pub const MODE_BYTE: u32 = 4;
-// An item passes the innermost declared end, or the payload's.
-pub const PAST_END: u32 = 5;
-// More than MOST_OPEN elements and particle rows are open.
-pub const DEPTH: u32 = 6;
-// There is no room for the event.
-pub const EVENT_ROOM: u32 = 7;
-// There is no room for the text.
-pub const TEXT_ROOM: u32 = 8;
-// A type is not held and no length is coded; in the writer, any Start of a type not held.
-pub const NOT_HELD: u32 = 9;
-// TheLength passes the enclosing end.
-pub const LENGTH: u32 = 10;
-// Content ends before its declared end.
-pub const CONTENT_SHORT: u32 = 11;
-// A number is not in shortest form; a TheLength may be padded.
-pub const NOT_SHORTEST: u32 = 12;
-// A number is too large.
-pub const TOO_LARGE: u32 = 13;
-// A code names nothing.
-pub const NO_SUCH_CODE: u32 = 14;
-// A signed number is minus zero.
-pub const MINUS_ZERO: u32 = 15;
-// A text is not UTF-8.
-pub const NOT_UTF8: u32 = 16;
-// 8 or more bits are left after the root, or a 1 among them.
-pub const LEFT_OVER: u32 = 17;
-// The list is no reading of the content model, or no whole list of at most MOST_EVENTS events.
-pub const NO_READING: u32 = 18;
-// A Blank stands in a list to be written.
-pub const BLANK: u32 = 19;
-// A value, branch or count lies outside its row.
-pub const OUTSIDE_ROW: u32 = 20;
-// The payload is over MOST_PAYLOAD bytes or the lent room.
-pub const PAYLOAD_ROOM: u32 = 21;
-// The write mode is over 2.
-pub const WRITE_MODE: u32 = 22;
-// Text bytes are short, or left over.
-pub const TEXT_BYTES: u32 = 23;
-// The area has not the bytes it must have.
-pub const AREA_SIZE: u32 = 24;
-// A text has a control character: a byte below 32 that is none of tab, line feed and carriage return.
-pub const CONTROL: u32 = 25;
-// The party is none of PARTIES.
-pub const PARTY: u32 = 26;
-// Reserved bits of a start-up message are not ones.
-pub const RESERVED_BITS: u32 = 28;
-// A start-up message has no schemas.
-pub const NO_SCHEMAS: u32 = 29;
-// A start-up message has over MOST_SCHEMAS schemas.
-pub const MANY_SCHEMAS: u32 = 30;
-// The check of a block of a shelf file is wrong.
-pub const BLOCK_CHECK: u32 = 31;
-// A block's number is out of turn.
-pub const BLOCK_TURN: u32 = 32;
-// A shelf file or a stream of records is not laid out as it must be.
-pub const BLOCK_LAYOUT: u32 = 33;
-// A start-up message's flag for advanced decoders or additional schemas is set.
-pub const ADVANCED_FLAG: u32 = 34;
+
+// Why a call refuses.
+#[derive(Clone, Copy, Debug, PartialEq, Eq)]
+pub enum Refusal {
+    // The table is malformed.
+    Table = 1,
+    // The root type is not in the table, or the root name is over MOST_NAME.
+    Root = 2,
+    // The payload is empty or over MOST_PAYLOAD bytes.
+    PayloadSize = 3,
+    // The mode byte is none of 0F, 4F, 8F.
+    ModeByte = 4,
+    // An item passes the innermost declared end, or the payload's.
+    PastEnd = 5,
+    // More than MOST_OPEN elements and particle rows are open.
+    Depth = 6,
+    // There is no room for the event.
+    EventRoom = 7,
+    // There is no room for the text.
+    TextRoom = 8,
+    // A type is not held and no length is coded; in the writer, any Start of a type not held.
+    NotHeld = 9,
+    // TheLength passes the enclosing end.
+    Length = 10,
+    // Content ends before its declared end.
+    ContentShort = 11,
+    // A number is not in shortest form; a TheLength may be padded.
+    NotShortest = 12,
+    // A number is too large.
+    TooLarge = 13,
+    // A code names nothing.
+    NoSuchCode = 14,
+    // A signed number is minus zero.
+    MinusZero = 15,
+    // A text is not UTF-8.
+    NotUtf8 = 16,
+    // 8 or more bits are left after the root, or a 1 among them.
+    LeftOver = 17,
+    // The list is no reading of the content model, or no whole list of at most MOST_EVENTS events.
+    NoReading = 18,
+    // A Blank stands in a list to be written.
+    Blank = 19,
+    // A value, branch or count lies outside its row.
+    OutsideRow = 20,
+    // The payload is over MOST_PAYLOAD bytes or the lent room.
+    PayloadRoom = 21,
+    // The write mode is over 2.
+    WriteMode = 22,
+    // Text bytes are short, or left over.
+    TextBytes = 23,
+    // The area has not the bytes it must have.
+    AreaSize = 24,
+    // A text has a control character: a byte below 32 that is none of tab, line feed and carriage return.
+    Control = 25,
+    // The party is none of PARTIES.
+    Party = 26,
+    // Reserved bits of a start-up message are not ones.
+    ReservedBits = 28,
+    // A start-up message has no schemas.
+    NoSchemas = 29,
+    // A start-up message has over MOST_SCHEMAS schemas.
+    ManySchemas = 30,
+    // The check of a block of a shelf file is wrong.
+    BlockCheck = 31,
+    // A block's number is out of turn.
+    BlockTurn = 32,
+    // A shelf file or a stream of records is not laid out as it must be.
+    BlockLayout = 33,
+    // A start-up message's flag for advanced decoders or additional schemas is set.
+    AdvancedFlag = 34,
+}
+
+// What is refused at a place: bits of a payload, an event of a list, a word of a table, a byte or a block.
+#[derive(Clone, Copy)]
+pub struct Fault<P> {
+    pub why: Refusal,
+    pub at: P,
+}
+
+impl Refusal {
+    // The number of the interface.
+    pub fn number(self) -> u32
+        ensures { result ≡ number_of self }
+    {
+        self as u32
+    }
+}

@@ -4,7 +4,9 @@ use mathlib.Core.Path.{◌≡◌, refl, sym, ap, ◌∙◌, subst}
 use mathlib.Core.Logic.{inl, inr}
 use mathlib.Core.List.{List}
 use native.Mathlib.Omega.{arith}
-use Rattle.numbers.specs.Refusal as refusal
+use Rattle.std.specs.Prelude.{Ok, Err}
+use Rattle.numbers.specs.declared.refusal.Refusal.TheVariants as refusal
+use Rattle.numbers.specs.declared.refusal.Fault.{Fault}
 use Rattle.numbers.specs.Kind as kinds
 use Rattle.wire.specs.Bits.{bit_at}
 use Rattle.wire.specs.declared.Bits.{Bits}
@@ -31,11 +33,9 @@ use Rattle.reader_parts.specs.declared.Cursor.{Cursor}
 use Rattle.reader_parts.proofs.Laws.{outcome-none}
 use Rattle.reader.proofs.RowLaws.{row-for, list-lies, run-one}
 use Rattle.reader.specs.Meaning.{ReadyFor, Fits, Holds, Lies, row·, runs·, list·, choose·, occur·}
-use Rattle.reader.specs.Groups.{Reading, group_at, group_view, Placed, Groups, aim_view, Narrows, Aims}
+use Rattle.reader.specs.Groups.{Group, Reading, group_at, group_view, Placed, Groups, aim_view, Narrows, Aims}
 use Rattle.reader.specs.declared.groups.Aim.{Aim}
 use Rattle.reader.specs.declared.groups.Aim.TheVariants as aim
-use Rattle.reader.specs.declared.groups.Group.{Group}
-use Rattle.reader.specs.declared.groups.Group.TheVariants as group
 use Rattle.reader.specs.declared.groups.Run.{Run}
 
 -- rows, case by case
@@ -74,7 +74,7 @@ module _ (t : List ℕ) (d : ℕ) (x : Run) (valid : verdict t ≡ right) (lies 
           ∙ after-done r _
           ∙ ap (λ (q : table.Row). row· t s mode d q r π wall at) (row-for t s mode wall 0 0 ready 0 0 x.first first-in ∙ element-here))
 
-      pub narrow-deep : d ≡ 0 → Narrows t d x (aim.Refuse refusal.depth x.cursor.at)
+      pub narrow-deep : d ≡ 0 → Narrows t d x (aim.Refuse record { why = refusal.Depth; at = x.cursor.at })
       unfolding aim_view row· outcome
       narrow-deep z = record {
         says = λ s mode wall ready π E T.
@@ -126,11 +126,11 @@ module _ (t s : List ℕ) (d wall : ℕ) (c : Cursor) (E : List ℕ) (row : code
       grouped : (p : Group) → g ≡ p → group_view K p π E₁ T ≡ outcome (row· t s mode (suc d) (row_is row) (room_of E T c) π wall c.at.0) c π E T
       grouped p i = rw i at (h.says K T π) ∙ ap (λ (o : Answer). outcome o c π E T) group-is
 
-    pub reach-refuse : (n : ℕ) (p : Bits) → g ≡ group.Refuse n p → Aims t s d (row_is row) wall c E (aim.Refuse n p) E₁
+    pub reach-refuse : (f : Fault Bits) → g ≡ Err f → Aims t s d (row_is row) wall c E (aim.Refuse f) E₁
     unfolding aim_view group_view
-    reach-refuse n p i = record { says = λ mode ready T π. grouped mode T π (group.Refuse n p) i; aimed = tt }
+    reach-refuse f i = record { says = λ mode ready T π. grouped mode T π (Err f) i; aimed = tt }
 
-    module _ (a : Run) (i : g ≡ group.Rows a) (fit : Fits (types_in t) (particles_in t) (row_is row)) where
+    module _ (a : Run) (i : g ≡ Ok a) (fit : Fits (types_in t) (particles_in t) (row_is row)) where
       pub rows_lie : Lies (particles_in t) a.first a.step a.count
       rows_lie = subst (λ (q : Group). Placed (particles_in t) q) i (h.placed (types_in t) (particles_in t) fit)
 
@@ -140,7 +140,7 @@ module _ (t s : List ℕ) (d wall : ℕ) (c : Cursor) (E : List ℕ) (row : code
         says = λ mode ready T π.
             n.says s mode wall ready π E₁ T
             ∙ ap (λ (o : Answer). outcome o a.cursor π E₁ T) (list-lies t s mode wall 0 0 ready d a.first a.step a.count rows_lie (room_of E₁ T a.cursor) π a.cursor.at.0)
-            ∙ grouped mode T π (group.Rows a) i;
+            ∙ grouped mode T π (Ok a) i;
         aimed = n.aimed;
       }
 

@@ -5,6 +5,8 @@ use mathlib.Core.List.{List, [], ◌∷◌, ◌++◌, reverse, reverse-cons}
 use native.Mathlib.Omega.{arith}
 use mathlib.Core.Bool.{true, false}
 use lib.ListN.{get_or, replicate}
+use Rattle.std.specs.Prelude.{Ok, Err}
+use Rattle.numbers.specs.Refused.{number_of}
 use Rattle.model.specs.Whole.{lengths_number, mode_number, Reply, declined, declines, outcome, events_left, texts_left}
 use Rattle.model.specs.Modes.{lengths_is, mode_is}
 use Rattle.model.specs.declared.Lengths.{Lengths}
@@ -13,8 +15,9 @@ use Rattle.model.specs.declared.Mode.{Mode}
 use Rattle.reader_parts.specs.Paths.{back, names_of}
 use Rattle.reader_parts.specs.declared.Cursor.{Cursor}
 use Rattle.reader_parts.specs.declared.Path.{Path}
-use Rattle.reader.specs.declared.Answer as code
-use Rattle.reader.specs.Answers.{first_names, path_is, answer_is, Replies, told}
+use Rattle.reader.specs.declared.Reading.{Reading}
+use Rattle.reader.specs.declared.Refused.{Refused}
+use Rattle.reader.specs.Answers.{Answer, first_names, path_is, answer_is, Replies, told}
 
 -- the meaning's path, the innermost first, turned round
 pub path-outward : (p : Path) → reverse (names_of p) ≡ path_is p
@@ -30,7 +33,7 @@ unfolding first_names
 no-path p z = rw z
 
 -- a refusal, with both buffers zero
-pub declined-replies : (R : Reply) (words bytes n p : ℕ) (π : List ℕ) (r : code.Answer) (E T : List ℕ) → R ≡ declined n p π → answer_is r ≡ declines n p π
+pub declined-replies : (R : Reply) (words bytes n p : ℕ) (π : List ℕ) (r : Answer) (E T : List ℕ) → R ≡ declined n p π → answer_is r ≡ declines n p π
     → E ≡ replicate words 0 → T ≡ replicate bytes 0 → Replies R words bytes r E T
 unfolding outcome events_left texts_left
 declined-replies R words bytes n p π r E T e a x y = record { answer = rw e a; events_left_lem = rw e x; texts_left_lem = rw e y }
@@ -49,7 +52,7 @@ module _ (lengths : Lengths) where
   unfolding lengths_number lengths_is
   number-always e = rw e
 
-pub ruleset lengths-ways = (number-never, number-optional, number-always)
+pub ruleset lengths_ways = (number-never, number-optional, number-always)
 
 -- the mode's, by whether type codes are sent
 few : (l : Lengths) → lengths_number (lengths_is l) < 3
@@ -70,10 +73,12 @@ module _ (mode : Mode) (n : ℕ) (e : n ≡ lengths_number (lengths_is mode.leng
   unfolding mode_number
   number-plain h = rw h (omega (arith, e))
 
-pub ruleset number-ways = (number_fits, number-casting, number-plain)
+pub ruleset number_ways = (number_fits, number-casting, number-plain)
 
 -- an acceptance, field by field
-pub told-all : (mode : Mode) (c : Cursor) (path : Path) (r : code.Answer) → r.number ≡ 0 → r.place ≡ 0 → r.mode ≡ mode_number (mode_is mode) → r.events ≡ c.count
-    → r.text.0 ≡ c.used → r.bits.0 ≡ c.at.0 → r.path ≡ path → answer_is r ≡ told mode c path
-told-all mode c path r n p m e t b q =
-    λ i. record { number = n i; place = p i; mode = m i; events = e i; text = t i; bits = b i; path = path_is (q i) }
+pub told_all : (mode : Mode) (c : Cursor) (r : Reading) → r.mode ≡ mode_number (mode_is mode) → r.events ≡ c.count → r.text.0 ≡ c.used → r.bits.0 ≡ c.at.0 → answer_is (Ok r) ≡ told mode c
+told_all mode c r m e t b = λ i. record { number = 0; place = 0; mode = m i; events = e i; text = t i; bits = b i; path = [] }
+
+-- a refusal
+pub refused-nowhere : (r : Refused) → r.path.count ≡ 0 → answer_is (Err r) ≡ declines (number_of r.fault.why) r.fault.at []
+refused-nowhere r z = ap (λ (π : List ℕ). declines (number_of r.fault.why) r.fault.at π) (no-path r.path z)

@@ -2,15 +2,14 @@
 use Prim.Native.Nat.{ℕ, suc, ◌+◌, ◌-◌, ◌*◌, ◌<◌, ◌≤◌}
 use mathlib.Core.Path.{◌≡◌, refl, sym, ◌∙◌, subst}
 use mathlib.Core.List.{List}
-use mathlib.Core.Bool.{Bool, true, false}
+use mathlib.Core.Bool.{Bool}
 use native.Mathlib.Omega.{arith}
 use lib.ListN.{length}
 use Rattle.numbers.specs.Limit.{most_names}
 use Rattle.wire.specs.Bits.{bit_at}
-use Rattle.wire.specs.Answer.{read_is}
+use Rattle.std.specs.Prelude.{Ok}
+use Rattle.wire.specs.Answer.{Read, read_is}
 use Rattle.wire.specs.declared.Bits.{Bits}
-use Rattle.wire.specs.declared.Read as code·read
-use Rattle.wire.specs.declared.Read.TheVariants.{Value}
 use Rattle.value.specs.Code.{choice_at}
 use Rattle.table.specs.First.Verdict.{right}
 use Rattle.table.specs.Valid.{verdict}
@@ -28,7 +27,7 @@ use Rattle.table.specs.declared.answers.Particle.TheVariants.{Element, Sequence,
 use Rattle.model.specs.Model.{Types}
 use Rattle.model.specs.Modes.{types_by}
 use Rattle.model.specs.declared.Mode.{Mode}
-use Rattle.reader_parts.specs.Heads.{Within, Heads}
+use Rattle.reader_parts.specs.Heads.{Head, Within, Heads}
 use Rattle.reader_parts.specs.Opening.{row_choices, Below, Opens}
 use Rattle.reader_parts.specs.Paths.{Pushed}
 use Rattle.reader_parts.specs.declared.Cursor.{Cursor}
@@ -36,7 +35,7 @@ use Rattle.reader_parts.specs.declared.Inner.{Inner}
 use Rattle.reader_parts.specs.declared.Opened.{Opened}
 use Rattle.reader_parts.specs.declared.Opened.TheVariants.{In}
 use Rattle.reader_parts.specs.declared.Head as code·head
-use Rattle.reader_parts.specs.declared.Head.TheVariants.{Bare, Sized, Wrong}
+use Rattle.reader_parts.specs.declared.Head.TheVariants.{Bare, Sized}
 use Rattle.reader_parts.specs.declared.Path.{Path}
 use Rattle.reader_parts.proofs.CodeWays.{choice-in, codes-known}
 use Rattle.reader_parts.proofs.OpeningWays.{row-owned}
@@ -52,8 +51,6 @@ use Rattle.reader.specs.declared.groups.Aim.TheVariants as aim
 use Rattle.reader.specs.declared.groups.Target.{Target}
 use Rattle.reader.specs.declared.groups.Run.{Run}
 use Rattle.reader.specs.declared.entering.Extent.{Extent}
-use Rattle.reader.specs.declared.entering.Reach.{Reach}
-use Rattle.reader.specs.declared.entering.Reach.TheVariants.{To}
 
 module _ (t s : List ℕ) (mode : Mode) (wall n d : ℕ) (h : ReadyFor t s mode wall n d) where
   -- a row is opened; so is an element, which takes a place of the path
@@ -67,18 +64,13 @@ module _ (t s : List ℕ) (mode : Mode) (wall n d : ℕ) (h : ReadyFor t s mode 
   ready-element z = record { valid = h.valid; choosing = h.choosing; party_known = h.party_known; walls = h.walls; places = omega (arith, h.places) }
 
   -- an element's own end is the wall of what is inside it
-  pub ready-end : (b : ℕ → ℕ) (at : ℕ) (x : code·head.Head) (w : Bits) (r : Reach) (y : Extent) → Heads mode.lengths b wall at x → w.0 ≡ wall → r ≡ reach_of x w → r ≡ To y
+  pub ready-end : (b : ℕ → ℕ) (at : ℕ) (x : Head) (w : Bits) (u : code·head.Head) (y : Extent) → Heads mode.lengths b wall at x → w.0 ≡ wall → x ≡ Ok u → y ≡ reach_of u w
       → ReadyFor t s mode y.wall.0 n d
-  ready-end b at x w r y e g f i = go x e.within (sym i ∙ f)
+  ready-end b at x w u y e g i f = go u (subst (λ (q : Head). Within wall q) i e.within) f
     where
-      go : (a : code·head.Head) → Within wall a → To y ≡ reach_of a w → ReadyFor t s mode y.wall.0 n d
-      go (Bare body) k j =
-          let z : y ≡ record { coded = false; body = body; wall = w } = cc in
-          rw (z, g) h
-      go (Sized body end) k j =
-          let z : y ≡ record { coded = true; body = body; wall = end } = cc in
-          rw z (record { valid = h.valid; choosing = h.choosing; party_known = h.party_known; walls = omega (arith, h.walls); places = h.places })
-      go (Wrong m) k j = let z : ◌≡◌ {A = ℕ} 0 1 = cc in absurd (omega arith)
+      go : (a : code·head.Head) → Within wall (Ok a) → y ≡ reach_of a w → ReadyFor t s mode y.wall.0 n d
+      go (Bare body) k j = rw (j, g) h
+      go (Sized body end) k j = rw j (record { valid = h.valid; choosing = h.choosing; party_known = h.party_known; walls = omega (arith, h.walls); places = h.places })
 
   -- what the rows name is there
   pub type-held : (ty : ℕ) → ty < types_in t → TypeInside t ty
@@ -101,7 +93,7 @@ module _ (t s : List ℕ) (mode : Mode) (wall n d : ℕ) (h : ReadyFor t s mode 
       (k.below (types_in t) (codes-known t h.valid (row_choices mode.choices row) ty row (bit_at s) end body g (row-owned mode.choices row (particles_in t) w)))
 
 -- the branch that a choice names
-pub branch_row : (P first n : ℕ) (b : ℕ → ℕ) (wall at : ℕ) (r : code·read.Read) (v : ℕ) (q : Bits) → first + n ≤ P → read_is r ≡ choice_at b n wall at → r ≡ Value v q → first + v < P
+pub branch_row : (P first n : ℕ) (b : ℕ → ℕ) (wall at : ℕ) (r : Read) (v : ℕ) (q : Bits) → first + n ≤ P → read_is r ≡ choice_at b n wall at → r ≡ Ok (v, q) → first + v < P
 unfolding read_is
 branch_row P first n b wall at r v q h e g = let k = (choice-in b n wall at).says (v, q.0) (sym e ∙ rw g) in omega arith
 
@@ -138,21 +130,21 @@ module _ (t : List ℕ) (name ty i jump n : ℕ) (h : KnownRows t name ty i jump
   pub known_owned : Owned (particles_in t) i
   known_owned = split.1
 
-  pub known-rest : KnownRows t name ty (i + jump) jump (n - 1)
-  known-rest = split.3
+  pub known-rest : (m : ℕ) → m ≡ n - 1 → KnownRows t name ty (i + jump) jump m
+  known-rest m e = rw e split.3
 
 -- an element that has rows
 module _ (t s : List ℕ) (mode : Mode) (wall n d : ℕ) (h : ReadyFor t s mode wall n d) where
   pub entry_ready : (name : ℕ) (y : Types) (c : Cursor) (E T : List ℕ) (e : Entered) (E' T' : List ℕ) (x : Entry) → Enters t s mode name y wall c E T e E' T' → e ≡ entered.In x → (m : ℕ) → m < d
-      → ReadyFor t s mode x.wall.0 (n + 1) m
+      → ReadyFor t s mode x.extent.wall.0 (n + 1) m
   entry_ready name y c E T e E' T' x k f m z =
       let a = subst (λ (q : Entered). Rowing (particles_in t) (8 * length s) q) f k.rowing in
       record { valid = h.valid; choosing = h.choosing; party_known = h.party_known; walls = a.1; places = omega (arith, h.places) }
 
   pub entry_known : (name : ℕ) (y : Types) (c : Cursor) (E T : List ℕ) (e : Entered) (E' T' : List ℕ) (x : Entry) → Enters t s mode name y wall c E T e E' T' → e ≡ entered.In x
-      → KnownRows t 0 0 x.first x.step x.count
+      → KnownRows t 0 0 x.rows.first x.rows.step x.rows.count
   entry_known name y c E T e E' T' x k f =
-      known-lies t s mode wall n d h x.first x.step x.count (subst (λ (q : Entered). Rowing (particles_in t) (8 * length s) q) f k.rowing).0
+      known-lies t s mode wall n d h x.rows.first x.rows.step x.rows.count (subst (λ (q : Entered). Rowing (particles_in t) (8 * length s) q) f k.rowing).0
 
   -- what a row came to
   pub aim-known : (e : ℕ) (row : Row) (c : Cursor) (E : List ℕ) (g : Aim) (E' : List ℕ) (x : Run) → Aims t s e row wall c E g E' → g ≡ aim.Rows x → KnownRows t 0 0 x.first x.step x.count

@@ -4,6 +4,10 @@ use mathlib.Core.Path.{◌≡◌, refl, sym, ap, ◌∙◌}
 use mathlib.Core.List.{List, ◌∷◌}
 use mathlib.Core.Bool.{Bool, true, false}
 use native.Mathlib.Omega.{arith}
+use Rattle.std.specs.Prelude.{Ok, Err}
+use Rattle.numbers.specs.Refused.{number_of}
+use Rattle.numbers.specs.declared.refusal.Refusal.{Refusal}
+use Rattle.numbers.specs.declared.refusal.Fault.{Fault}
 use Rattle.wire.specs.Bits.{bit_at}
 use Rattle.wire.specs.Res.{Res, got, fault}
 use Rattle.wire.specs.declared.Bits.{Bits}
@@ -26,17 +30,15 @@ use Rattle.model.specs.Read.{Room, after, code, opened, read}
 use Rattle.model.proofs.Join.{after-after}
 use Rattle.model.proofs.Steps as steps-laws
 use Rattle.reader_parts.specs.Opening.{becomes, behind_head, rest_of, opened_view, Opens}
-use Rattle.reader_parts.specs.Heads.{head_is, Heads}
-use Rattle.reader_parts.specs.Out.{room_of, step_view, outcome, ending, own_value, Reads, Closes}
+use Rattle.reader_parts.specs.Heads.{Head, head_is, Heads}
+use Rattle.reader_parts.specs.Out.{Step, room_of, step_view, outcome, ending, own_value, Reads, Closes}
 use Rattle.reader_parts.specs.Parts.{before_rows}
 use Rattle.reader_parts.specs.declared.Inner.{Inner}
 use Rattle.reader_parts.specs.declared.Opened.{Opened}
 use Rattle.reader_parts.specs.declared.Opened.TheVariants as opened
 use Rattle.reader_parts.specs.declared.Cursor.{Cursor}
 use Rattle.reader_parts.specs.declared.Head as code·head
-use Rattle.reader_parts.specs.declared.Head.TheVariants.{Bare, Sized, Wrong}
-use Rattle.reader_parts.specs.declared.Step.{Step}
-use Rattle.reader_parts.specs.declared.Step.TheVariants as step
+use Rattle.reader_parts.specs.declared.Head.TheVariants.{Bare, Sized}
 use Rattle.reader_parts.proofs.Laws.{did-stop, outcome-go, outcome-stop, after-go, after_next}
 use Rattle.reader.proofs.Asked.{content-row}
 use Rattle.reader.proofs.RowLaws.{content-lies, content-below}
@@ -46,42 +48,39 @@ use Rattle.reader.specs.declared.entering.Entered.{Entered}
 use Rattle.reader.specs.declared.entering.Entered.TheVariants.{Refuse, Done, Full, In}
 use Rattle.reader.specs.declared.entering.Entry.{Entry}
 use Rattle.reader.specs.declared.entering.Extent.{Extent}
-use Rattle.reader.specs.declared.entering.Reach.{Reach}
-use Rattle.reader.specs.declared.entering.Reach.TheVariants as reach
 
 -- what a head says, case by case
 module _ (h : code·head.Head) (wall : Bits) where
-  pub reached-wrong : (n : ℕ) → h ≡ Wrong n → reach.Wrong n ≡ reach_of h wall
-  reached-wrong n g = rw g
-
-  pub reached-bare : (body : Bits) → h ≡ Bare body → reach.To record { coded = false; body = body; wall = wall } ≡ reach_of h wall
+  pub reached-bare : (body : Bits) → h ≡ Bare body → record { coded = false; body = body; wall = wall } ≡ reach_of h wall
   reached-bare body g = rw g
 
-  pub reached-sized : (body end : Bits) → h ≡ Sized body end → reach.To record { coded = true; body = body; wall = end } ≡ reach_of h wall
+  pub reached-sized : (body end : Bits) → h ≡ Sized body end → record { coded = true; body = body; wall = end } ≡ reach_of h wall
   reached-sized body end g = rw g
 
-pub ruleset reached-ways = (reached-wrong, reached-bare, reached-sized)
+pub ruleset reached_ways = (reached-bare, reached-sized)
 
 -- filled, case by case
 module _ (s : Step) where
-  pub filled-go : (c : Cursor) → s ≡ step.Go c → Done c ≡ filled_by s
+  pub filled-go : (c : Cursor) → s ≡ Ok c → Done c ≡ filled_by s
   filled-go c g = rw g
 
-  pub filled-refuse : (n : ℕ) (at : Bits) → s ≡ step.Refuse n at → Full n at ≡ filled_by s
-  filled-refuse n at g = rw g
+  pub filled-refuse : (e : Fault Bits) → s ≡ Err e → Full e ≡ filled_by s
+  filled-refuse e g = rw g
 
-pub ruleset filled-ways = (filled-go, filled-refuse)
+pub ruleset filled_ways = (filled-go, filled-refuse)
 
 -- an element with rows, case by case
-module _ (c : Cursor) (i : ℕ) (coded : Bool) (body wall : Bits) where
-  pub rows-sequence : (p : code·particle.Particle) (first n : ℕ) → p ≡ Sequence first n → entry_of c (first, 1, n, 1) coded body wall ≡ entry_of c (rows_of i (row_is p)) coded body wall
+module _ (c : Cursor) (i : ℕ) (extent : Extent) where
+  pub rows-sequence : (p : code·particle.Particle) (first n : ℕ) → p ≡ Sequence first n → entry_of c (first, 1, n, 1) extent ≡ entry_of c (rows_of i (row_is p)) extent
   rows-sequence p first n g = rw g
 
-  pub rows-one : (p : code·particle.Particle) → ((a b : ℕ) → p ≡ Sequence a b → ⊥) → entry_of c (i, 0, 1, 0) coded body wall ≡ entry_of c (rows_of i (row_is p)) coded body wall
+  pub rows-one : (p : code·particle.Particle) → ((a b : ℕ) → p ≡ Sequence a b → ⊥) → entry_of c (i, 0, 1, 0) extent ≡ entry_of c (rows_of i (row_is p)) extent
   rows-one (Element a b e) z = refl
   rows-one (Sequence a b) z = absurd (z a b refl)
   rows-one (Choice a b) z = refl
   rows-one (Occurs a b e) z = refl
+
+pub ruleset rows_ways = (rows-sequence, rows-one)
 
 module _ {A : Type 0} (x : Res A) (π : List ℕ) (at : ℕ) (k : A → Answer) where
   pub code-fault : (n : ℕ) → x ≡ fault n → code x π at k ≡ refused n at π
@@ -147,7 +146,7 @@ module _ (t s : List ℕ) (mode : Mode) (wall : Bits) (ready : ReadyFor t s mode
       go (table.Content.simple x y z) i = refl
       go (table.Content.particles i) j = absurd (g i j)
 
-  module _ (g : NoRows ((table_of t).content ty)) (z : Cursor) (i : o ≡ step.Go z) (a : Step) (E₂ : List ℕ) (q : Closes coded body wall.0 z E₁ a E₂) where
+  module _ (g : NoRows ((table_of t).content ty)) (z : Cursor) (i : o ≡ Ok z) (a : Step) (E₂ : List ℕ) (q : Closes coded body wall.0 z E₁ a E₂) where
     ended : (d : ℕ) (ρ : List ℕ) → step_view a ρ E₂ T₁ ≡ outcome (Whole d ρ) c ρ E T
     unfolding whole·
     ended d ρ =
@@ -160,12 +159,12 @@ module _ (t s : List ℕ) (mode : Mode) (wall : Bits) (ready : ReadyFor t s mode
     fill_end r j = rw j (go a refl)
       where
         go : (b : Step) → a ≡ b → Filled (filled_by b) E₂ T₁
-        go (step.Go y) m = record {
+        go (Ok y) m = record {
           says = λ d name π. ap (λ (x : Step). step_view x π E₂ T₁) (sym m) ∙ outcome-go a (name ∷ π) E₂ T₁ (Whole d (name ∷ π)) c (name ∷ π) E T (ended d (name ∷ π)) y m π;
           rowing = tt;
         }
-        go (step.Refuse n p) m = record {
-          says = λ d name π. ap (λ (x : Step). step_view x (name ∷ π) E₂ T₁) (sym m) ∙ outcome-stop a (name ∷ π) E₂ T₁ (Whole d (name ∷ π)) c (name ∷ π) E T (ended d (name ∷ π)) n p m π;
+        go (Err f) m = record {
+          says = λ d name π. ap (λ (x : Step). step_view x (name ∷ π) E₂ T₁) (sym m) ∙ outcome-stop a (name ∷ π) E₂ T₁ (Whole d (name ∷ π)) c (name ∷ π) E T (ended d (name ∷ π)) f m π;
           rowing = tt;
         }
 
@@ -177,24 +176,24 @@ module _ (t s : List ℕ) (mode : Mode) (wall : Bits) (ready : ReadyFor t s mode
       ∙ rw g (λ j. after R (read B M H (model.attributes (D.attributes ty) done) R ρ wall.0 at) (λ u p. steps-laws.content-particles B M H D u ρ wall.0 p d i j))
 
   -- refused before its rows
-  pub fill_stop : (n : ℕ) (p : Bits) (r : Entered) → o ≡ step.Refuse n p → r ≡ filled_by o → Filled r E₁ T₁
+  pub fill_stop : (f : Fault Bits) (r : Entered) → o ≡ Err f → r ≡ filled_by o → Filled r E₁ T₁
   unfolding entered_view outcome whole· after
-  fill_stop n p r i j = rw (j, i) (record { says = λ d name π. ap (λ (x : Answer). outcome x c π E T) (sym (whole-stop d (name ∷ π))); rowing = tt })
+  fill_stop f r i j = rw (j, i) (record { says = λ d name π. ap (λ (x : Answer). outcome x c π E T) (sym (whole-stop d (name ∷ π))); rowing = tt })
     where
-      stop : (ρ : List ℕ) → Before ρ ≡ refused n p.0 ρ
-      stop ρ = did-stop o ρ E₁ T₁ (Before ρ) c ρ E T (h.says M H ρ) n p i
+      stop : (ρ : List ℕ) → Before ρ ≡ refused (number_of f.why) f.at.0 ρ
+      stop ρ = did-stop o ρ E₁ T₁ (Before ρ) c ρ E T (h.says M H ρ) f i
 
-      inside-stop : (d : ℕ) (ρ : List ℕ) (q : table.Content) → (table_of t).content ty ≡ q → inside· t s mode d ty R ρ wall.0 at ≡ refused n p.0 ρ
+      inside-stop : (d : ℕ) (ρ : List ℕ) (q : table.Content) → (table_of t).content ty ≡ q → inside· t s mode d ty R ρ wall.0 at ≡ refused (number_of f.why) f.at.0 ρ
       inside-stop d ρ table.Content.empty g = inside-all (rw g empty-rows) d ρ ∙ stop ρ
       inside-stop d ρ (table.Content.simple a b y) g = inside-all (rw g (simple-rows a b y)) d ρ ∙ stop ρ
       inside-stop d ρ (table.Content.particles a) g = inside-rows a g d ρ ∙ rw (stop ρ)
 
-      whole-stop : (d : ℕ) (ρ : List ℕ) → Whole d ρ ≡ refused n p.0 ρ
+      whole-stop : (d : ℕ) (ρ : List ℕ) → Whole d ρ ≡ refused (number_of f.why) f.at.0 ρ
       whole-stop d ρ = rw (inside-stop d ρ ((table_of t).content ty) refl)
 
   -- its rows are next
-  pub fill-rows : (z : Cursor) (k : code·content.Content) (i : ℕ) (p : code·particle.Particle) (x : Entry) → o ≡ step.Go z → content_is k ≡ (table_of t).content ty → k ≡ Particles i → row_is p ≡ (table_of t).row i
-      → x ≡ entry_of z (rows_of i (row_is p)) coded record { 0 = body } wall → Filled (In x) E₁ T₁
+  pub fill-rows : (z : Cursor) (k : code·content.Content) (i : ℕ) (p : code·particle.Particle) (x : Entry) → o ≡ Ok z → content_is k ≡ (table_of t).content ty → k ≡ Particles i → row_is p ≡ (table_of t).row i
+      → x ≡ entry_of z (rows_of i (row_is p)) record { coded = coded; body = record { 0 = body }; wall = wall } → Filled (In x) E₁ T₁
   unfolding entered_view rest_by· whole·
   fill-rows z k i p x j e g a m = rw m (record { says = λ d name π. says d (name ∷ π) π; rowing = (content-lies t s mode wall.0 0 0 ready i inside (row_is p) a, ready.walls) })
     where
@@ -214,8 +213,8 @@ module _ (t s : List ℕ) (mode : Mode) (wall : Bits) (ready : ReadyFor t s mode
 pub ruleset fill-ways = (fill_end, fill_stop, fill-rows)
 
 -- an element, by its head and what that says
-module _ (t s : List ℕ) (mode : Mode) (wall : ℕ) (c : Cursor) (E T : List ℕ) (name : ℕ) (y : Types) (x : code·head.Head) (e : Heads mode.lengths (bit_at s) wall c.at.0 x)
-    (outer : Bits) (u : outer.0 ≡ wall) (r : Reach) (f : r ≡ reach_of x outer) where
+module _ (t s : List ℕ) (mode : Mode) (wall : ℕ) (c : Cursor) (E T : List ℕ) (name : ℕ) (y : Types) (x : Head) (e : Heads mode.lengths (bit_at s) wall c.at.0 x)
+    (outer : Bits) (u : outer.0 ≡ wall) where
   abbrev Comes : Entered → List ℕ → List ℕ → Type 0
   Comes w E' T' = Enters t s mode name y wall c E T w E' T'
 
@@ -225,58 +224,45 @@ module _ (t s : List ℕ) (mode : Mode) (wall : ℕ) (c : Cursor) (E T : List �
   head-here : (h : Res items.Head) → head_is x ≡ h → head_at (lengths t s mode) (bit_at s) wall c.at.0 ≡ h
   head-here h g = sym e.says ∙ g
 
-  wrong-here : (n : ℕ) → x ≡ Wrong n → (d : ℕ) (π : List ℕ) → Elem d π ≡ refused n c.at.0 π
-  unfolding element· head_is
-  wrong-here n g d π = code-fault _ π c.at.0 _ n (head-here (fault n) (rw g))
+  pub enter-wrong : (n : Refusal) → x ≡ Err n → Comes (Refuse record { why = n; at = c.at }) E T
+  unfolding element· head_is entered_view outcome
+  enter-wrong n g =
+      record { says = λ d π. ap (λ (o : Answer). outcome o c π E T) (sym (code-fault _ π c.at.0 _ (number_of n) (head-here (fault (number_of n)) (rw g)))); rowing = tt }
 
-  pub enter-wrong : (n : ℕ) → r ≡ reach.Wrong n → Comes (Refuse n c.at) E T
-  unfolding entered_view outcome
-  enter-wrong n g = record { says = λ d π. ap (λ (o : Answer). outcome o c π E T) (sym (go d π x refl (sym g ∙ f))); rowing = tt }
-    where
-      go : (d : ℕ) (π : List ℕ) (a : code·head.Head) → x ≡ a → reach.Wrong n ≡ reach_of a outer → Elem d π ≡ refused n c.at.0 π
-      go d π (Bare body) i h = let b : ◌≡◌ {A = ℕ} 0 1 = cc in absurd (omega arith)
-      go d π (Sized body end) i h = let b : ◌≡◌ {A = ℕ} 0 1 = cc in absurd (omega arith)
-      go d π (Wrong v) i h = let b : v ≡ n = cc in wrong-here n (i ∙ ap Wrong b) d π
-
-  module _ (z : Extent) (g : r ≡ reach.To z) where
+  module _ (a : code·head.Head) (g : x ≡ Ok a) (z : Extent) (f : z ≡ reach_of a outer) where
     abbrev behind : ℕ → List ℕ → Answer
     behind d π = behind_head name z.coded z.body.0 z.wall.0 y (bit_at s) (held_of t mode.party) (inside· t s mode d) (room_of E T c) π c.at.0
 
     here : (d : ℕ) (π : List ℕ) → Elem d π ≡ behind d π
     unfolding element· head_is opened behind_head becomes
-    here d π = go x refl (sym g ∙ f)
+    here d π = go a g f
       where
-        go : (a : code·head.Head) → x ≡ a → reach.To z ≡ reach_of a outer → Elem d π ≡ behind d π
-        go (Bare body) i h =
-            let b : z ≡ record { coded = false; body = body; wall = outer } = cc in
-            rw (b, u) (code_got _ π c.at.0 _ _ (head-here (got (items.Head.bare body.0)) (rw i)))
-        go (Sized body end) i h =
-            let b : z ≡ record { coded = true; body = body; wall = end } = cc in
-            rw b (code_got _ π c.at.0 _ _ (head-here (got (items.Head.sized body.0 end.0)) (rw i)))
-        go (Wrong n) i h = let b : ◌≡◌ {A = ℕ} 0 1 = cc in absurd (omega arith)
+        go : (b : code·head.Head) → x ≡ Ok b → z ≡ reach_of b outer → Elem d π ≡ behind d π
+        go (Bare body) i h = rw (h, u) (code_got _ π c.at.0 _ _ (head-here (got (items.Head.bare body.0)) (rw i)))
+        go (Sized body end) i h = rw h (code_got _ π c.at.0 _ _ (head-here (got (items.Head.sized body.0 end.0)) (rw i)))
 
     -- what became of it behind its head
     module _ (o : Opened) (E₁ : List ℕ) (q : Opens name z.coded z.body.0 z.wall.0 y (bit_at s) (held_of t mode.party) c E o E₁) where
       came : (p : Opened) → o ≡ p → (d : ℕ) (π : List ℕ)
           → opened_view name z.coded z.body.0 z.wall.0 (rest_of name z.coded z.body.0 z.wall.0 (inside· t s mode d)) p π E₁ T ≡ outcome (Elem d π) c π E T
-      came p i d π = rw i at (q.says (inside· t s mode d) T π) ∙ ap (λ (a : Answer). outcome a c π E T) (sym (here d π))
+      came p i d π = rw i at (q.says (inside· t s mode d) T π) ∙ ap (λ (k : Answer). outcome k c π E T) (sym (here d π))
 
-      pub enter-refuse : (n : ℕ) (p : Bits) → o ≡ opened.Refuse n p → Comes (Refuse n p) E₁ T
+      pub enter-refuse : (b : Fault Bits) → o ≡ opened.Refuse b → Comes (Refuse b) E₁ T
       unfolding opened_view entered_view
-      enter-refuse n p i = record { says = came (opened.Refuse n p) i; rowing = tt }
-
-      pub enter-blank : (a : Cursor) → o ≡ opened.Blank a → Comes (Done a) E₁ T
-      unfolding opened_view entered_view
-      enter-blank a i = record { says = came (opened.Blank a) i; rowing = tt }
+      enter-refuse b i = record { says = came (opened.Refuse b) i; rowing = tt }
 
       -- its name is in the path of a refusal from Start on
-      pub enter-full : (n : ℕ) (p : Bits) → o ≡ opened.Full n p → Comes (Full n p) E₁ T
+      pub enter-full : (b : Fault Bits) → o ≡ opened.Full b → Comes (Full b) E₁ T
       unfolding opened_view entered_view
-      enter-full n p i = record { says = came (opened.Full n p) i; rowing = tt }
+      enter-full b i = record { says = came (opened.Full b) i; rowing = tt }
 
-      pub enter-in : (a : Inner) (w : Entered) (E₂ T₂ : List ℕ) → o ≡ opened.In a
-          → Fills t s mode a.effective z.coded z.body.0 z.wall.0 a.cursor E₁ T w E₂ T₂ → Comes w E₂ T₂
+      pub enter-blank : (k : Cursor) → o ≡ opened.Blank k → Comes (Done k) E₁ T
+      unfolding opened_view entered_view
+      enter-blank k i = record { says = came (opened.Blank k) i; rowing = tt }
+
+      pub enter-in : (k : Inner) (w : Entered) (E₂ T₂ : List ℕ) → o ≡ opened.In k
+          → Fills t s mode k.effective z.coded z.body.0 z.wall.0 k.cursor E₁ T w E₂ T₂ → Comes w E₂ T₂
       unfolding opened_view rest_of whole·
-      enter-in a w E₂ T₂ i h = record { says = λ d π. h.says d name π ∙ came (opened.In a) i d π; rowing = h.rowing }
+      enter-in k w E₂ T₂ i h = record { says = λ d π. h.says d name π ∙ came (opened.In k) i d π; rowing = h.rowing }
 
-pub ruleset enter-ways = (enter-wrong, enter-refuse, enter-blank, enter-full, enter-in)
+pub ruleset enter-ways = (enter-wrong, enter-refuse, enter-full, enter-blank, enter-in)

@@ -1,82 +1,62 @@
 -- A walk's answer as a step with the path that is to be told: by the walk itself, or by who opened the innermost element.
-use Prim.Native.Nat.{ℕ, ◌+◌, ◌<◌, ◌≤◌}
-use mathlib.Core.Path.{◌≡◌, refl, ◌∙◌}
+use Prim.Native.Nat.{ℕ, ◌+◌, ◌<◌}
+use mathlib.Core.Path.{◌≡◌, refl, ap, ◌∙◌}
 use mathlib.Core.List.{List, ◌∷◌}
-use native.Mathlib.Omega.{arith}
-use native.Mathlib.Decide.{ℕ_discrete}
-use lib.ListN.{length, get_or, set}
-use lib.Seq.{ext_get_or, get_or-set_same, get_or-set_other}
+use lib.ListN.{length, set}
+use Rattle.std.specs.Prelude.{Result, Ok, Err}
+use Rattle.numbers.specs.declared.refusal.Fault.{Fault}
 use Rattle.wire.specs.declared.Bits.{Bits}
 use Rattle.reader_parts.proofs.Laws.{outcome-go, outcome-stop}
-use Rattle.reader_parts.specs.Out.{step_view}
+use Rattle.reader_parts.specs.Out.{Step, step_view}
 use Rattle.reader_parts.proofs.PathLaws.{back-push}
 use Rattle.reader_parts.specs.Paths.{back, names_of}
 use Rattle.reader_parts.specs.declared.Cursor.{Cursor}
 use Rattle.reader_parts.specs.declared.Path.{Path}
-use Rattle.reader_parts.specs.declared.Step.{Step}
-use Rattle.reader_parts.specs.declared.Step.TheVariants as step·is
-use Rattle.reader.specs.declared.refusal_path.Walk.{Walk}
-use Rattle.reader.specs.declared.refusal_path.Walk.TheVariants.{Go, Refuse, Told}
-use Rattle.reader.specs.RefusalPath.{walks, step_of, view, Named}
+use Rattle.reader.specs.declared.refusal_path.Halt.{Halt}
+use Rattle.reader.specs.declared.refusal_path.Halt.TheVariants.{Untold, Told}
+use Rattle.reader.specs.RefusalPath.{Walk, walks, step_of, view, Named}
+
+-- a refusal, by what its one field is
+pub err_is : {T E : Type 0} {r : Result T E} {x : E} (y : E) → r ≡ Err x → x ≡ y → r ≡ Err y
+err_is y e f = e ∙ ap Err f
 
 -- a walk that did not go on
 pub record Stopped (w : Walk) : Type 0 where
-  pub number : ℕ
-  pub place : Bits
-  pub refused : step_of w ≡ step·is.Refuse number place
+  pub fault : Fault Bits
+  pub refused : step_of w ≡ Err fault
 
-pub stopped : (w : Walk) → ((c : Cursor) → w ≡ Go c → ⊥) → Stopped w
-stopped (Go c) z = absurd (z c refl)
-stopped (Refuse n at) z = record { number = n; place = at; refused = refl }
-stopped (Told n at k) z = record { number = n; place = at; refused = refl }
+pub halted : (e : Halt) → Stopped (Err e)
+halted (Untold e) = record { fault = e; refused = refl }
+halted (Told e k) = record { fault = e; refused = refl }
+
+-- one that is not Ok
+pub halts : (w : Walk) → ((c : Cursor) → w ≡ Ok c → ⊥) → Stopped w
+halts (Ok c) z = absurd (z c refl)
+halts (Err h) z = halted h
 
 -- a leaf speaks for every path
 pub leaf-view : (s : Step) (w : Walk) → w ≡ walks s → (π N E T : List ℕ) → view w π N E T ≡ step_view s π E T
-leaf-view (step·is.Go c) w g π N E T = rw g
-leaf-view (step·is.Refuse n at) w g π N E T = rw g
-
--- walked, case by case
-module _ (s : Step) where
-  pub walked-go : (c : Cursor) → s ≡ step·is.Go c → Go c ≡ walks s
-  walked-go c g = rw g
-
-  pub walked-refuse : (n : ℕ) (at : Bits) → s ≡ step·is.Refuse n at → Refuse n at ≡ walks s
-  walked-refuse n at g = rw g
-
-pub ruleset walked-ways = (walked-go, walked-refuse)
-
--- copied: so many names are over
-abbrev pub Over : List ℕ → List ℕ → ℕ → Type 0
-Over a b i = (k : ℕ) → k < i → get_or a k 0 ≡ get_or b k 0
-
-pub over-more : (a b : List ℕ) (i : ℕ) → Over a b i → i < length a → Over (set a i (get_or b i 0)) b (i + 1)
-over-more a b i f h k g =
-    elim (ℕ_discrete k i) [
-      | yes e ↦ rw e (get_or-set_same a i (get_or b i 0) 0 h)
-      | no e ↦ get_or-set_other a i k (get_or b i 0) 0 e ∙ f k (omega arith)
-    ]
-
-pub over-all : (a b : List ℕ) (i : ℕ) → length a ≡ length b → Over a b i → length a ≤ i → a ≡ b
-over-all a b i e f h = ext_get_or 0 a b e (λ k g. f k (omega arith))
+leaf-view (Ok c) w g π N E T = rw g
+leaf-view (Err e) w g π N E T = rw g
 
 -- named, case by case
 module _ (name : ℕ) (path : Path) (w : Walk) (N : List ℕ) where
   abbrev π : List ℕ
   π = names_of path
 
-  pub named-go : (c : Cursor) → w ≡ Go c → Named name π w N (Go c) N
-  named-go c g = record { says = λ o d E T E' T' h. outcome-go (step·is.Go c) (name ∷ π) E' T' o d (name ∷ π) E T (rw g at h) c refl π }
+  pub named-go : (c : Cursor) → w ≡ Ok c → Named name π w N (Ok c) N
+  named-go c g = record { says = λ o d E T E' T' h. outcome-go (Ok c) (name ∷ π) E' T' o d (name ∷ π) E T (rw g at h) c refl π }
 
-  pub named-told : (n : ℕ) (at : Bits) (k : ℕ) → w ≡ Told n at k → Named name π w N (Told n at k) N
-  named-told n at k g = record { says = λ o d E T E' T' h. outcome-stop (step·is.Refuse n at) (back N k) E' T' o d (name ∷ π) E T (rw g at h) n at refl π }
+  pub named-told : (e : Fault Bits) (k : ℕ) → w ≡ Err (Told e k) → Named name π w N (Err (Told e k)) N
+  named-told e k g = record { says = λ o d E T E' T' h. outcome-stop (Err e) (back N k) E' T' o d (name ∷ π) E T (rw g at h) e refl π }
 
   -- N₁ are the path's names, copied
-  pub named_here : (n : ℕ) (at : Bits) (N₁ : List ℕ) → w ≡ Refuse n at → N₁ ≡ path.names → path.count < length N₁ → Named name π w N (Told n at (path.count + 1)) (set N₁ path.count name)
+  pub named_here : (e : Fault Bits) (N₁ : List ℕ) → w ≡ Err (Untold e) → N₁ ≡ path.names → path.count < length N₁ → Named name π w N (Err (Told e (path.count + 1))) (set N₁ path.count name)
   unfolding names_of
-  named_here n at N₁ g e k = record {
+  named_here f N₁ g e k = record {
     says = λ o d E T E' T' h.
         rw (pushed)
-        (outcome-stop (step·is.Refuse n at) (name ∷ π) E' T' o d (name ∷ π) E T (rw g at h) n at refl π);
+        (outcome-stop (Err f) (name ∷ π) E' T' o d (name ∷ π) E T (rw g at h) f refl π);
   }
     where
       pushed : back (set N₁ path.count name) (path.count + 1) ≡ name ∷ back path.names path.count

@@ -37,4 +37,4 @@ module _ (s : List ℕ) (at wall : ℕ) (w : wall ≡ 8 * length s) where
       pub rest-again : x ≤ 0 → Left s at wall (p + 1)
       rest-again g = inv ∙ rw one_more (zeros-more (bit_at s) p (wall - (p + 1)) (omega arith))
 
-pub ruleset rest-ways = (rest-none, rest-long, rest-start, rest_end, rest-one, rest-again)
+pub ruleset rest_ways = (rest-none, rest-long, rest-start, rest_end, rest-one, rest-again)

@@ -1,13 +1,17 @@
 -- The ways through the entry: each answer that a reading can come to, as the code comes to it.
 use Prim.Native.Nat.{ℕ, ◌-◌, ◌*◌, ◌/◌, ◌<◌, ◌≤◌, min}
 use mathlib.Core.Path.{◌≡◌, refl, sym, ap, ◌∙◌, subst}
-use mathlib.Core.List.{List, [], reverse}
+use mathlib.Core.List.{List, []}
 use mathlib.Core.Bool.{Bool, true, false}
 use native.Mathlib.Omega.{arith}
 use lib.ListN.{length, replicate, length-replicate}
 use lib.Seq.{sets}
+use Rattle.std.specs.Prelude.{Ok, Err}
 use Rattle.numbers.specs.Refusal as refusal
 use Rattle.numbers.specs.Refusal.{payload_size, left_over}
+use Rattle.numbers.specs.Refused.{number_of}
+use Rattle.numbers.specs.declared.refusal.Refusal.{Refusal}
+use Rattle.numbers.specs.declared.refusal.Fault.{Fault}
 use Rattle.numbers.specs.Limit.{most_events, most_name, most_open, most_payload, most_text, parties}
 use Rattle.wire.specs.Bits.{bit_at}
 use Rattle.wire.proofs.BitLaws.{bit-lt}
@@ -18,10 +22,9 @@ use Rattle.table.specs.First.Verdict.{right}
 use Rattle.table.specs.Valid.{verdict}
 use Rattle.table.specs.Words.{types_in}
 use Rattle.table.specs.Rows.{table_of, held_of}
-use Rattle.table.specs.Views.{verdict_is}
+use Rattle.table.specs.Views.{Checked, verdict_is}
 use Rattle.model.proofs.Join.{after-done}
-use Rattle.table.specs.declared.answers.Verdict as code·verdict
-use Rattle.table.specs.declared.answers.Verdict.TheVariants.{Right, Wrong}
+use Rattle.table.specs.declared.answers.Flaw.{Flaw}
 use Rattle.model.specs.Model.{Nodes, Answer, events, texts, tree_slots, tree_bytes}
 use Rattle.model.specs.Model.Answer.{given}
 use Rattle.model.specs.Read as model
@@ -46,16 +49,12 @@ use Rattle.reader_parts.specs.Out.{room_of, outcome}
 use Rattle.reader_parts.specs.Paths.{back, names_of}
 use Rattle.reader_parts.specs.declared.Cursor.{Cursor}
 use Rattle.reader_parts.specs.declared.Path.{Path}
-use Rattle.reader_parts.specs.declared.Step.TheVariants as step
-use Rattle.reader.specs.declared.Answer as code
-use Rattle.reader.specs.declared.front.Found.{Found}
-use Rattle.reader.specs.declared.front.Found.TheVariants as found
+use Rattle.reader.specs.Answers as reply
 use Rattle.reader.specs.Answers.{path_is, answer_is, Replies, told}
-use Rattle.reader.proofs.Answers.{path-outward, no-path, declined-replies}
-use Rattle.reader.specs.Front.{found_is, Chooses, Finds}
-use Rattle.reader.specs.RefusalPath.{view}
-use Rattle.reader.specs.declared.refusal_path.Walk.{Walk}
-use Rattle.reader.specs.declared.refusal_path.Walk.TheVariants.{Go, Refuse, Told}
+use Rattle.reader.proofs.Answers.{path-outward, declined-replies}
+use Rattle.reader.specs.Front.{Found, found_is, Chooses, Finds}
+use Rattle.reader.specs.RefusalPath.{Walk, view}
+use Rattle.reader.specs.declared.refusal_path.Halt.TheVariants.{Untold, Told}
 use Rattle.reader.specs.Meaning.{ReadyFor, KnownRows, Walks, row_for, inside·, element·, row·, list·}
 use Rattle.reader.specs.Cleared.{Zeros}
 
@@ -121,8 +120,8 @@ module _ (t s : List ℕ) (party name ty : ℕ) (mode : Mode) (h : Entered t par
       ∙ (λ i. outcome (list· t s mode name ty most_open no_row 0 1 (room-is i) (no_names i) (x i) (c8 i)) c (no_names i) E T)
       ∙ ap (λ (a : Answer). outcome a c [] E T) root-read
 
-  went_on : (d : Cursor) → w ≡ Go d → Went Ans c [] E T d [] E₁ T₁
-  went_on d g = did-go (step.Go d) [] E₁ T₁ Ans c [] E T (rw g at root-says) d refl
+  went_on : (d : Cursor) → w ≡ Ok d → Went Ans c [] E T d [] E₁ T₁
+  went_on d g = did-go (Ok d) [] E₁ T₁ Ans c [] E T (rw g at root-says) d refl
 
   fits : (ns : Nodes) (q : ℕ) → Ans ≡ given ns q → (tree_slots ns ≤ room.slots) × (tree_bytes ns ≤ room.bytes)
   fits ns q e = rw e at (read_fits (bit_at s) (lengths_is mode.lengths) (held_of t party) (plan_of t name ty mode.choices.derived) room [] (8 * length s) 8)
@@ -131,7 +130,7 @@ module _ (t s : List ℕ) (party name ty : ℕ) (mode : Mode) (h : Entered t par
   few ns q e = bytes-few (bit_at s) (bit-lt s) (lengths_is mode.lengths) (held_of t party) (plan_of t name ty mode.choices.derived) room [] (8 * length s) 8 ns q e
 
   -- the bytes used fit a word
-  pub root-used : (d : Cursor) → w ≡ Go d → d.used < 4294967296
+  pub root-used : (d : Cursor) → w ≡ Ok d → d.used < 4294967296
   root-used d g =
       let v = went_on d g in
       let a = few v.nodes d.at.0 v.gave in
@@ -139,7 +138,7 @@ module _ (t s : List ℕ) (party name ty : ℕ) (mode : Mode) (h : Entered t par
       omega (arith, v.moved.used)
 
   -- accepted
-  pub root-given : (d : Cursor) (ok : Bool) (r : code.Answer) → w ≡ Go d → ok ≡ padding s d.at.0 → ok ≡ true → answer_is r ≡ told mode d path
+  pub root-given : (d : Cursor) (ok : Bool) (r : reply.Answer) → w ≡ Ok d → ok ≡ padding s d.at.0 → ok ≡ true → answer_is r ≡ told mode d
       → Replies R (length E) (length T) r E₁ T₁
   unfolding whole.outcome events_left texts_left
   root-given d ok r g e f a =
@@ -150,100 +149,100 @@ module _ (t s : List ℕ) (party name ty : ℕ) (mode : Mode) (h : Entered t par
       let b = fits ns d.at.0 v.gave in
       let counted : d.count ≡ length (events ns) = omega (arith, v.moved.count, slots_length ns) in
       let used : d.used ≡ length (texts ns) = omega (arith, v.moved.used, bytes-length ns) in
-      let none : path_is path ≡ [] = no-path path z in
       let first : 4 * c.count ≡ 0 = omega arith in
       rw is
       (record {
-        answer = a ∙ (λ i. record { number = 0; place = 0; mode = mode_number (mode_is mode); events = counted i; text = used i; bits = d.at.0; path = none i });
+        answer = a ∙ (λ i. record { number = 0; place = 0; mode = mode_number (mode_is mode); events = counted i; text = used i; bits = d.at.0; path = [] });
         events_left_lem =
             v.events_are ∙ (λ i. sets (z_e i) (first i) (event_words (events ns))) ∙ filled-sets (length E) (event_words (events ns)) (omega (arith, words-length (events ns), slots_length ns));
         texts_left_lem = v.texts_are ∙ (λ i. sets (z_t i) (u0 i) (texts ns)) ∙ filled-sets (length T) (texts ns) (omega (arith, bytes-length ns));
       })
 
   -- refused, and both buffers cleared again
-  module _ (same-E : length E₁ ≡ length E) (same-T : length T₁ ≡ length T) (E₂ T₂ : List ℕ) (y : E₂ ≡ replicate (length E₁) 0) (y' : T₂ ≡ replicate (length T₁) 0) (r : code.Answer) where
-    cleared : (n p : ℕ) (π : List ℕ) → R ≡ declined n p π → answer_is r ≡ declines n p π → Replies R (length E) (length T) r E₂ T₂
-    cleared n p π e a =
+  module _ (same-E : length E₁ ≡ length E) (same-T : length T₁ ≡ length T) (E₂ T₂ : List ℕ) (y : E₂ ≡ replicate (length E₁) 0) (y' : T₂ ≡ replicate (length T₁) 0) where
+    cleared : (r : reply.Answer) (n p : ℕ) (π : List ℕ) → R ≡ declined n p π → answer_is r ≡ declines n p π → Replies R (length E) (length T) r E₂ T₂
+    cleared r n p π e a =
         declined-replies R (length E) (length T) n p π r E₂ T₂ e a (y ∙ ap (λ (i : ℕ). replicate i 0) same-E) (y' ∙ ap (λ (i : ℕ). replicate i 0) same-T)
 
-    pub root-refused : (n : ℕ) (at : Bits) → w ≡ Refuse n at → answer_is r ≡ declines n at.0 (path_is path) → Replies R (length E) (length T) r E₂ T₂
-    root-refused n at g a =
-        cleared n at.0 []
-        (reading-refused t party name ty s (length E) (length T) h (mode_is mode) m Ans refl n at.0 [] (did-stop (step.Refuse n at) [] E₁ T₁ Ans c [] E T (rw g at root-says) n at refl))
-        (a ∙ ap (λ (π : List ℕ). declines n at.0 π) (no-path path z))
+    pub root-refused : (e : Fault Bits) (r : reply.Answer) → w ≡ Err (Untold e) → answer_is r ≡ declines (number_of e.why) e.at.0 [] → Replies R (length E) (length T) r E₂ T₂
+    root-refused e r g a =
+        cleared r (number_of e.why) e.at.0 []
+        (reading-refused t party name ty s (length E) (length T) h (mode_is mode) m Ans refl (number_of e.why) e.at.0 [] (did-stop (Err e) [] E₁ T₁ Ans c [] E T (rw g at root-says) e refl))
+        a
 
-    pub root_told : (n : ℕ) (at : Bits) (count : ℕ) (p : Path) → w ≡ Told n at count → names_of p ≡ back N count → answer_is r ≡ declines n at.0 (path_is p)
-        → Replies R (length E) (length T) r E₂ T₂
-    root_told n at count p g e a =
-        cleared n at.0 (path_is p)
-        (reading-refused t party name ty s (length E) (length T) h (mode_is mode) m Ans refl n at.0 (back N count)
-        (did-stop (step.Refuse n at) (back N count) E₁ T₁ Ans c [] E T (rw g at root-says) n at refl)
-        ∙ ap (λ (π : List ℕ). declined n at.0 (reverse π)) (sym e)
-        ∙ ap (λ (π : List ℕ). declined n at.0 π) (path-outward p)) a
+    pub root_told : (e : Fault Bits) (count : ℕ) → w ≡ Err (Told e count)
+        → Replies R (length E) (length T) (Err record { fault = record { why = e.why; at = e.at.0 }; path = record { names = N; count = count } }) E₂ T₂
+    unfolding names_of
+    root_told e count g =
+        let p : Path = record { names = N; count = count } in
+        cleared _ (number_of e.why) e.at.0 (path_is p)
+        (reading-refused t party name ty s (length E) (length T) h (mode_is mode) m Ans refl (number_of e.why) e.at.0 (back N count)
+        (did-stop (Err e) (back N count) E₁ T₁ Ans c [] E T (rw g at root-says) e refl)
+        ∙ ap (λ (π : List ℕ). declined (number_of e.why) e.at.0 π) (path-outward p)) refl
 
-    pub root-left : (d : Cursor) (ok : Bool) → w ≡ Go d → ok ≡ padding s d.at.0 → ok ≡ false → answer_is r ≡ declines left_over d.at.0 (path_is path)
+    pub root-left : (d : Cursor) (ok : Bool) (r : reply.Answer) → w ≡ Ok d → ok ≡ padding s d.at.0 → ok ≡ false → answer_is r ≡ declines left_over d.at.0 []
         → Replies R (length E) (length T) r E₂ T₂
-    root-left d ok g e f a =
+    root-left d ok r g e f a =
         let v = went_on d g in
-        cleared 17 d.at.0 []
+        cleared r left_over d.at.0 []
         (reading-left t party name ty s (length E) (length T) h (mode_is mode) m Ans refl v.nodes d.at.0 v.gave (sym e ∙ f))
-        (a ∙ ap (λ (π : List ℕ). declines left_over d.at.0 π) (no-path path z))
+        a
 
 pub ruleset root-ways = (root-ready, root-known, root-type, payload-short, root-used, root-given, root-refused, root_told, root-left)
 
 -- what is known where the table is right, and where the mode is found
-pub verdict-right : (t : List ℕ) (v : code·verdict.Verdict) → verdict_is v ≡ verdict t → v ≡ Right → verdict t ≡ right
-verdict-right t v e f = sym e ∙ rw f
+pub verdict-right : (t : List ℕ) (v : Checked) (u : Unit) → verdict_is v ≡ verdict t → v ≡ Ok u → verdict t ≡ right
+verdict-right t v u e f = sym e ∙ rw f
 
-pub mode-found : (t : List ℕ) (party : ℕ) (s : List ℕ) (f : Found) (mode : Mode) → Finds t party s f → f ≡ found.Is mode → mode_of (table_of t).derivations s ≡ got (mode_is mode)
+pub mode-found : (t : List ℕ) (party : ℕ) (s : List ℕ) (f : Found) (mode : Mode) → Finds t party s f → f ≡ Ok mode → mode_of (table_of t).derivations s ≡ got (mode_is mode)
 unfolding found_is
 mode-found t party s f mode e i = sym e.says ∙ rw i
 
-pub mode-choosing : (t : List ℕ) (party : ℕ) (s : List ℕ) (f : Found) (mode : Mode) → Finds t party s f → f ≡ found.Is mode → Choosing t mode.choices
+pub mode-choosing : (t : List ℕ) (party : ℕ) (s : List ℕ) (f : Found) (mode : Mode) → Finds t party s f → f ≡ Ok mode → Choosing t mode.choices
 mode-choosing t party s f mode e i = (subst (λ (x : Found). Chooses t party x) i e.choosing).0
 
-pub mode-party : (t : List ℕ) (party : ℕ) (s : List ℕ) (f : Found) (mode : Mode) → Finds t party s f → f ≡ found.Is mode → mode.party ≡ party
+pub mode-party : (t : List ℕ) (party : ℕ) (s : List ℕ) (f : Found) (mode : Mode) → Finds t party s f → f ≡ Ok mode → mode.party ≡ party
 mode-party t party s f mode e i = (subst (λ (x : Found). Chooses t party x) i e.choosing).1
 
 -- before the root: table, root, payload size and mode byte in this order, into buffers of zeros
 module _ (t s : List ℕ) (party name ty : ℕ) (E T : List ℕ) where
-  abbrev Answers : code.Answer → List ℕ → List ℕ → Type 0
+  abbrev Answers : reply.Answer → List ℕ → List ℕ → Type 0
   Answers r E' T' = Replies (reading t party name ty s (length E) (length T)) (length E) (length T) r E' T'
 
-  module _ (r : code.Answer) (path : Path) (z : path.count ≡ 0) (n p : ℕ) (a : answer_is r ≡ declines n p (path_is path)) where
-    early : (E' T' : List ℕ) → E' ≡ replicate (length E) 0 → T' ≡ replicate (length T) 0 → reading t party name ty s (length E) (length T) ≡ declined n p [] → Answers r E' T'
-    early E' T' y y' e = declined-replies _ (length E) (length T) n p [] r E' T' e (a ∙ ap (λ (π : List ℕ). declines n p π) (no-path path z)) y y'
+  pub entry-table : (v : Checked) (f : Flaw) (r : reply.Answer) (E' T' : List ℕ) → verdict_is v ≡ verdict t → v ≡ Err f
+      → answer_is r ≡ declines refusal.table f.0 [] → E' ≡ replicate (length E) 0 → T' ≡ replicate (length T) 0 → Answers r E' T'
+  entry-table v f r E' T' e g a y y' =
+      declined-replies _ (length E) (length T) refusal.table f.0 [] r E' T' (reading-table t party name ty s (length E) (length T) f.0 (sym e ∙ rw g)) a y y'
 
-  pub entry-table : (v : code·verdict.Verdict) (i : ℕ) (r : code.Answer) (path : Path) (E' T' : List ℕ) → verdict_is v ≡ verdict t → v ≡ Wrong i → path.count ≡ 0
-      → answer_is r ≡ declines refusal.table i (path_is path) → E' ≡ replicate (length E) 0 → T' ≡ replicate (length T) 0 → Answers r E' T'
-  entry-table v i r path E' T' e f z a y y' = early r path z 1 i a E' T' y y' (reading-table t party name ty s (length E) (length T) i (sym e ∙ rw f))
-
-  pub entry-right : (r : code.Answer) (E₁ T₁ E' T' : List ℕ) → E₁ ≡ replicate (length E) 0 → T₁ ≡ replicate (length T) 0
+  pub entry-right : (r : reply.Answer) (E₁ T₁ E' T' : List ℕ) → E₁ ≡ replicate (length E) 0 → T₁ ≡ replicate (length T) 0
       → Replies (reading t party name ty s (length E₁) (length T₁)) (length E₁) (length T₁) r E' T' → Answers r E' T'
   entry-right r E₁ T₁ E' T' y y' h =
       let a : length E₁ ≡ length E = ap length y ∙ length-replicate (length E) 0 in
       let b : length T₁ ≡ length T = ap length y' ∙ length-replicate (length T) 0 in
       rw (a, b) at h
 
-  module _ (k : verdict t ≡ right) (z_e : Zeros E) (z_t : Zeros T) (types : ℕ) (q : types ≡ (table_of t).types) where
-    pub entry-type : (r : code.Answer) (path : Path) → types ≤ ty → path.count ≡ 0 → answer_is r ≡ declines refusal.root 0 (path_is path) → Answers r E T
-    entry-type r path g z a = early r path z 2 0 a E T z_e z_t (reading-type t party name ty s (length E) (length T) k (omega arith))
+  pub entry_known : verdict t ≡ right → (types : ℕ) → types ≡ (table_of t).types → ty < types → name ≤ most_name → party < parties → Entered t party name ty
+  entry_known k types q g l p = record { table_right = k; type_known = omega arith; name-small = l; party_known = p }
+
+  module _ (k : verdict t ≡ right) (z_e : Zeros E) (z_t : Zeros T) (types : ℕ) (q : types ≡ (table_of t).types) (r : reply.Answer) where
+    early : (n : ℕ) → answer_is r ≡ declines n 0 [] → reading t party name ty s (length E) (length T) ≡ declined n 0 [] → Answers r E T
+    early n a e = declined-replies _ (length E) (length T) n 0 [] r E T e a z_e z_t
+
+    pub entry-type : types ≤ ty → answer_is r ≡ declines refusal.root 0 [] → Answers r E T
+    entry-type g a = early refusal.root a (reading-type t party name ty s (length E) (length T) k (omega arith))
 
     module _ (g : ty < types) where
-      pub entry-name : (r : code.Answer) (path : Path) → most_name < name → path.count ≡ 0 → answer_is r ≡ declines refusal.root 0 (path_is path) → Answers r E T
-      entry-name r path l z a = early r path z 2 0 a E T z_e z_t (reading-name t party name ty s (length E) (length T) k (omega arith) l)
+      pub entry-name : most_name < name → answer_is r ≡ declines refusal.root 0 [] → Answers r E T
+      entry-name l a = early refusal.root a (reading-name t party name ty s (length E) (length T) k (omega arith) l)
 
       module _ (l : name ≤ most_name) where
-        pub entry-party : (r : code.Answer) (path : Path) → parties ≤ party → path.count ≡ 0 → answer_is r ≡ declines refusal.party 0 (path_is path) → Answers r E T
-        entry-party r path i z a = early r path z 26 0 a E T z_e z_t (reading-party t party name ty s (length E) (length T) k (omega arith) l (omega arith))
+        pub entry-party : parties ≤ party → answer_is r ≡ declines refusal.party 0 [] → Answers r E T
+        entry-party i a = early refusal.party a (reading-party t party name ty s (length E) (length T) k (omega arith) l (omega arith))
 
-        module _ (p : party < parties) where
-          pub entry_known : Entered t party name ty
-          entry_known = record { table_right = k; type_known = omega arith; name-small = l; party_known = p }
+        module _ (p : party < parties) (f : Found) (e : Finds t party s f) where
+          pub entry-mode : (n : Refusal) → f ≡ Err n → answer_is r ≡ declines (number_of n) 0 [] → Answers r E T
+          unfolding found_is
+          entry-mode n i a =
+              early (number_of n) a (reading-mode t party name ty s (length E) (length T) (entry_known k types q g l p) (number_of n) (sym e.says ∙ rw i))
 
-          module _ (f : Found) (e : Finds t party s f) where
-            pub entry-mode : (n : ℕ) (r : code.Answer) (path : Path) → f ≡ found.Refuse n → path.count ≡ 0 → answer_is r ≡ declines n 0 (path_is path) → Answers r E T
-            unfolding found_is
-            entry-mode n r path i z a = early r path z n 0 a E T z_e z_t (reading-mode t party name ty s (length E) (length T) entry_known n (sym e.says ∙ rw i))
-
-pub ruleset entry-ways = (zeros-cleared, entry-table, entry-right, entry-type, entry-name, entry-party, entry_known, entry-mode, verdict-right, mode-found, mode-choosing, mode-party)
+pub ruleset entry_ways = (zeros-cleared, entry-table, entry-right, entry-type, entry-name, entry-party, entry_known, entry-mode, verdict-right, mode-found, mode-choosing, mode-party)

@@ -14,11 +14,10 @@ use Rattle.theorems.specs.Demand3.{Pair, new_of, says_less}
 use Rattle.theorems.proofs.Demand3.{second_accepts, only_first_accepts}
 use Rattle.theorems.specs.NamedReading.{Accepts}
 use Rattle.theorems.proofs.NamedReading.{zero-accepts}
-use Rattle.reader.specs.Answers.{path_is, Replies}
-use Rattle.reader.specs.declared.Answer as code
+use Rattle.reader.specs.Answers.{Answer, answer_is, Replies}
 
 module _ (l l' : List ℕ) (party : ℕ) (pair : Pair l l' party) (name type : ℕ) (s : List ℕ) (words bytes : ℕ)
-    (r r' : code.Answer) (E E' T T' : List ℕ)
+    (r r' : Answer) (E E' T T' : List ℕ)
     (first : Replies (reading l party name type s words bytes) words bytes r E T)
     (second : Replies (reading l' party name type s words bytes) words bytes r' E' T') where
   abbrev new : ℕ → Bool
@@ -34,7 +33,7 @@ module _ (l l' : List ℕ) (party : ℕ) (pair : Pair l l' party) (name type : �
     pub second-shows : Replies (accepted mode tree bits) words bytes r' E' T'
     pub first_says : Replies (says_less mode (first_bare (outermost new [] tree)) (replaced new tree) bits) words bytes r E T
 
-  pub second-read : r'.number ≡ 0 → SecondAccepts
+  pub second-read : (answer_is r').number ≡ 0 → SecondAccepts
   second-read z =
       let a = zero-accepts l' party name type s words bytes (sym (ap (λ (o : Outcome). o.number) second.answer) ∙ z) in
       record {
@@ -54,17 +53,17 @@ module _ (l l' : List ℕ) (party : ℕ) (pair : Pair l l' party) (name type : �
     pub bits : ℕ
     pub is : reading l party name type s words bytes ≡ accepted mode tree bits
     pub first-shows : Replies (accepted mode tree bits) words bytes r E T
-    pub second-says : Replies (declined r'.number r'.place (path_is r'.path)) words bytes r' E' T'
-    pub excuse : Excuse new [] tree r'.number r'.place (path_is r'.path)
+    pub second-says : Replies (declined (answer_is r').number (answer_is r').place (answer_is r').path) words bytes r' E' T'
+    pub excuse : Excuse new [] tree (answer_is r').number (answer_is r').place (answer_is r').path
 
-  excused : (a : Accepts (reading l party name type s words bytes)) (R : Reply) → reading l' party name type s words bytes ≡ R → (r'.number ≡ 0 → ⊥) → OnlyFirstAccepts
+  excused : (a : Accepts (reading l party name type s words bytes)) (R : Reply) → reading l' party name type s words bytes ≡ R → ((answer_is r').number ≡ 0 → ⊥) → OnlyFirstAccepts
   unfolding outcome
   excused a (accepted mode ns q) e k = absurd (k (ap (λ (o : Outcome). o.number) (second.answer ∙ ap outcome e)))
   excused a (declined n p π) e k =
       let w = second.answer ∙ ap outcome e in
-      let x : n ≡ r'.number = sym (ap (λ (o : Outcome). o.number) w) in
-      let y : p ≡ r'.place = sym (ap (λ (o : Outcome). o.place) w) in
-      let z : π ≡ path_is r'.path = sym (ap (λ (o : Outcome). o.path) w) in
+      let x : n ≡ (answer_is r').number = sym (ap (λ (o : Outcome). o.number) w) in
+      let y : p ≡ (answer_is r').place = sym (ap (λ (o : Outcome). o.place) w) in
+      let z : π ≡ (answer_is r').path = sym (ap (λ (o : Outcome). o.path) w) in
       record {
         mode = a.mode;
         tree = a.list;
@@ -75,6 +74,6 @@ module _ (l l' : List ℕ) (party : ℕ) (pair : Pair l l' party) (name type : �
         excuse = rw (x, y, z) at (only_first_accepts l l' party pair name type s words bytes a.mode a.list a.bits n p π a.is e);
       }
 
-  pub only-first-read : r.number ≡ 0 → (r'.number ≡ 0 → ⊥) → OnlyFirstAccepts
+  pub only-first-read : (answer_is r).number ≡ 0 → ((answer_is r').number ≡ 0 → ⊥) → OnlyFirstAccepts
   only-first-read z k =
       excused (zero-accepts l party name type s words bytes (sym (ap (λ (o : Outcome). o.number) first.answer) ∙ z)) (reading l' party name type s words bytes) refl k

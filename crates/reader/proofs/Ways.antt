@@ -5,7 +5,10 @@ use mathlib.Core.List.{List, ◌∷◌}
 use mathlib.Core.Bool.{Bool, cond}
 use native.Mathlib.Omega.{arith}
 use borrow.Author.Tests.{eq-eqb, ne_eqb, lt-ltb, le-ltb}
-use Rattle.numbers.specs.Refusal as refusal
+use Rattle.std.specs.Prelude.{Ok, Err}
+use Rattle.numbers.specs.Refused.{number_of}
+use Rattle.numbers.specs.declared.refusal.Refusal.TheVariants as refusal
+use Rattle.numbers.specs.declared.refusal.Fault.{Fault}
 use Rattle.wire.specs.declared.Bits.{Bits}
 use Rattle.table.specs.First.Verdict.{right}
 use Rattle.table.specs.Valid.{verdict}
@@ -24,15 +27,13 @@ use Rattle.model.specs.Modes.{types_by}
 use Rattle.model.specs.declared.Mode.{Mode}
 use Rattle.model.specs.Read.{Room, after}
 use Rattle.reader_parts.specs.Opening.{no_row, row_choices}
-use Rattle.reader_parts.specs.Out.{room_of, step_view, outcome, ending, Closes}
+use Rattle.reader_parts.specs.Out.{Step, room_of, step_view, outcome, ending, Closes}
 use Rattle.reader_parts.specs.Paths.{names_of, Pushed}
 use Rattle.reader_parts.specs.declared.Cursor.{Cursor}
 use Rattle.reader_parts.specs.declared.Path.{Path}
-use Rattle.reader_parts.specs.declared.Step.{Step}
-use Rattle.reader_parts.specs.declared.Step.TheVariants as step
 use Rattle.reader_parts.proofs.Laws.{did-stop, after_stop, after-go, outcome-none}
 use Rattle.reader.proofs.RefusalPathLaws.{Stopped, leaf-view}
-use Rattle.reader.specs.RefusalPath.{walks, step_of, path_of, view, Named}
+use Rattle.reader.specs.RefusalPath.{Walk, walks, step_of, path_of, view, Named}
 use Rattle.reader.specs.Meaning.{ReadyFor, Owned, Walks, row_for, row·, list·, below·, rest_by·}
 use Rattle.reader.specs.Entering.{entered_view, Enters}
 use Rattle.reader.specs.Groups.{aim_view, Aims}
@@ -43,17 +44,16 @@ use Rattle.reader.specs.declared.groups.Aim.{Aim}
 use Rattle.reader.specs.declared.groups.Aim.TheVariants as aim
 use Rattle.reader.specs.declared.groups.Target.{Target}
 use Rattle.reader.specs.declared.groups.Run.{Run}
-use Rattle.reader.specs.declared.refusal_path.Walk.{Walk}
-use Rattle.reader.specs.declared.refusal_path.Walk.TheVariants.{Go, Refuse, Told}
+use Rattle.reader.specs.declared.refusal_path.Halt.TheVariants.{Untold}
 
 -- a walk's refusal, and what follows where it went on
 module _ (v : Walk) (π N E' T' : List ℕ) (o : Answer) (c : Cursor) (E T : List ℕ) (h : view v π N E' T' ≡ outcome o c π E T) where
   walk-stop : Stopped v → (r : Room) (k : Room → ℕ → Answer) → view v π N E' T' ≡ outcome (after r o k) c π E T
-  walk-stop g r k = after_stop (step_of v) (path_of v π N) E' T' o c π E T h g.number g.place g.refused π r k
+  walk-stop g r k = after_stop (step_of v) (path_of v π N) E' T' o c π E T h g.fault g.refused π r k
 
-  walk-go : (e : Cursor) → v ≡ Go e → (K : Room → List ℕ → ℕ → Answer)
+  walk-go : (e : Cursor) → v ≡ Ok e → (K : Room → List ℕ → ℕ → Answer)
       → outcome (K (room_of E' T' e) π e.at.0) e π E' T' ≡ outcome (after (room_of E T c) o (λ u p. K u π p)) c π E T
-  walk-go e g K = after-go (step.Go e) π E' T' o c π E T (rw g at h) e refl π K
+  walk-go e g K = after-go (Ok e) π E' T' o c π E T (rw g at h) e refl π K
 
 -- an element's rows and its end
 module _ (t s : List ℕ) (mode : Mode) (d : ℕ) (x : Entry) (wall : ℕ) (c : Cursor) (Π E T : List ℕ) where
@@ -61,22 +61,29 @@ module _ (t s : List ℕ) (mode : Mode) (d : ℕ) (x : Entry) (wall : ℕ) (c : 
   Rest w N' E' T' = Walks (rest_by· t s mode d x) wall c Π E T w N' E' T'
 
   -- the rows around them may not be opened any more
-  pub rest-deep : (N : List ℕ) → d < x.opens → Rest (Refuse refusal.depth c.at) N E T
+  pub rest-deep : (N : List ℕ) → d < x.opens → Rest (Err (Untold record { why = refusal.Depth; at = c.at })) N E T
   unfolding rest_by· below· after step_view outcome
   rest-deep N h = rw (lt-ltb d x.opens h)
 
-  module _ (v : Walk) (N₁ E₁ T₁ : List ℕ) (g : x.opens ≤ d) (y : Walks (list· t s mode 0 0 (d - x.opens) x.first x.step x.count) wall c Π E T v N₁ E₁ T₁) where
-    below-here : Walks (below· t s mode d x.opens x.first x.step x.count) wall c Π E T v N₁ E₁ T₁
+  module _ (v : Walk) (N₁ E₁ T₁ : List ℕ) (g : x.opens ≤ d) (y : Walks (list· t s mode 0 0 (d - x.opens) x.rows.first x.rows.step x.rows.count) wall c Π E T v N₁ E₁ T₁) where
+    below-here : Walks (below· t s mode d x.opens x.rows.first x.rows.step x.rows.count) wall c Π E T v N₁ E₁ T₁
     unfolding below·
     below-here = rw (le-ltb d x.opens g) y
 
-    pub rest-stop : Stopped v → Rest v N₁ E₁ T₁
+    pub rest_left : Stopped v → Rest v N₁ E₁ T₁
     unfolding rest_by·
-    rest-stop i = walk-stop v Π N₁ E₁ T₁ _ c E T below-here i (room_of E T c) _
+    rest_left i = walk-stop v Π N₁ E₁ T₁ _ c E T below-here i (room_of E T c) _
 
-    pub rest-go : (z : Cursor) (a : Step) (E₂ : List ℕ) (w : Walk) → v ≡ Go z → Closes x.coded x.body.0 wall z E₁ a E₂ → w ≡ walks a → Rest w N₁ E₂ T₁
-    unfolding rest_by·
-    rest-go z a E₂ w i q j = leaf-view a w j Π N₁ E₂ T₁ ∙ q.says T₁ Π ∙ walk-go v Π N₁ E₁ T₁ _ c E T below-here z i (λ u ρ p. ending x.coded x.body.0 wall u ρ p)
+    module _ (z : Cursor) (a : Step) (E₂ : List ℕ) (i : v ≡ Ok z) (q : Closes x.extent.coded x.extent.body.0 wall z E₁ a E₂) where
+      rest_closed : (w : Walk) → w ≡ walks a → Rest w N₁ E₂ T₁
+      unfolding rest_by·
+      rest_closed w j = leaf-view a w j Π N₁ E₂ T₁ ∙ q.says T₁ Π ∙ walk-go v Π N₁ E₁ T₁ _ c E T below-here z i (λ u ρ p. ending x.extent.coded x.extent.body.0 wall u ρ p)
+
+      pub rest-go : (f : Cursor) → a ≡ Ok f → Rest (Ok f) N₁ E₂ T₁
+      rest-go f j = rest_closed (Ok f) (sym (ap walks j))
+
+      pub rest-short : (e : Fault Bits) → a ≡ Err e → Rest (Err (Untold e)) N₁ E₂ T₁
+      rest-short e j = rest_closed (Err (Untold e)) (sym (ap walks j))
 
 -- rows are read with the path that has the name
 pub content-pushed : (t s : List ℕ) (mode : Mode) (d first jump n wall : ℕ) (c : Cursor) (path inner : Path) (name : ℕ) (E T : List ℕ) (w : Walk) (N' E' T' : List ℕ) → Pushed path name inner
@@ -96,7 +103,7 @@ module _ (t : List ℕ) (name ty i : ℕ) where
   pub row_inside : verdict t ≡ right → Owned (particles_in t) i → (i ≡ no_row → ⊥) → ParticleInside t i
   row_inside v o e = particle-inside t v i (o e)
 
-pub ruleset row-ways = (row-root, row-table, row_inside)
+pub ruleset row_ways = (row-root, row-table, row_inside)
 
 -- one row, as the code has it
 module _ (t s : List ℕ) (mode : Mode) (d wall : ℕ) (c : Cursor) (Π E T : List ℕ) (x : table.Row) (r : code·particle.Particle) (is : row_is r ≡ x) (ready : ReadyFor t s mode wall 0 0) (z : d ≡ 0 → ⊥)
@@ -114,11 +121,11 @@ module _ (t s : List ℕ) (mode : Mode) (d wall : ℕ) (c : Cursor) (Π E T : Li
       ∙ ap (λ (o : Answer). outcome o c Π E T)
       (ap (λ (m : ℕ). row· t s mode m (row_is r) (room_of E T c) Π wall c.at.0) (sym down) ∙ ap (λ (q : table.Row). row· t s mode d q (room_of E T c) Π wall c.at.0) is)
 
-  pub row-stop : (N : List ℕ) (n : ℕ) (p : Bits) → g ≡ aim.Refuse n p → Row (Refuse n p) N E₁ T
+  pub row-stop : (N : List ℕ) (f : Fault Bits) → g ≡ aim.Refuse f → Row (Err (Untold f)) N E₁ T
   unfolding aim_view step_view
-  row-stop N n p i = reached (aim.Refuse n p) i
+  row-stop N f i = reached (aim.Refuse f) i
 
-  pub row_next : (N : List ℕ) (a : Cursor) → g ≡ aim.Go a → Row (Go a) N E₁ T
+  pub row_next : (N : List ℕ) (a : Cursor) → g ≡ aim.Go a → Row (Ok a) N E₁ T
   unfolding aim_view step_view
   row_next N a i = reached (aim.Go a) i
 
@@ -129,29 +136,29 @@ module _ (t s : List ℕ) (mode : Mode) (d wall : ℕ) (c : Cursor) (Π E T : Li
     unfolding aim_view
     came p i = rw i at (k.says y.depth Π) ∙ reached (aim.Element y) f
 
-    pub row-refuse : (N : List ℕ) (n : ℕ) (p : Bits) → e ≡ entered.Refuse n p → Row (Refuse n p) N E₂ T₂
+    pub row-refuse : (N : List ℕ) (q : Fault Bits) → e ≡ entered.Refuse q → Row (Err (Untold q)) N E₂ T₂
     unfolding entered_view step_view
-    row-refuse N n p i = came (entered.Refuse n p) i
+    row-refuse N q i = came (entered.Refuse q) i
 
-    pub row_done : (N : List ℕ) (a : Cursor) → e ≡ entered.Done a → Row (Go a) N E₂ T₂
+    pub row_done : (N : List ℕ) (a : Cursor) → e ≡ entered.Done a → Row (Ok a) N E₂ T₂
     unfolding entered_view step_view
     row_done N a i = came (entered.Done a) i
 
-    pub row-full : (N : List ℕ) (n : ℕ) (p : Bits) (w : Walk) (N₂ : List ℕ) → e ≡ entered.Full n p → Named y.name Π (Refuse n p) N w N₂ → Row w N₂ E₂ T₂
+    pub row-full : (N : List ℕ) (q : Fault Bits) (w : Walk) (N₂ : List ℕ) → e ≡ entered.Full q → Named y.name Π (Err (Untold q)) N w N₂ → Row w N₂ E₂ T₂
     unfolding entered_view step_view outcome
-    row-full N n p w N₂ i j =
-        let stop : row· t s mode d x (room_of E T c) Π wall c.at.0 ≡ refused n p.0 (y.name ∷ Π) = did-stop (step.Refuse n p) (y.name ∷ Π) E₂ T₂ _ c Π E T (came (entered.Full n p) i) n p refl in
-        j.says (refused n p.0 (y.name ∷ Π)) c E T E₂ T₂ refl ∙ ap (λ (o : Answer). outcome o c Π E T) (sym stop)
+    row-full N q w N₂ i j =
+        let stop : row· t s mode d x (room_of E T c) Π wall c.at.0 ≡ refused (number_of q.why) q.at.0 (y.name ∷ Π) = did-stop (Err q) (y.name ∷ Π) E₂ T₂ _ c Π E T (came (entered.Full q) i) q refl in
+        j.says (refused (number_of q.why) q.at.0 (y.name ∷ Π)) c E T E₂ T₂ refl ∙ ap (λ (o : Answer). outcome o c Π E T) (sym stop)
 
     pub row_in : (a : Entry) (v : Walk) (N₁ E₃ T₃ : List ℕ) (w : Walk) (N₂ : List ℕ) → e ≡ entered.In a
-        → Walks (rest_by· t s mode y.depth a) a.wall.0 a.cursor (y.name ∷ Π) E₂ T₂ v N₁ E₃ T₃ → Named y.name Π v N₁ w N₂ → Row w N₂ E₃ T₃
+        → Walks (rest_by· t s mode y.depth a) a.extent.wall.0 a.rows.cursor (y.name ∷ Π) E₂ T₂ v N₁ E₃ T₃ → Named y.name Π v N₁ w N₂ → Row w N₂ E₃ T₃
     unfolding entered_view
-    row_in a v N₁ E₃ T₃ w N₂ i q j = j.says _ a.cursor E₂ T₂ E₃ T₃ q ∙ came (entered.In a) i
+    row_in a v N₁ E₃ T₃ w N₂ i q j = j.says _ a.rows.cursor E₂ T₂ E₃ T₃ q ∙ came (entered.In a) i
 
     -- refused inside, and told
-    pub row-in-told : (a : Entry) (v : Walk) (N₁ E₃ T₃ : List ℕ) (n : ℕ) (p : Bits) (w : Walk) (N₂ : List ℕ) → e ≡ entered.In a
-        → Walks (rest_by· t s mode y.depth a) a.wall.0 a.cursor (y.name ∷ Π) E₂ T₂ v N₁ E₃ T₃ → v ≡ Refuse n p → Named y.name Π (Refuse n p) N₁ w N₂ → Row w N₂ E₃ T₃
-    row-in-told a v N₁ E₃ T₃ n p w N₂ i q m j = row_in a (Refuse n p) N₁ E₃ T₃ w N₂ i (rw m at q) j
+    pub row-in-told : (a : Entry) (v : Walk) (N₁ E₃ T₃ : List ℕ) (h : Fault Bits) (w : Walk) (N₂ : List ℕ) → e ≡ entered.In a
+        → Walks (rest_by· t s mode y.depth a) a.extent.wall.0 a.rows.cursor (y.name ∷ Π) E₂ T₂ v N₁ E₃ T₃ → v ≡ Err (Untold h) → Named y.name Π (Err (Untold h)) N₁ w N₂ → Row w N₂ E₃ T₃
+    row-in-told a v N₁ E₃ T₃ h w N₂ i q m j = row_in a (Err (Untold h)) N₁ E₃ T₃ w N₂ i (rw m at q) j
 
   pub row-rows : (a : Run) (w : Walk) (N₂ E₂ T₂ : List ℕ) → g ≡ aim.Rows a
       → Walks (list· t s mode 0 0 (d - 1) a.first a.step a.count) wall a.cursor Π E₁ T w N₂ E₂ T₂ → Row w N₂ E₂ T₂
@@ -159,16 +166,13 @@ module _ (t s : List ℕ) (mode : Mode) (d wall : ℕ) (c : Cursor) (Π E T : Li
   row-rows a w N₂ E₂ T₂ i q = q ∙ reached (aim.Rows a) i
 
 -- no row may be opened any more
-pub row-deep : (t s : List ℕ) (mode : Mode) (d wall : ℕ) (c : Cursor) (Π E T : List ℕ) (x : table.Row) (N : List ℕ) → d ≡ 0 → Walks (row· t s mode d x) wall c Π E T (Refuse refusal.depth c.at) N E T
+pub row-deep : (t s : List ℕ) (mode : Mode) (d wall : ℕ) (c : Cursor) (Π E T : List ℕ) (x : table.Row) (N : List ℕ) → d ≡ 0 → Walks (row· t s mode d x) wall c Π E T (Err (Untold record { why = refusal.Depth; at = c.at })) N E T
 unfolding row· step_view outcome
 row-deep t s mode d wall c Π E T x N z = rw z
 
--- a refusal did not go on
-pub refuse-stops : (n : ℕ) (p : Bits) → Stopped (Refuse n p)
-refuse-stops n p = record { number = n; place = p; refused = refl }
-
-pub told-stops : (w : Walk) (n : ℕ) (p : Bits) (k : ℕ) → w ≡ Told n p k → Stopped w
-told-stops w n p k e = record { number = n; place = p; refused = rw e }
+-- there is one more
+pub more : (n j : ℕ) → j < n → 0 < n - j
+more n j h = omega arith
 
 -- rows: what is left of them, and what there was at the start
 module _ (t s : List ℕ) (mode : Mode) (name ty d wall jump : ℕ) (i n : ℕ) (c : Cursor) (Π E T : List ℕ) where
@@ -184,7 +188,7 @@ module _ (t s : List ℕ) (mode : Mode) (name ty d wall jump : ℕ) (i n : ℕ) 
       ap (λ (k : ℕ). list· t s mode name ty d i jump k (room_of E T c) Π wall c.at.0) m
 
   module _ (i₀ n₀ : ℕ) (c₀ : Cursor) (E₀ T₀ : List ℕ) (inv : Left i₀ n₀ c₀ E₀ T₀) where
-    pub list-end : (N : List ℕ) → n ≤ 0 → Walks (list· t s mode name ty d i₀ jump n₀) wall c₀ Π E₀ T₀ (Go c) N E T
+    pub list-end : (N : List ℕ) → n ≤ 0 → Walks (list· t s mode name ty d i₀ jump n₀) wall c₀ Π E₀ T₀ (Ok c) N E T
     unfolding list·
     list-end N h =
         let m : n ≡ 0 = omega arith in
@@ -197,10 +201,15 @@ module _ (t s : List ℕ) (mode : Mode) (name ty d wall jump : ℕ) (i n : ℕ) 
       pub list-stop : Stopped w → Walks (list· t s mode name ty d i₀ jump n₀) wall c₀ Π E₀ T₀ w N' E' T'
       list-stop a = walk-stop w Π N' E' T' _ c E T y a (room_of E T c) _ ∙ ap (λ (o : Answer). outcome o c Π E T) (sym (list-more h)) ∙ sym inv
 
-      pub list-again : (e : Cursor) → w ≡ Go e
+      again : (e : Cursor) → w ≡ Ok e
           → outcome (list· t s mode name ty d i₀ jump n₀ (room_of E₀ T₀ c₀) Π wall c₀.at.0) c₀ Π E₀ T₀
           ≡ outcome (list· t s mode name ty d (i + jump) jump (n - 1) (room_of E' T' e) Π wall e.at.0) e Π E' T'
-      list-again e a =
+      again e a =
           inv
           ∙ ap (λ (o : Answer). outcome o c Π E T) (list-more h)
           ∙ sym (walk-go w Π N' E' T' _ c E T y e a (λ u ρ p. list· t s mode name ty d (i + jump) jump (n - 1) u ρ wall p))
+
+      pub list-again : (e : Cursor) (m : ℕ) → w ≡ Ok e → m ≡ n - 1
+          → outcome (list· t s mode name ty d i₀ jump n₀ (room_of E₀ T₀ c₀) Π wall c₀.at.0) c₀ Π E₀ T₀
+          ≡ outcome (list· t s mode name ty d (i + jump) jump m (room_of E' T' e) Π wall e.at.0) e Π E' T'
+      list-again e m a q = rw q (again e a)

@@ -1,5 +1,8 @@
 -- The rows that a row holds, as the code finds them.
-use Rattle.std.specs.Prelude.{ℕ, suc, ◌+◌, ◌-◌, ◌<◌, ◌≤◌, ◌≡◌, ◌⊎◌, List, []}
+use Rattle.std.specs.Prelude.{ℕ, suc, ◌+◌, ◌-◌, ◌<◌, ◌≤◌, ◌≡◌, ◌⊎◌, List, [], Result, Ok, Err}
+use Rattle.numbers.specs.Refused.{number_of}
+use Rattle.numbers.specs.declared.refusal.Fault.{Fault}
+use Rattle.wire.specs.declared.Bits.{Bits}
 use Rattle.numbers.specs.Kind as kinds
 use Rattle.numbers.specs.Limit.{most_name}
 use Rattle.table.specs.Words.{types_in, particles_in}
@@ -13,22 +16,22 @@ use Rattle.model.specs.Read.{Room, after, code, stored}
 use Rattle.model.specs.Modes.{types_by}
 use Rattle.model.specs.declared.Mode.{Mode}
 use Rattle.reader_parts.specs.Opening.{row_choices}
-use Rattle.reader_parts.specs.Out.{Out, room_of, outcome}
+use Rattle.reader_parts.specs.Out.{Out, Step, room_of, outcome}
 use Rattle.reader_parts.specs.Out.Out.{went, stopped}
 use Rattle.reader_parts.specs.declared.Cursor.{Cursor}
-use Rattle.reader_parts.specs.declared.Step.{Step}
-use Rattle.reader_parts.specs.declared.Step.TheVariants as step·is
 use Rattle.reader.specs.Meaning.{ReadyFor, Owned, Fits, Lies, element·, row·, list·}
-use Rattle.reader.specs.declared.groups.Group.{Group}
-use Rattle.reader.specs.declared.groups.Group.TheVariants.{Refuse, Rows}
 use Rattle.reader.specs.declared.groups.Aim.{Aim}
 use Rattle.reader.specs.declared.groups.Aim.TheVariants as aim·is
 use Rattle.reader.specs.declared.groups.Run.{Run}
 
+-- the rows of a row; or what is refused, and where
+abbrev pub Group : Type 0
+Group = Result Run (Fault Bits)
+
 -- rows, once an event is stored
 abbrev pub run_by : Step → (first step count : ℕ) → Group
-run_by (step·is.Refuse n at) first step count = Refuse n at
-run_by (step·is.Go c) first step count = Rows record { first = first; step = step; count = count; cursor = c }
+run_by (Err e) first step count = Err e
+run_by (Ok c) first step count = Ok record { first = first; step = step; count = count; cursor = c }
 
 -- how rows are read: the first, the step from one to the next, how many; the room and the place
 abbrev pub Reading : Type 0
@@ -45,13 +48,13 @@ group_at K (occurs child least most) b r π wall at =
 
 -- what an answer leaves
 unfoldable pub group_view : Reading → Group → (π E T : List ℕ) → Out
-group_view K (Refuse n at) π E T = stopped n at.0 π
-group_view K (Rows x) π E T = outcome (K x.first x.step x.count (room_of E T x.cursor) x.cursor.at.0) x.cursor π E T
+group_view K (Err e) π E T = stopped (number_of e.why) e.at.0 π
+group_view K (Ok x) π E T = outcome (K x.first x.step x.count (room_of E T x.cursor) x.cursor.at.0) x.cursor π E T
 
 -- rows are in a table of P rows: one after another, or all one row
 abbrev pub Placed : (P : ℕ) → Group → Type 0
-Placed P (Rows x) = ((x.step ≡ 1) × (x.first + x.count ≤ P)) ⊎ ((x.step ≡ 0) × (x.first < P))
-Placed P (Refuse n at) = Unit {0}
+Placed P (Ok x) = ((x.step ≡ 1) × (x.first + x.count ≤ P)) ⊎ ((x.step ≡ 0) × (x.first < P))
+Placed P (Err e) = Unit {0}
 
 -- CONTRACT, for every path, however rows are read
 pub record Groups (row : Row) (b : ℕ → ℕ) (wall : ℕ) (c : Cursor) (E : List ℕ) (r : Group) (E' : List ℕ) : Type 0 where
@@ -61,7 +64,7 @@ pub record Groups (row : Row) (b : ℕ → ℕ) (wall : ℕ) (c : Cursor) (E : L
 -- what an answer leaves, where d rows may be opened inside the row
 module _ (t s : List ℕ) (mode : Mode) (d wall : ℕ) where
   unfoldable pub aim_view : Aim → (π E T : List ℕ) → Out
-  aim_view (aim·is.Refuse n at) π E T = stopped n at.0 π
+  aim_view (aim·is.Refuse e) π E T = stopped (number_of e.why) e.at.0 π
   aim_view (aim·is.Go c) π E T = went c.at.0 c.count c.used π E T
   aim_view (aim·is.Element y) π E T =
       outcome (element· t s mode y.depth y.name (types_by t (row_choices mode.choices y.own) y.t y.own) (room_of E T y.cursor) π wall y.cursor.at.0) y.cursor π E T
@@ -71,7 +74,7 @@ module _ (t s : List ℕ) (mode : Mode) (d wall : ℕ) where
 abbrev pub Aimed : (t : List ℕ) (d : ℕ) → Aim → Type 0
 Aimed t d (aim·is.Element y) = (y.name ≤ most_name) × (y.t < types_in t) × Owned (particles_in t) y.own × (y.depth ≤ d)
 Aimed t d (aim·is.Rows x) = Lies (particles_in t) x.first x.step x.count
-Aimed t d (aim·is.Refuse n at) = Unit {0}
+Aimed t d (aim·is.Refuse e) = Unit {0}
 Aimed t d (aim·is.Go c) = Unit {0}
 
 -- CONTRACTS, for every path and mode. Of rows

@@ -23,12 +23,10 @@ use Rattle.reader_parts.specs.Opening.{no_row, row_choices}
 use Rattle.reader_parts.specs.Out.{room_of, outcome, ending}
 use Rattle.reader_parts.specs.declared.Cursor.{Cursor}
 use Rattle.reader_parts.specs.declared.Head.{Head}
-use Rattle.reader_parts.specs.declared.Head.TheVariants.{Bare, Sized, Wrong}
-use Rattle.reader.specs.RefusalPath.{view}
+use Rattle.reader_parts.specs.declared.Head.TheVariants.{Bare, Sized}
+use Rattle.reader.specs.RefusalPath.{Walk, view}
 use Rattle.reader.specs.declared.entering.Entry.{Entry}
-use Rattle.reader.specs.declared.entering.Reach.{Reach}
-use Rattle.reader.specs.declared.entering.Reach.TheVariants as reach
-use Rattle.reader.specs.declared.refusal_path.Walk.{Walk}
+use Rattle.reader.specs.declared.entering.Extent.{Extent}
 
 -- by the room that is left, the path, the wall and the place
 abbrev pub Meaning : Type 0
@@ -39,10 +37,9 @@ abbrev pub Walks : Meaning → ℕ → Cursor → List ℕ → List ℕ → List
 Walks f wall c π E T w N E' T' = view w π N E' T' ≡ outcome (f (room_of E T c) π wall c.at.0) c π E T
 
 -- what a head says of an element below a wall
-abbrev pub reach_of : Head → Bits → Reach
-reach_of (Bare body) wall = reach.To record { coded = false; body = body; wall = wall }
-reach_of (Sized body inner) wall = reach.To record { coded = true; body = body; wall = inner }
-reach_of (Wrong n) wall = reach.Wrong n
+abbrev pub reach_of : Head → Bits → Extent
+reach_of (Bare body) wall = record { coded = false; body = body; wall = wall }
+reach_of (Sized body inner) wall = record { coded = true; body = body; wall = inner }
 
 -- what is asked: the table is right and has no substitutes where none are looked for, the wall is in the payload, and the path has a place for
 -- each row that may still be opened
@@ -174,4 +171,4 @@ module _ (t s : List ℕ) (mode : Mode) where
 
   -- the same by the rows that it has
   unfoldable pub rest_by· : (d : ℕ) → Entry → Meaning
-  rest_by· d x r π wall at = after r (below· d x.opens x.first x.step x.count r π wall at) (λ u q. ending x.coded x.body.0 wall u π q)
+  rest_by· d x r π wall at = after r (below· d x.opens x.rows.first x.rows.step x.rows.count r π wall at) (λ u q. ending x.extent.coded x.extent.body.0 wall u π q)

@@ -6,6 +6,8 @@
 // takes the path has no other work before it, else a copy of the path for each element is not seen to be needless: so `enter` and `reached`, which have
 // the work, take none, and a refusal is told in `particle`. `rows_in` is a function of its own so that `particle` calls itself only when
 // the rest is in it: LLVM keeps a large function out of one that calls itself.
+// Table, payload, buffers, mode and depth go down one by one and not as a struct, whose fields would be read from memory at each row.
+// No `?` on the way of every row: with it and enums in a Result, 2,048 events read cost 14 in 100 more (its guard is 1.31).
 ghost use Rattle.std.specs.Prelude.{◌≡◌, ◌∷◌, ◌+◌, ◌≤◌, ◌<◌, length};
 ghost use Rattle.numbers.specs.Limit.{most_name, most_names};
 ghost use Rattle.table.specs.First.Verdict.{right};
@@ -17,9 +19,10 @@ ghost use Rattle.reader.specs.Meaning.{ReadyFor, Owned, KnownRows, Walks, row_fo
 
 use crate::entering::{Entered, Entry, enter};
 use crate::groups::{Aim, Run, reached};
-use crate::refusal_path::{Walk, from_step, tell};
+use crate::refusal_path::{Halt, tell};
 use model::Mode;
-use numbers::refusal;
+use numbers::limit;
+use numbers::refusal::{Fault, Refusal};
 use reader_parts::ends::close;
 use reader_parts::opening::NO_ROW;
 use reader_parts::{Cursor, Path};
@@ -34,27 +37,28 @@ fn element(
     payload: &[u8],
     events: &mut [u32],
     texts: &mut [u8],
-    told: &mut [u16],
+    told: &mut [u16; limit::MOST_NAMES],
     mode: Mode,
     depth: u32,
     path: Path,
     name: u32,
     x: Entry,
-) -> Walk
-    requires { (ReadyFor table.now payload.now mode x.wall.0 (path.count + 1) depth)
-        × (length told.old ≡ most_names)
+) -> Result<Cursor, Halt>
+    requires { (ReadyFor table.now payload.now mode x.extent.wall.0 (path.count + 1) depth)
         × (name ≤ most_name)
-        × (KnownRows table.now 0 0 x.first x.step x.count) }
-    ensures { Walks (rest_by· table.now payload.now mode depth x) x.wall.0 x.cursor
-        (name ∷ names_of path) events.old texts.old result told.new events.new
-        texts.new }
+        × (KnownRows table.now 0 0 x.rows.first x.rows.step x.rows.count) }
+    ensures { Walks (rest_by· table.now payload.now mode depth x) x.extent.wall.0
+        x.rows.cursor (name ∷ names_of path) events.old texts.old result told.new
+        events.new texts.new }
 {
-    let wall = x.wall;
-    let c = x.cursor;
+    let wall = x.extent.wall;
+    let rows = x.rows;
     let opens = x.opens;
     if depth < opens {
-        let at = c.at;
-        return Walk::Refuse(refusal::DEPTH, at);
+        return Err(Halt::Untold(Fault {
+            why: Refusal::Depth,
+            at: rows.cursor.at,
+        }));
     }
     let w = content(
         table,
@@ -65,19 +69,18 @@ fn element(
         mode,
         depth - opens,
         wall,
-        c,
         path,
         name,
-        x.first,
-        x.step,
-        x.count,
+        rows,
     );
-    let Walk::Go(e) = w else {
+    // No `?` here, nor at `close` (the head of this file says why).
+    let Ok(e) = w else {
         return w;
     };
-    let coded = x.coded;
-    let body = x.body;
-    from_step(close(events, coded, body, wall, e))
+    match close(events, x.extent.coded, x.extent.body, wall, e) {
+        Ok(f) => Ok(f),
+        Err(fault) => Err(Halt::Untold(fault)),
+    }
 }
 
 // The rows of an element of a name, read with the path that has the name. It is pushed here and not by a function, which would copy the path once more.
@@ -87,31 +90,29 @@ fn content(
     payload: &[u8],
     events: &mut [u32],
     texts: &mut [u8],
-    told: &mut [u16],
+    told: &mut [u16; limit::MOST_NAMES],
     mode: Mode,
     depth: u32,
     wall: Bits,
-    c: Cursor,
     mut path: Path,
     name: u32,
-    first: u32,
-    step: u32,
-    count: u32,
-) -> Walk
+    x: Run,
+) -> Result<Cursor, Halt>
     requires { (ReadyFor table.now payload.now mode wall.0 (path.count + 1) depth)
-        × (length told.old ≡ most_names)
         × (path.count < most_names)
         × (name ≤ most_name)
-        × (KnownRows table.now 0 0 first step count) }
-    ensures { Walks (list· table.now payload.now mode 0 0 depth first step count) wall.0 c
-        (name ∷ names_of path) events.old texts.old result told.new events.new
-        texts.new }
+        × (KnownRows table.now 0 0 x.first x.step x.count) }
+    ensures { Walks (list· table.now payload.now mode 0 0 depth x.first x.step x.count)
+        wall.0 x.cursor (name ∷ names_of path) events.old texts.old result told.new
+        events.new texts.new }
 {
     let n = path.count;
     path.names[n] = name as u16;
     path.count = n + 1;
+    let c = x.cursor;
     particle(
-        table, payload, events, texts, told, mode, depth, wall, c, path, 0, 0, first, step, count,
+        table, payload, events, texts, told, mode, depth, wall, c, path, 0, 0, x.first, x.step,
+        x.count,
     )
 }
 
@@ -122,15 +123,14 @@ fn rows_in(
     payload: &[u8],
     events: &mut [u32],
     texts: &mut [u8],
-    told: &mut [u16],
+    told: &mut [u16; limit::MOST_NAMES],
     mode: Mode,
     depth: u32,
     wall: Bits,
     path: Path,
     x: Run,
-) -> Walk
+) -> Result<Cursor, Halt>
     requires { (ReadyFor table.now payload.now mode wall.0 path.count depth)
-        × (length told.old ≡ most_names)
         × (KnownRows table.now 0 0 x.first x.step x.count) }
     ensures { Walks (list· table.now payload.now mode 0 0 depth x.first x.step x.count)
         wall.0 x.cursor (names_of path) events.old texts.old result told.new
@@ -144,6 +144,7 @@ fn rows_in(
 }
 
 // The row of a number; the root, of a name and a type, is of none.
+#[tactic(auto, using(crate::proofs::Ways::row_ways))]
 fn row_for(table: &[u32], name: u32, t: u32, i: u32) -> Particle
     requires { (verdict table.now ≡ right) × (Owned (particles_in table.now) i) }
     ensures { row_is result ≡ row_for table.now name t i }
@@ -161,7 +162,7 @@ pub fn particle(
     payload: &[u8],
     events: &mut [u32],
     texts: &mut [u8],
-    told: &mut [u16],
+    told: &mut [u16; limit::MOST_NAMES],
     mode: Mode,
     depth: u32,
     wall: Bits,
@@ -172,9 +173,8 @@ pub fn particle(
     first: u32,
     step: u32,
     count: u32,
-) -> Walk
+) -> Result<Cursor, Halt>
     requires { (ReadyFor table.now payload.now mode wall.0 path.count depth)
-        × (length told.old ≡ most_names)
         × (KnownRows table.now name t first step count) }
     ensures { Walks (list· table.now payload.now mode name t depth first step count) wall.0 c
         (names_of path) events.old texts.old result told.new events.new
@@ -182,51 +182,53 @@ pub fn particle(
 {
     let mut cursor = c;
     let mut i = first;
-    let mut n = count;
-    while 0 < n {
-        let at = cursor.at;
+    for j in 0..count {
         if depth == 0 {
-            return Walk::Refuse(refusal::DEPTH, at);
+            return Err(Halt::Untold(Fault {
+                why: Refusal::Depth,
+                at: cursor.at,
+            }));
         }
         let d = depth - 1;
         let row = row_for(table, name, t, i);
         i += step;
-        n -= 1;
         let g = reached(table, payload, events, d, wall, cursor, row);
         match g {
-            Aim::Refuse(m, place) => {
-                return Walk::Refuse(m, place);
+            Aim::Refuse(fault) => {
+                return Err(Halt::Untold(fault));
             }
             Aim::Go(f) => {
                 cursor = f;
             }
             Aim::Element(y) => {
-                let at = y.cursor;
                 let x = y.name;
-                let e = enter(table, payload, events, texts, mode, wall, at, x, y.t, y.own);
+                let e = enter(
+                    table, payload, events, texts, mode, wall, y.cursor, x, y.t, y.own,
+                );
                 match e {
-                    Entered::Refuse(m, place) => {
-                        return Walk::Refuse(m, place);
+                    Entered::Refuse(fault) => {
+                        return Err(Halt::Untold(fault));
+                    }
+                    Entered::Full(fault) => {
+                        return Err(tell(told, path, x, fault));
                     }
                     Entered::Done(f) => {
                         cursor = f;
-                    }
-                    Entered::Full(m, place) => {
-                        return tell(told, path, x, m, place);
                     }
                     Entered::In(z) => {
                         let w = element(
                             table, payload, events, texts, told, mode, y.depth, path, x, z,
                         );
                         match w {
-                            Walk::Go(f) => {
+                            Ok(f) => {
                                 cursor = f;
                             }
-                            Walk::Refuse(m, place) => {
-                                return tell(told, path, x, m, place);
+                            Err(Halt::Untold(fault)) => {
+                                return Err(tell(told, path, x, fault));
                             }
-                            Walk::Told(m, place, k) => {
-                                return Walk::Told(m, place, k);
+                            // Named case by case: the check does not tell from `Err(halt)` that it is not the case above.
+                            Err(Halt::Told(fault, k)) => {
+                                return Err(Halt::Told(fault, k));
                             }
                         }
                     }
@@ -234,12 +236,13 @@ pub fn particle(
             }
             Aim::Rows(x) => {
                 let w = rows_in(table, payload, events, texts, told, mode, d, wall, path, x);
-                let Walk::Go(f) = w else {
+                // No `?`, as above.
+                let Ok(f) = w else {
                     return w;
                 };
                 cursor = f;
             }
         }
     }
-    Walk::Go(cursor)
+    Ok(cursor)
 }

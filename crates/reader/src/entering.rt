@@ -9,16 +9,18 @@ ghost use Rattle.reader_parts.specs.Opening.{row_choices};
 ghost use Rattle.reader.specs.Meaning.{ReadyFor, Owned, reach_of};
 ghost use Rattle.reader.specs.Entering.{filled_by, rows_of, entry_of, Fills, Enters};
 
+use crate::groups::Run;
 use model::Mode;
+use numbers::refusal::Fault;
 use reader_parts::attributes::lead_before_rows;
 use reader_parts::ends::close;
 use reader_parts::heads::head;
 use reader_parts::opening::open;
-use reader_parts::{Cursor, Head, Opened, Step};
+use reader_parts::{Cursor, Head, Opened};
 use table::{Content, Particle, inside};
 use wire::Bits;
 
-// Whether a length is coded, where the body begins, and the wall of what is inside.
+// What a head says: whether a length is coded, where the body begins (told either way, so this is no Option), and the wall of what is inside.
 #[derive(Clone, Copy)]
 pub struct Extent {
     pub coded: bool,
@@ -26,96 +28,81 @@ pub struct Extent {
     pub wall: Bits,
 }
 
-// The number of a wrong head; or what a head says of an element.
-#[derive(Clone, Copy)]
-pub enum Reach {
-    Wrong(u32),
-    To(Extent),
-}
-
-// An element that has rows, up to these: where the reading is (first, as in `Entered::Done`, so that the back end keeps it in registers), the rows, so many
-// from one on, each a step past the one before, how many rows are opened around them, whether a length is coded, where its body begins, its wall.
+// An element that has rows, up to these: where the reading is (first, as in `Entered::Done`, so that the back end keeps it in registers) and the rows, how
+// many rows are opened around them, and what its head says.
 #[derive(Clone, Copy)]
 pub struct Entry {
-    pub cursor: Cursor,
-    pub first: u32,
-    pub step: u32,
-    pub count: u32,
+    pub rows: Run,
     pub opens: u32,
-    pub coded: bool,
-    pub body: Bits,
-    pub wall: Bits,
+    pub extent: Extent,
 }
 
-// What an element came to: refused, or read to its end, or refused once it is in the path, or it has rows.
+// What an element came to: refused with its name not in the path, read to its end, refused with the name in the path, or it has rows.
+// One enum and no Result of it: with that and `?`, 2,048 events read cost 14 in 100 more (its guard is 1.31).
 #[derive(Clone, Copy)]
 pub enum Entered {
-    Refuse(u32, Bits),
+    Refuse(Fault<Bits>),
     Done(Cursor),
-    Full(u32, Bits),
+    Full(Fault<Bits>),
     In(Entry),
 }
 
-// A head below a wall.
-fn extent_of(h: Head, wall: Bits) -> Reach
+// What a head below a wall says of an element.
+#[tactic(auto, using(crate::proofs::EnterWays::reached_ways))]
+fn extent_of(h: Head, wall: Bits) -> Extent
     ensures { result ≡ reach_of h wall }
 {
     match h {
-        Head::Wrong(n) => Reach::Wrong(n),
-        Head::Bare(body) => {
-            let x = Extent {
-                coded: false,
-                body,
-                wall,
-            };
-            Reach::To(x)
-        }
-        Head::Sized(body, wall) => {
-            let x = Extent {
-                coded: true,
-                body,
-                wall,
-            };
-            Reach::To(x)
-        }
+        Head::Bare(body) => Extent {
+            coded: false,
+            body,
+            wall,
+        },
+        Head::Sized(body, wall) => Extent {
+            coded: true,
+            body,
+            wall,
+        },
     }
 }
 
 // What the last part of an element leaves of it.
-fn filled(s: Step) -> Entered
-    ensures { result ≡ filled_by s }
+#[tactic(auto, using(crate::proofs::EnterWays::filled_ways))]
+fn filled(end: Result<Cursor, Fault<Bits>>) -> Entered
+    ensures { result ≡ filled_by end }
 {
-    match s {
-        Step::Refuse(n, at) => Entered::Full(n, at),
-        Step::Go(c) => Entered::Done(c),
+    match end {
+        Ok(c) => Entered::Done(c),
+        Err(fault) => Entered::Full(fault),
     }
 }
 
 // What is left of an element with a content row of a number: this row, or where it is a sequence the rows of that, with the sequence open.
-fn with_rows(cursor: Cursor, row: u32, p: Particle, coded: bool, body: Bits, wall: Bits) -> Entry
-    ensures { result ≡ entry_of cursor (rows_of row (row_is p)) coded body wall }
+#[tactic(auto, using(crate::proofs::EnterWays::rows_ways))]
+fn with_rows(cursor: Cursor, row: u32, p: Particle, extent: Extent) -> Entry
+    ensures { result ≡ entry_of cursor (rows_of row (row_is p)) extent }
 {
     let Particle::Sequence(first, count) = p else {
         return Entry {
-            cursor,
-            first: row,
-            step: 0,
-            count: 1,
+            rows: Run {
+                cursor,
+                first: row,
+                step: 0,
+                count: 1,
+            },
             opens: 0,
-            coded,
-            body,
-            wall,
+            extent,
         };
     };
     Entry {
-        cursor,
-        first,
-        step: 1,
-        count,
+        rows: Run {
+            cursor,
+            first,
+            step: 1,
+            count,
+        },
         opens: 1,
-        coded,
-        body,
-        wall,
+        extent,
     }
 }
 
@@ -126,26 +113,24 @@ fn fill(
     events: &mut [u32],
     texts: &mut [u8],
     mode: Mode,
-    wall: Bits,
     c: Cursor,
     t: u32,
-    coded: bool,
-    body: Bits,
+    extent: Extent,
 ) -> Entered
-    requires { (ReadyFor table.now payload.now mode wall.0 0 0) × (t < types_in table.now) }
-    ensures { Fills table.now payload.now mode t coded body.0 wall.0 c events.old
-        texts.old result events.new texts.new }
+    requires { (ReadyFor table.now payload.now mode extent.wall.0 0 0) × (t < types_in table.now) }
+    ensures { Fills table.now payload.now mode t extent.coded extent.body.0 extent.wall.0 c
+        events.old texts.old result events.new texts.new }
 {
-    let s = lead_before_rows(table, payload, events, texts, wall, c, t);
-    let Step::Go(d) = s else {
+    let s = lead_before_rows(table, payload, events, texts, extent.wall, c, t);
+    let Ok(d) = s else {
         return filled(s);
     };
     let k = inside::content(table, t);
     let Content::Particles(row) = k else {
-        return filled(close(events, coded, body, wall, d));
+        return filled(close(events, extent.coded, extent.body, extent.wall, d));
     };
     let p = inside::particle(table, row);
-    let x = with_rows(d, row, p, coded, body, wall);
+    let x = with_rows(d, row, p, extent);
     Entered::In(x)
 }
 
@@ -173,29 +158,40 @@ pub fn enter(
     let party = mode.party;
     let held = inside::held(table, party, t);
     let lengths = mode.lengths;
-    let h = head(payload, lengths, wall, at);
-    let r = extent_of(h, wall);
-    match r {
-        Reach::Wrong(n) => Entered::Refuse(n, at),
-        Reach::To(x) => {
-            let coded = x.coded;
-            let body = x.body;
-            let inner = x.wall;
+    match head(payload, lengths, wall, at) {
+        Err(why) => Entered::Refuse(Fault { why, at }),
+        Ok(h) => {
+            let extent = extent_of(h, wall);
             let choices = mode.choices;
             let o = open(
-                table, party, payload, events, choices, c, name, t, row, held, coded, body, inner,
+                table,
+                party,
+                payload,
+                events,
+                choices,
+                c,
+                name,
+                t,
+                row,
+                held,
+                extent.coded,
+                extent.body,
+                extent.wall,
             );
             match o {
-                Opened::Refuse(n, place) => Entered::Refuse(n, place),
+                Opened::Refuse(fault) => Entered::Refuse(fault),
                 Opened::Blank(d) => Entered::Done(d),
-                Opened::Full(n, place) => Entered::Full(n, place),
-                Opened::In(y) => {
-                    let effective = y.effective;
-                    let d = y.cursor;
-                    fill(
-                        table, payload, events, texts, mode, inner, d, effective, coded, body,
-                    )
-                }
+                Opened::Full(fault) => Entered::Full(fault),
+                Opened::In(y) => fill(
+                    table,
+                    payload,
+                    events,
+                    texts,
+                    mode,
+                    y.cursor,
+                    y.effective,
+                    extent,
+                ),
             }
         }
     }

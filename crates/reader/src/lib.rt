@@ -9,8 +9,8 @@ mod groups; // groups.rt: the rows that a row holds
 mod rest; // rest.rt: what is left after the root
 mod refusal_path; // refusal_path.rt: what a walk answers, and the path of a refusal
 
-ghost use Rattle.std.specs.Prelude.{◌≡◌, ◌<◌, length};
-ghost use Rattle.numbers.specs.Limit.{most_names};
+ghost use Rattle.std.specs.Prelude.{◌≡◌, ◌<◌, [], Ok, Err, length};
+ghost use Rattle.numbers.specs.Refused.{number_of};
 ghost use Rattle.wire.specs.Res.{got};
 ghost use Rattle.table.specs.First.Verdict.{right};
 ghost use Rattle.table.specs.Valid.{verdict};
@@ -19,31 +19,36 @@ ghost use Rattle.model.specs.Modes.{lengths_is, mode_is, Choosing};
 ghost use Rattle.model.specs.Whole.{lengths_number, mode_number, mode_of, declines, reading};
 ghost use Rattle.table.specs.Rows.{table_of};
 ghost use Rattle.reader_parts.specs.Paths.{back, names_of};
-ghost use Rattle.reader.specs.Answers.{path_is, answer_is, told, Replies};
+ghost use Rattle.reader.specs.Answers.{answer_is, told, Replies};
 ghost use Rattle.reader.specs.Cleared.{Zeros};
 
 use clear::both;
 use cycle::particle;
-use front::{Found, mode_of};
+use front::mode_of;
 use model::{Lengths, Mode};
-use numbers::{limit, refusal};
+use numbers::limit;
+use numbers::refusal::{Fault, Refusal};
 use reader_parts::opening::NO_ROW;
 use reader_parts::{Cursor, Path};
-use refusal_path::{Walk, copy_names};
+use refusal_path::Halt;
 use rest::padding;
 use table::rows::types;
-use table::{Verdict, check};
+use table::{Flaw, check};
 use wire::{Bits, Bytes};
 
-// The whole answer. On acceptance number and place are 0 and the path is empty; on a refusal all but number, place and path is 0.
+// What a payload was read as: its mode's number, how many events and how many bytes of text were stored, and how many bits were used.
 #[derive(Clone, Copy)]
-pub struct Answer {
-    pub number: u32,
-    pub place: usize,
+pub struct Reading {
     pub mode: u32,
     pub events: u32,
     pub text: Bytes,
     pub bits: Bits,
+}
+
+// Why a payload, or what was asked of it, is refused and at which place; and the names of the elements that are open there.
+#[derive(Clone, Copy)]
+pub struct Refused {
+    pub fault: Fault<usize>,
     pub path: Path,
 }
 
@@ -57,31 +62,18 @@ fn nowhere() -> Path
     }
 }
 
-// The path that was told.
-fn path_from(told: &[u16], count: usize) -> Path
-    requires { length told.now ≡ most_names }
-    ensures { names_of result ≡ back told.now count }
+// Refused where no element is open.
+fn unopened(why: Refusal, at: usize) -> Refused
+    ensures { answer_is (Err result) ≡ declines (number_of why) at [] }
 {
-    let mut names = [0u16; limit::MOST_NAMES];
-    copy_names(&mut names, told);
-    Path { names, count }
-}
-
-fn refused(number: u32, place: usize, path: Path) -> Answer
-    ensures { answer_is result ≡ declines number place (path_is path) }
-{
-    Answer {
-        number,
-        place,
-        mode: 0,
-        events: 0,
-        text: Bytes(0),
-        bits: Bits(0),
-        path,
+    Refused {
+        fault: Fault { why, at },
+        path: nowhere(),
     }
 }
 
-// A length coding as document 01's number.
+// A length coding as document 01's number; no `From`, as `Lengths` is another crate's.
+#[tactic(auto, using(crate::proofs::Answers::lengths_ways))]
 fn lengths_number(lengths: Lengths) -> u32
     ensures { result ≡ lengths_number (lengths_is lengths) }
 {
@@ -93,6 +85,7 @@ fn lengths_number(lengths: Lengths) -> u32
 }
 
 // The mode as document 01's number.
+#[tactic(auto, using(crate::proofs::Answers::number_ways))]
 fn number_of(mode: Mode) -> u32
     ensures { result ≡ mode_number (mode_is mode) }
 {
@@ -106,21 +99,16 @@ fn number_of(mode: Mode) -> u32
     }
 }
 
-fn accepted(mode: Mode, c: Cursor, path: Path) -> Answer
+#[tactic(auto, using(crate::proofs::Answers::told_all))]
+fn accepted(mode: Mode, c: Cursor) -> Reading
     requires { c.used < 4294967296 }
-    ensures { answer_is result ≡ told mode c path }
+    ensures { answer_is (Ok result) ≡ told mode c }
 {
-    let number = number_of(mode);
-    let text = Bytes(c.used as u32);
-    let bits = c.at;
-    Answer {
-        number: refusal::ACCEPTED,
-        place: 0,
-        mode: number,
+    Reading {
+        mode: number_of(mode),
         events: c.count,
-        text,
-        bits,
-        path,
+        text: Bytes(c.used as u32),
+        bits: c.at,
     }
 }
 
@@ -134,7 +122,7 @@ fn root(
     mode: Mode,
     name: u32,
     t: u32,
-) -> Answer
+) -> Result<Reading, Refused>
     requires { (Entered table.now party name t)
         × (mode_of (table_of table.now).derivations payload.now ≡ got (mode_is mode))
         × (Choosing table.now mode.choices)
@@ -172,31 +160,30 @@ fn root(
         0,
         1,
     );
-    match w {
-        Walk::Refuse(n, at) => {
-            let place = at.0 as usize;
-            both(events, texts);
-            refused(n, place, path)
-        }
-        Walk::Told(n, at, count) => {
-            let place = at.0 as usize;
-            both(events, texts);
-            refused(n, place, path_from(&told, count))
-        }
-        Walk::Go(d) => {
+    let refused = match w {
+        Err(Halt::Untold(fault)) => unopened(fault.why, fault.at.0 as usize),
+        Err(Halt::Told(fault, count)) => Refused {
+            fault: Fault {
+                why: fault.why,
+                at: fault.at.0 as usize,
+            },
+            path: Path { names: told, count },
+        },
+        Ok(d) => {
             let at = d.at;
             let ok = padding(payload, at);
             if ok {
-                return accepted(mode, d, path);
+                return Ok(accepted(mode, d));
             }
-            let place = at.0 as usize;
-            both(events, texts);
-            refused(refusal::LEFT_OVER, place, path)
+            unopened(Refusal::LeftOver, at.0 as usize)
         }
-    }
+    };
+    both(events, texts);
+    Err(refused)
 }
 
 // A payload by a table that is right, into buffers that are zero.
+#[tactic(auto, using(crate::proofs::RootLaws::entry_ways))]
 fn read_checked(
     table: &[u32],
     party: u32,
@@ -205,7 +192,7 @@ fn read_checked(
     payload: &[u8],
     events: &mut [u32],
     texts: &mut [u8],
-) -> Answer
+) -> Result<Reading, Refused>
     requires { (verdict table.now ≡ right) × Zeros events.old × Zeros texts.old }
     ensures { Replies (reading table.now party root_name root_type payload.now
         (length events.old) (length texts.old)) (length events.old)
@@ -213,24 +200,24 @@ fn read_checked(
 {
     let known = types(table);
     if known <= root_type {
-        return refused(refusal::ROOT, 0, nowhere());
+        return Err(unopened(Refusal::Root, 0));
     }
     if limit::MOST_NAME < root_name {
-        return refused(refusal::ROOT, 0, nowhere());
+        return Err(unopened(Refusal::Root, 0));
     }
     if limit::PARTIES <= party {
-        return refused(refusal::PARTY, 0, nowhere());
+        return Err(unopened(Refusal::Party, 0));
     }
-    let f = mode_of(table, party, payload);
-    match f {
-        Found::Refuse(n) => refused(n, 0, nowhere()),
-        Found::Is(mode) => root(
+    match mode_of(table, party, payload) {
+        Err(why) => Err(unopened(why, 0)),
+        Ok(mode) => root(
             table, party, payload, events, texts, mode, root_name, root_type,
         ),
     }
 }
 
 // THE READER: a payload, for a party, whose root has a name and a type of the table. It asks nothing of what it is given.
+#[tactic(auto, using(crate::proofs::RootLaws::entry_ways))]
 pub fn read(
     table: &[u32],
     party: u32,
@@ -239,15 +226,14 @@ pub fn read(
     payload: &[u8],
     events: &mut [u32],
     texts: &mut [u8],
-) -> Answer
+) -> Result<Reading, Refused>
     ensures { Replies (reading table.now party root_name root_type payload.now
         (length events.old) (length texts.old)) (length events.old)
         (length texts.old) result events.new texts.new }
 {
     both(events, texts);
-    let v = check(table);
-    match v {
-        Verdict::Wrong(i) => refused(refusal::TABLE, i, nowhere()),
-        Verdict::Right => read_checked(table, party, root_name, root_type, payload, events, texts),
+    match check(table) {
+        Err(Flaw(word)) => Err(unopened(Refusal::Table, word)),
+        Ok(()) => read_checked(table, party, root_name, root_type, payload, events, texts),
     }
 }

@@ -7,23 +7,23 @@ use wire::Bits;
 use wire::reading::bit;
 
 // Fewer than 8 bits, all of them 0.
+#[tactic(auto, using(crate::proofs::RestLaws::rest_ways))]
 pub fn padding(payload: &[u8], at: Bits) -> bool
     requires { length payload.now ≤ most_payload }
     ensures { result ≡ meaning.padding payload.now at.0 }
 {
     let wall = (8 * payload.len()) as u32;
-    let mut p = at.0;
-    if wall <= p {
+    let from = at.0;
+    if wall <= from {
         return true;
     }
-    if 8 <= wall - p {
+    if 8 <= wall - from {
         return false;
     }
-    while p < wall {
+    for p in from..wall {
         if 0 < bit(payload, p) {
             return false;
         }
-        p += 1;
     }
     true
 }

@@ -8,11 +8,9 @@ use lib.Dec.{ltb}
 use borrow.Author.Tests.{ltb-true, ltb-false}
 use Rattle.numbers.specs.Kind as kinds
 use Rattle.wire.specs.declared.Bits.{Bits}
-use Rattle.wire.specs.declared.Read.{Read}
-use Rattle.wire.specs.declared.Read.TheVariants as of-read
 use Rattle.wire.specs.Res.{got, fault}
 use Rattle.wire.proofs.Res.{then, then-fault}
-use Rattle.wire.specs.Answer.{read_is}
+use Rattle.wire.specs.Answer.{Read, read_is}
 use Rattle.wire.proofs.ReadWays.{read-value, read-refuse}
 use Rattle.value.specs.Code.{choice, choice_at, code_at}
 use Rattle.value.specs.Simple.{plain, simple_at}
@@ -36,22 +34,24 @@ use Rattle.model.proofs.Join.{after-done, attribute-join, read_join}
 use Rattle.model.specs.Steps as steps
 use Rattle.model.proofs.Steps as steps-laws
 use Rattle.reader_parts.specs.declared.Cursor.{Cursor}
-use Rattle.reader_parts.specs.declared.Step.{Step}
-use Rattle.reader_parts.specs.declared.Step.TheVariants.{Go, Refuse}
+use Rattle.std.specs.Prelude.{Ok, Err}
+use Rattle.numbers.specs.Refused.{number_of}
+use Rattle.numbers.specs.declared.refusal.Refusal.{Refusal}
+use Rattle.numbers.specs.declared.refusal.Fault.{Fault}
 use Rattle.reader_parts.specs.declared.attributes.Due.{Due}
 use Rattle.reader_parts.specs.declared.attributes.Lead.{Lead}
 use Rattle.reader_parts.specs.declared.attributes.Lead.TheVariants as lead
-use Rattle.reader_parts.specs.Out.{room_of, step_view, outcome, own_value, Reads, Stores}
-use Rattle.reader_parts.specs.Parts.{own_lead, part_at, before_rows, lead_view, Leads, LeadNotes}
+use Rattle.reader_parts.specs.Out.{Step, room_of, step_view, outcome, own_value, Reads, Stores}
+use Rattle.reader_parts.specs.Parts.{own_lead, part_at, before_rows, lead_view, Leads, LeadNotes, Finishes}
 use Rattle.reader_parts.proofs.Laws.{after_stop, after-go, outcome-none}
 
 -- the flag
 module _ (b : ℕ → ℕ) (wall at : ℕ) (r : Read) (e : read_is r ≡ choice_at b 2 wall at) where
-  pub flag-refuse : (n : ℕ) → r ≡ of-read.Refuse n → simple_at (plain (choice 2)) b wall at ≡ fault n
+  pub flag-refuse : (n : Refusal) → r ≡ Err n → simple_at (plain (choice 2)) b wall at ≡ fault (number_of n)
   unfolding simple_at code_at
   flag-refuse n g = then-fault _ (read-refuse e g)
 
-  pub flag-value : (v : ℕ) (next : Bits) → r ≡ of-read.Value v next → simple_at (plain (choice 2)) b wall at ≡ got (v, [], next.0)
+  pub flag-value : (v : ℕ) (next : Bits) → r ≡ Ok (v, next) → simple_at (plain (choice 2)) b wall at ≡ got (v, [], next.0)
   unfolding simple_at code_at
   flag-value v next g = then _ (read-value e g) refl
 
@@ -61,16 +61,16 @@ Given a v = maybe v (value a.simple a.b a.c done) done
 
 -- an attribute's event, and its value is next
 module _ (c : Cursor) (E : List ℕ) (a : of-table.Attribute) (v next : ℕ) (s : Step) (E' : List ℕ) (h : Stores kinds.attribute a.name v next c E s E') where
-  pub noted-stop : (n : ℕ) (p : Bits) → s ≡ Refuse n p → LeadNotes v next (attribute_is a) c E (lead.Refuse n p) E'
+  pub noted-stop : (n : Fault Bits) → s ≡ Err n → LeadNotes v next (attribute_is a) c E (lead.Refuse n) E'
   unfolding lead_view step_view
-  noted-stop n p i = record { says = λ b wall mode held T π. sym (ap (λ (x : Step). step_view x π E' T) i) ∙ after_stop s π E' T _ c π E T (h.says T π) n p i π _ _ }
+  noted-stop n i = record { says = λ b wall mode held T π. sym (ap (λ (x : Step). step_view x π E' T) i) ∙ after_stop s π E' T _ c π E T (h.says T π) n i π _ _ }
 
-  module _ (d : Cursor) (i : s ≡ Go d) (b : ℕ → ℕ) (wall : ℕ) (mode : Lengths) (held : ℕ → Bool) (T π : List ℕ) where
+  module _ (d : Cursor) (i : s ≡ Ok d) (b : ℕ → ℕ) (wall : ℕ) (mode : Lengths) (held : ℕ → Bool) (T π : List ℕ) where
     noted-next : (k : ℕ) → v ≡ k → outcome (read b mode held (Given a k) (room_of E' T d) π wall d.at.0) d π E' T
         ≡ outcome (after (room_of E T c) (stored (room_of E T c) π c.at.0 (event kinds.attribute a.name v (next - c.at.0)) [] next) (λ u p. read b mode held (Given a v) u π wall p)) c π E T
     noted-next k z = rw (← z) (after-go s π E' T _ c π E T (h.says T π) d i π (λ u ρ p. read b mode held (Given a v) u ρ wall p))
 
-  pub noted-absent : (d : Cursor) → s ≡ Go d → v ≡ 0 → LeadNotes v next (attribute_is a) c E (lead.Go d) E'
+  pub noted-absent : (d : Cursor) → s ≡ Ok d → v ≡ 0 → LeadNotes v next (attribute_is a) c E (lead.Go d) E'
   unfolding lead_view step_view
   noted-absent d i z = record {
     says = λ b wall mode held T π.
@@ -79,7 +79,7 @@ module _ (c : Cursor) (E : List ℕ) (a : of-table.Attribute) (v next : ℕ) (s 
         ∙ noted-next d i b wall mode held T π 0 z;
   }
 
-  pub noted-present : (d : Cursor) → s ≡ Go d → (v ≡ 0 → ⊥) → LeadNotes v next (attribute_is a) c E (lead.Value record { cursor = d; simple = a.simple; x = a.b; y = a.c }) E'
+  pub noted-present : (d : Cursor) → s ≡ Ok d → (v ≡ 0 → ⊥) → LeadNotes v next (attribute_is a) c E (lead.Value record { cursor = d; simple = a.simple; x = a.b; y = a.c }) E'
   unfolding lead_view
   noted-present d i z = record {
     says = λ b wall mode held T π.
@@ -108,14 +108,14 @@ module _ (b : ℕ → ℕ) (wall : ℕ) (c : Cursor) (E : List ℕ) (a : of-tabl
     optional-is mode held T π =
         steps-laws.attribute-optional b mode held (table_of []) (room_of E T c) π wall c.at.0 (attribute_is a) m ∙ rw (steps-laws.item-optional b wall c.at.0 a.name)
 
-    pub one-refuse : (n : ℕ) → r ≡ of-read.Refuse n → Leads (One a) b wall c E (lead.Refuse n c.at) E
+    pub one-refuse : (n : Refusal) → r ≡ Err n → Leads (One a) b wall c E (lead.Refuse (record { why = n; at = c.at })) E
     unfolding lead_view outcome code
     one-refuse n g = record { says = λ mode held T π. rw (optional-is mode held T π, flag-fault) }
       where
-        flag-fault : simple_at (plain (choice 2)) b wall c.at.0 ≡ fault n
+        flag-fault : simple_at (plain (choice 2)) b wall c.at.0 ≡ fault (number_of n)
         flag-fault = flag-refuse b wall c.at.0 r e n g
 
-    pub one-flagged : (v : ℕ) (next : Bits) (l : Lead) (E' : List ℕ) → r ≡ of-read.Value v next → LeadNotes v next.0 (attribute_is a) c E l E' → Leads (One a) b wall c E l E'
+    pub one-flagged : (v : ℕ) (next : Bits) (l : Lead) (E' : List ℕ) → r ≡ Ok (v, next) → LeadNotes v next.0 (attribute_is a) c E l E' → Leads (One a) b wall c E l E'
     unfolding code
     one-flagged v next l E' g y = record { says = λ mode held T π. y.says b wall mode held T π ∙ sym (rw (optional-is mode held T π, flag-got)) }
       where
@@ -124,18 +124,12 @@ module _ (b : ℕ → ℕ) (wall : ℕ) (c : Cursor) (E : List ℕ) (a : of-tabl
 
 pub ruleset one-ways = (one-required, one-refuse, one-flagged)
 
--- the value that a content is, case by case
-module _ (c : Cursor) (k : of-content.Content) where
-  pub own-empty : k ≡ Empty → lead.Go c ≡ own_lead c k
-  own-empty g = rw g
-
-  pub own-simple : (kind x y : ℕ) → k ≡ Simple kind x y → lead.Value record { cursor = c; simple = kind; x = x; y = y } ≡ own_lead c k
-  own-simple kind x y g = rw g
-
-  pub own-rows : (row : ℕ) → k ≡ Particles row → lead.Go c ≡ own_lead c k
-  own-rows row g = rw g
-
-pub ruleset own-ways = (own-empty, own-simple, own-rows)
+-- the value that a content is
+pub own-leads : (b : ℕ → ℕ) (wall : ℕ) (c : Cursor) (E : List ℕ) (k : of-content.Content) → Leads (own_value (content_is k)) b wall c E (own_lead c k) E
+unfolding own_value lead_view step_view read
+own-leads b wall c E Empty = record { says = λ mode held T π. outcome-none c π E T }
+own-leads b wall c E (Simple kind x y) = record { says = λ mode held T π. refl }
+own-leads b wall c E (Particles i) = record { says = λ mode held T π. outcome-none c π E T }
 
 -- a part up to its value
 module _ (l : List ℕ) (t row : ℕ) (b : ℕ → ℕ) (wall : ℕ) (c : Cursor) (E : List ℕ) (more : Bool) where
@@ -144,34 +138,31 @@ module _ (l : List ℕ) (t row : ℕ) (b : ℕ → ℕ) (wall : ℕ) (c : Cursor
   part-attribute a o E' m g y = rw (m, ← g) y
 
   pub part-own : (k : of-content.Content) (o : Lead) → more ≡ false → content_is k ≡ (table_of l).content t → o ≡ own_lead c k → Leads (part_at l t row more) b wall c E o E
-  unfolding part_at own_value lead_view step_view read
-  part-own k o m e g = rw (m, ← e, g) (go k)
-    where
-      go : (q : of-content.Content) → Leads (own_value (content_is q)) b wall c E (own_lead c q) E
-      go Empty = record { says = λ mode held T π. outcome-none c π E T }
-      go (Simple kind x y) = record { says = λ mode held T π. refl }
-      go (Particles i) = record { says = λ mode held T π. outcome-none c π E T }
+  unfolding part_at
+  part-own k o m e g = rw (m, ← e, g) (own-leads b wall c E k)
 
 pub ruleset before-ways = (part-attribute, part-own)
 
--- a part, with its value
-module _ (P : Plan) (b : ℕ → ℕ) (wall : ℕ) (c : Cursor) (E T : List ℕ) (o : Lead) (E' : List ℕ) (h : Leads P b wall c E o E') where
-  led : (x : Lead) → o ≡ x → (mode : Lengths) (held : ℕ → Bool) (π : List ℕ) → lead_view b mode held wall x π E' T ≡ outcome (read b mode held P (room_of E T c) π wall c.at.0) c π E T
-  led x i mode held π = rw i at (h.says mode held T π)
-
-  pub part-stop : (n : ℕ) (p : Bits) → o ≡ lead.Refuse n p → Reads P b wall c E T (Refuse n p) E' T
+-- what came before a value, and that
+module _ (b : ℕ → ℕ) (wall : ℕ) (E T : List ℕ) (l : Lead) where
+  pub finish-stop : (n : Fault Bits) → l ≡ lead.Refuse n → Finishes l b wall E T (Err n) E T
   unfolding lead_view step_view
-  part-stop n p i = record { says = λ mode held π. led (lead.Refuse n p) i mode held π }
+  finish-stop n i = record { says = λ mode held π. rw i }
 
-  pub part-go : (d : Cursor) → o ≡ lead.Go d → Reads P b wall c E T (Go d) E' T
+  pub finish-go : (d : Cursor) → l ≡ lead.Go d → Finishes l b wall E T (Ok d) E T
   unfolding lead_view step_view
-  part-go d i = record { says = λ mode held π. led (lead.Go d) i mode held π }
+  finish-go d i = record { says = λ mode held π. rw i }
 
-  pub part-value : (v : Due) (s : Step) (E'' T'' : List ℕ) → o ≡ lead.Value v → Reads (value v.simple v.x v.y done) b wall v.cursor E' T s E'' T'' → Reads P b wall c E T s E'' T''
+  pub finish-value : (v : Due) (s : Step) (E' T' : List ℕ) → l ≡ lead.Value v → Reads (value v.simple v.x v.y done) b wall v.cursor E T s E' T' → Finishes l b wall E T s E' T'
   unfolding lead_view
-  part-value v s E'' T'' i y = record { says = λ mode held π. y.says mode held π ∙ led (lead.Value v) i mode held π }
+  finish-value v s E' T' i y = record { says = λ mode held π. rw i (y.says mode held π) }
 
-pub ruleset part-ways = (part-stop, part-go, part-value)
+pub ruleset finish-ways = (finish-stop, finish-go, finish-value)
+
+-- a part, with its value
+pub finished : (P : Plan) (b : ℕ → ℕ) (wall : ℕ) (c : Cursor) (E T : List ℕ) (l : Lead) (E' : List ℕ) (s : Step) (E'' T'' : List ℕ)
+    → Leads P b wall c E l E' → Finishes l b wall E' T s E'' T'' → Reads P b wall c E T s E'' T''
+finished P b wall c E T l E' s E'' T'' h y = record { says = λ mode held π. y.says mode held π ∙ h.says mode held T π }
 
 -- what is left at a cursor c, with E and T, is all that was asked for at c₀, with E₀ and T₀
 pub record Left (b : ℕ → ℕ) (wall : ℕ) (P₀ P : Plan) (c₀ : Cursor) (E₀ T₀ : List ℕ) (c : Cursor) (E T : List ℕ) : Type 0 where
@@ -203,7 +194,7 @@ UpTo l t end i = Parts l t (end + 1 - i) i
 
 module _ (l : List ℕ) (t : ℕ) (b : ℕ → ℕ) (wall end : ℕ) (P : Plan) (c₀ : Cursor) (E₀ T₀ : List ℕ) where
   module _ (i : ℕ) (c : Cursor) (E T : List ℕ) (h : Left b wall P (UpTo l t end i) c₀ E₀ T₀ c E T) where
-    pub left-none : end < i → Reads P b wall c₀ E₀ T₀ (Go c) E T
+    pub left-none : end < i → Reads P b wall c₀ E₀ T₀ (Ok c) E T
     unfolding Parts read
     left-none g =
         let e : end + 1 - i ≡ 0 = omega arith in
@@ -233,15 +224,16 @@ module _ (l : List ℕ) (t : ℕ) (b : ℕ → ℕ) (wall end : ℕ) (P : Plan) 
               let f : end + 1 - (i + 1) ≡ 0 = omega arith in
               rw (m, e, f) (last-part b mode held (room_of E T c) π wall c.at.0 l t i (i + 1))
 
-      pub left-stop : (m : ℕ) (p : Bits) → s ≡ Refuse m p → Reads P b wall c₀ E₀ T₀ s E' T'
-      left-stop m p w = record {
+      pub left-stop : (m : Fault Bits) → s ≡ Err m → Reads P b wall c₀ E₀ T₀ (Err m) E' T'
+      left-stop m w = record {
         says = λ mode held π.
-            after_stop s π E' T' _ c π E T (y.says mode held π) m p w π _ _
+            ap (λ (x : Step). step_view x π E' T') (sym w)
+            ∙ after_stop s π E' T' _ c π E T (y.says mode held π) m w π _ _
             ∙ ap (λ (o : Answer). outcome o c π E T) (sym (turn_is mode held π))
             ∙ h.same mode held π;
       }
 
-      pub left-more : (d : Cursor) → s ≡ Go d → Left b wall P (UpTo l t end (i + 1)) c₀ E₀ T₀ d E' T'
+      pub left-more : (d : Cursor) → s ≡ Ok d → Left b wall P (UpTo l t end (i + 1)) c₀ E₀ T₀ d E' T'
       left-more d w = record {
         same = λ mode held π.
             after-go s π E' T' _ c π E T (y.says mode held π) d w π (λ u ρ p. read b mode held (UpTo l t end (i + 1)) u ρ wall p)

@@ -4,8 +4,7 @@ use mathlib.Core.Path.{◌≡◌, refl, sym, ◌∙◌}
 use mathlib.Core.Bool.{Bool, true, false, cond}
 use mathlib.Core.List.{List, [], ◌∷◌}
 use native.Mathlib.Omega.{arith}
-use borrow.Author.Tests.{lt-ltb, le-ltb, le-leb, lt-leb}
-use lib.Dec.{ltb}
+use borrow.Author.Tests.{lt-ltb, le-leb, lt-leb}
 use lib.ListN.{length, get_or}
 use Rattle.numbers.specs.Refusal.{past_end, too_large, no_such_code}
 use Rattle.numbers.specs.Kind as kinds
@@ -13,11 +12,11 @@ use Rattle.wire.specs.Res.{Res, got, fault, ◌>>=◌, Ensures}
 use Rattle.wire.proofs.Res.{bind, gives, under, then, then-fault, under-then}
 use Rattle.wire.specs.Bits.{num, fixed_at}
 use Rattle.wire.specs.Width.{least_from, width}
-use Rattle.wire.specs.Answer.{read_is}
+use Rattle.wire.specs.Answer.{Read, read_is}
 use Rattle.wire.proofs.ReadWays.{read-value, read-refuse}
 use Rattle.wire.specs.declared.Bits.{Bits}
-use Rattle.wire.specs.declared.Read.{Read}
-use Rattle.wire.specs.declared.Read.TheVariants as of-read
+use Rattle.std.specs.Prelude.{Ok, Err}
+use Rattle.numbers.specs.declared.refusal.Refusal.{Refusal}
 use Rattle.value.specs.Code.{choice, shifted, choice_at, some_of, code_at}
 use Rattle.value.specs.Simple.{one_of}
 use Rattle.table.specs.First.Verdict.{right}
@@ -35,14 +34,9 @@ use Rattle.model.specs.Modes.{types_by}
 use Rattle.model.specs.Read.{cast_at}
 use Rattle.model.specs.declared.Choices.{Choices}
 use Rattle.reader_parts.specs.declared.Cast.{Cast}
-use Rattle.reader_parts.specs.declared.Coded.TheVariants.{As, Wrong}
-use Rattle.reader_parts.specs.declared.codes.Picked as code
-use Rattle.reader_parts.specs.declared.codes.Picked.TheVariants as picked
 use Rattle.reader_parts.specs.declared.Cursor.{Cursor}
-use Rattle.reader_parts.specs.declared.Step.{Step}
-use Rattle.reader_parts.specs.declared.Step.TheVariants.{Go}
-use Rattle.reader_parts.specs.Out.{step_view, outcome, Stores}
-use Rattle.reader_parts.specs.Codes.{pick_is, pick_at, Picks, sends_of, coded_is, Says, Tells}
+use Rattle.reader_parts.specs.Out.{Step, step_view, outcome, Stores}
+use Rattle.reader_parts.specs.Codes.{Picked, pick_is, pick_at, Picks, sends_of, coded_is, Says, Tells}
 use Rattle.reader_parts.proofs.Laws.{outcome-none}
 
 -- one of n is under n; none or one of n is at most n
@@ -72,12 +66,12 @@ module _ (b : ℕ → ℕ) (n wall at : ℕ) where
     some_of_lem : n ≡ suc (n - 1)
     some_of_lem = omega arith
 
-    pub one-refuse : (m : ℕ) → r ≡ of-read.Refuse m → One (of-read.Refuse m)
+    pub one-refuse : (m : Refusal) → r ≡ Err m → One (Err m)
     unfolding one_of code_at read_is
     one-refuse m h = rw some_of_lem (sym (then-fault _ (read-refuse e h)))
 
-    module _ (f : ℕ) (p : Bits) (h : r ≡ of-read.Value f p) where
-      pub one-off : f ≡ 0 → One (of-read.Value 0 p)
+    module _ (f : ℕ) (p : Bits) (h : r ≡ Ok (f, p)) where
+      pub one-off : f ≡ 0 → One (Ok (0, p))
       unfolding one_of code_at read_is some_of
       one-off k = rw some_of_lem (sym (then _ (read-value e h) (rw k)))
 
@@ -89,18 +83,18 @@ module _ (b : ℕ → ℕ) (n wall at : ℕ) where
         unfolding one_of code_at
         one_on c i = rw some_of_lem (then _ (read-value e h) (rw flag_on (rw some_of_lem at i)))
 
-        pub one-cut : (m : ℕ) → x ≡ of-read.Refuse m → One (of-read.Refuse m)
+        pub one-cut : (m : Refusal) → x ≡ Err m → One (Err m)
         unfolding code_at read_is some_of
         one-cut m i = sym (one_on _ (then-fault _ (then-fault _ (read-refuse g i))))
 
-        module _ (v : ℕ) (q : Bits) (i : x ≡ of-read.Value v q) where
+        module _ (v : ℕ) (q : Bits) (i : x ≡ Ok (v, q)) where
           in-here : v < n
           in-here = (choice-in b n wall p.0).says (v, q.0) (read-value g i)
 
           pub one-fits : n < 2 ^ 32 → v + 1 < 4294967296
           one-fits l = let k = in-here in omega arith
 
-          pub one-read : n < 2 ^ 32 → (w : ℕ) → w ≡ v + 1 → One (of-read.Value w q)
+          pub one-read : n < 2 ^ 32 → (w : ℕ) → w ≡ v + 1 → One (Ok (w, q))
           unfolding code_at read_is some_of
           one-read l w j =
               let k = in-here in
@@ -114,16 +108,16 @@ module _ (l : List ℕ) (b : ℕ → ℕ) (wall at own : ℕ) (list : TypeList) 
   here : (types : List ℕ) → Listed l types list → read_is r ≡ code_at (one_of (length types)) b wall at
   here types h = rw h.count-is at e
 
-  pub pick-wrong : (n : ℕ) → r ≡ of-read.Refuse n → Picks l b wall at own list (picked.Wrong n)
+  pub pick-wrong : (n : Refusal) → r ≡ Err n → Picks l b wall at own list (Err n)
   unfolding pick_is pick_at
   pick-wrong n f = record { says = λ types h. sym (then-fault _ (read-refuse (here types h) f)) }
 
-  module _ (k : ℕ) (p : Bits) (f : r ≡ of-read.Value k p) where
-    pub pick-own : k ≡ 0 → Picks l b wall at own list (picked.Is own 0 p)
+  module _ (k : ℕ) (p : Bits) (f : r ≡ Ok (k, p)) where
+    pub pick-own : k ≡ 0 → Picks l b wall at own list (Ok (own, 0, p))
     unfolding pick_is pick_at chosen
     pick-own z = record { says = λ types h. sym (then _ (read-value (here types h) f) (rw z)) }
 
-    pub pick-listed : (t : ℕ) → (k ≡ 0 → ⊥) → t ≡ word_at l (listed_at list (k - 1)) → Picks l b wall at own list (picked.Is t k p)
+    pub pick-listed : (t : ℕ) → (k ≡ 0 → ⊥) → t ≡ word_at l (listed_at list (k - 1)) → Picks l b wall at own list (Ok (t, k, p))
     unfolding pick_is pick_at chosen
     pick-listed t z g =
         let few = (one_in b list.count wall at).says (k, p.0) (read-value e f) in
@@ -204,16 +198,6 @@ sends-of [] [] = refl
 sends-of [] (t ∷ d) = rw (lt-ltb 0 (suc (length d)) (omega arith))
 sends-of (t ∷ s) d = rw (lt-ltb 0 (suc (length s)) (omega arith))
 
--- sends
-module _ (swaps casts : ℕ) where
-  pub sends-swaps : 0 < swaps → true ≡ sends_of swaps casts
-  sends-swaps h = rw (lt-ltb 0 swaps h)
-
-  pub sends-casts : swaps ≤ 0 → ltb 0 casts ≡ sends_of swaps casts
-  sends-casts h = rw (le-ltb 0 swaps h)
-
-pub ruleset sends-ways = (sends-swaps, sends-casts)
-
 -- with no substitutes the own type stays
 own-stays : (own : ℕ) (b : ℕ → ℕ) (wall at : ℕ) → Ensures (pick_at own [] b wall at) (λ x. x.0 ≡ own)
 unfolding pick_at chosen
@@ -224,19 +208,19 @@ own-stays own b wall at =
 
 -- codes
 module _ (l : List ℕ) (choices : Choices) (t row : ℕ) (b : ℕ → ℕ) (wall at : ℕ) (swaps : TypeList)
-    (L : Listed l (cond choices.substitutes ((table_of l).substitutes row) []) swaps) (r : code.Picked) (h : Picks l b wall at t swaps r) where
+    (L : Listed l (cond choices.substitutes ((table_of l).substitutes row) []) swaps) (r : Picked) (h : Picks l b wall at t swaps r) where
   abbrev y : Types
   y = types_by l choices t row
 
   first_is : pick_is r ≡ pick_at t y.substitutes b wall at
   first_is = h.says y.substitutes L
 
-  pub says_first : (n : ℕ) → r ≡ picked.Wrong n → Says y b wall at (Wrong n)
+  pub says_first : (n : Refusal) → r ≡ Err n → Says y b wall at (Err n)
   unfolding coded_is pick_is
   says_first n e = record { says = sym (codes-picks y b wall at ∙ then-fault _ (sym first_is ∙ rw e)); sent = tt }
 
-  module _ (own k : ℕ) (p : Bits) (e : r ≡ picked.Is own k p) (casts : TypeList) (D : Listed l (cond choices.derived ((table_of l).derived own) []) casts)
-      (x : code.Picked) (g : Picks l b wall p.0 own casts x) where
+  module _ (own k : ℕ) (p : Bits) (e : r ≡ Ok (own, k, p)) (casts : TypeList) (D : Listed l (cond choices.derived ((table_of l).derived own) []) casts)
+      (x : Picked) (g : Picks l b wall p.0 own casts x) where
     picked-is : pick_at t y.substitutes b wall at ≡ got (own, k, p.0)
     unfolding pick_is
     picked-is = sym first_is ∙ rw e
@@ -244,7 +228,7 @@ module _ (l : List ℕ) (choices : Choices) (t row : ℕ) (b : ℕ → ℕ) (wal
     second_is : pick_is x ≡ pick_at own (y.derived own) b wall p.0
     second_is = g.says (y.derived own) D
 
-    pub says_second : (n : ℕ) → x ≡ picked.Wrong n → Says y b wall at (Wrong n)
+    pub says_second : (n : Refusal) → x ≡ Err n → Says y b wall at (Err n)
     unfolding coded_is pick_is
     says_second n f = record { says = sym (codes-picks y b wall at ∙ then _ picked-is (then-fault _ (sym second_is ∙ rw f))); sent = tt }
 
@@ -255,8 +239,8 @@ module _ (l : List ℕ) (choices : Choices) (t row : ℕ) (b : ℕ → ℕ) (wal
         rw own_is
     sent_is (a ∷ s) f = refl
 
-    pub says-as : (effective j : ℕ) (q : Bits) (sent : Bool) → x ≡ picked.Is effective j q → sent ≡ sends_of swaps.count casts.count
-        → Says y b wall at (As record { effective = effective; substitute = k; next = q; sent = sent })
+    pub says-as : (effective j : ℕ) (q : Bits) (sent : Bool) → x ≡ Ok (effective, j, q) → sent ≡ sends_of swaps.count casts.count
+        → Says y b wall at (Ok (record { effective = effective; substitute = k; next = q; sent = sent }))
     unfolding coded_is pick_is codes
     says-as effective j q sent f i =
         let cast_is : pick_at own (y.derived own) b wall p.0 ≡ got (effective, j, q.0) = sym second_is ∙ rw f in
@@ -305,7 +289,7 @@ module _ (x : Cast) (c : Cursor) (E : List ℕ) where
   unfolding cast_at
   tells-sent s E' e h = record { says = λ T π. rw e (h.says T π) }
 
-  pub tells-nothing : (d : Cursor) → x.sent ≡ false → d.at ≡ x.next → d.count ≡ c.count → d.used ≡ c.used → Tells x c E (Go d) E
+  pub tells-nothing : (d : Cursor) → x.sent ≡ false → d.at ≡ x.next → d.count ≡ c.count → d.used ≡ c.used → Tells x c E (Ok d) E
   unfolding cast_at step_view outcome
   tells-nothing d e f g h = record { says = λ T π. rw e (outcome-none d π E T ∙ (λ i. outcome (given none (f i).0) record { at = f i; count = g i; used = h i } π E T)) }
 

@@ -15,9 +15,9 @@ use Rattle.model.specs.Model.Answer.{given, refused}
 use Rattle.model.specs.Read.{Room, room_less, less_one, onto, after, stored, met, ended, closed, Into, cast_at, entered}
 use Rattle.model.proofs.Trees.{slots-then, bytes-then, events-then, texts-then}
 use Rattle.reader_parts.specs.declared.Cursor.{Cursor}
-use Rattle.reader_parts.specs.declared.Step.{Step}
-use Rattle.reader_parts.specs.declared.Step.TheVariants.{Refuse}
-use Rattle.reader_parts.specs.Out.{room_of, step_view, outcome, Stores, ending, Closes}
+use Rattle.std.specs.Prelude.{Err}
+use Rattle.numbers.specs.declared.refusal.Refusal.TheVariants as refusal
+use Rattle.reader_parts.specs.Out.{Step, room_of, step_view, outcome, Stores, ending, Closes}
 use Rattle.reader_parts.proofs.StoreWays.{stored-full, stored-in}
 
 pub meets-coded : (coded : Bool) (at wall : ℕ) → coded ≡ true → eqb at wall ≡ met coded at wall
@@ -27,8 +27,6 @@ meets-coded coded at wall h = rw h
 pub meets-free : (coded : Bool) (at wall : ℕ) → coded ≡ false → true ≡ met coded at wall
 unfolding met
 meets-free coded at wall h = rw h
-
-pub ruleset meets-ways = (meets-coded, meets-free)
 
 module _ (coded : Bool) (body wall : ℕ) (r : Room) (ρ : List ℕ) (q : ℕ) where
   pub ending-short : met coded q wall ≡ false → ending coded body wall r ρ q ≡ refused content_short body ρ
@@ -41,7 +39,7 @@ module _ (coded : Bool) (body wall : ℕ) (r : Room) (ρ : List ℕ) (q : ℕ) w
 
 -- close
 module _ (coded : Bool) (body : Bits) (wall : ℕ) (c : Cursor) (E : List ℕ) (m : Bool) (e : m ≡ met coded c.at.0 wall) where
-  pub close-short : not m ≡ true → Closes coded body.0 wall c E (Refuse content_short body) E
+  pub close-short : not m ≡ true → Closes coded body.0 wall c E (Err (record { why = refusal.ContentShort; at = body })) E
   unfolding step_view outcome
   close-short h = record { says = λ T π. rw (ending-short coded body.0 wall (room_of E T c) π c.at.0 (sym e ∙ not-true m h)) }
 

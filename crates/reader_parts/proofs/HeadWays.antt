@@ -1,16 +1,14 @@
 -- Each way through a head.
 use Prim.Native.Nat.{ℕ, suc, ◌+◌, ◌-◌, ◌<◌, ◌≤◌}
 use mathlib.Core.Path.{◌≡◌, refl, sym, ◌∙◌}
-use mathlib.Core.Bool.{Bool}
 use native.Mathlib.Omega.{arith}
-use Rattle.numbers.specs.Refusal as refusal
+use Rattle.std.specs.Prelude.{Ok, Err}
+use Rattle.numbers.specs.declared.refusal.Refusal.{Refusal}
+use Rattle.numbers.specs.declared.refusal.Refusal.TheVariants as refusal
 use Rattle.wire.specs.declared.Bits.{Bits}
-use Rattle.wire.specs.declared.Read.{Read}
-use Rattle.wire.specs.declared.Read.TheVariants as of-read
 use Rattle.wire.specs.declared.Number.{Number}
-use Rattle.wire.specs.declared.Number.TheVariants as of_number
 use Rattle.wire.proofs.Res.{then, then-fault, under-then, under-fault}
-use Rattle.wire.specs.Answer.{read_is, number_is}
+use Rattle.wire.specs.Answer.{Read, Numbered, read_is, number_is}
 use Rattle.wire.specs.Number.{number5}
 use Rattle.wire.proofs.ReadWays.{read-value, read-refuse, number-value, number-refuse}
 use Rattle.value.specs.Code.{choice_at, code_at}
@@ -18,41 +16,40 @@ use Rattle.model.specs.Items.{length_at, head_at}
 use Rattle.model.specs.Modes.{lengths_is}
 use Rattle.model.specs.declared.Lengths.{Lengths}
 use Rattle.model.specs.declared.Lengths.TheVariants.{Never, Optional, Always}
-use Rattle.reader_parts.specs.declared.Head.{Head}
-use Rattle.reader_parts.specs.declared.Head.TheVariants.{Bare, Sized, Wrong}
-use Rattle.reader_parts.specs.Heads.{head_is, Heads, Measured}
+use Rattle.reader_parts.specs.declared.Head.TheVariants.{Bare, Sized}
+use Rattle.reader_parts.specs.Heads.{Head, head_is, Heads, Measured}
 
 -- TheLength
-module _ (b : ℕ → ℕ) (wall at : ℕ) (r : Number) (e : number_is r ≡ number5 b wall at) where
-  pub measured-refuse : (n : ℕ) → r ≡ of_number.Refuse n → Measured b wall at (Wrong n)
+module _ (b : ℕ → ℕ) (wall at : ℕ) (r : Numbered) (e : number_is r ≡ number5 b wall at) where
+  pub measured-refuse : (n : Refusal) → r ≡ Err n → Measured b wall at (Err n)
   unfolding head_is length_at
   measured-refuse n h = record { says = sym (then-fault _ (number-refuse e h)); within = tt }
 
-  module _ (n : ℕ) (body : Bits) (short : Bool) (h : r ≡ of_number.Value n body short) where
-    past : wall < body.0 + n → Measured b wall at (Wrong refusal.length)
+  module _ (n : Number) (h : r ≡ Ok n) where
+    past : wall < n.next.0 + n.value → Measured b wall at (Err refusal.Length)
     unfolding head_is length_at
-    past k = record { says = sym (then _ (number-value e h) (under-fault refusal.length _ k)); within = tt }
+    past k = record { says = sym (then _ (number-value e h) (under-fault _ _ k)); within = tt }
 
-    pub measured-before : wall < body.0 → Measured b wall at (Wrong refusal.length)
+    pub measured-before : wall < n.next.0 → Measured b wall at (Err refusal.Length)
     measured-before k = past (omega arith)
 
-    pub measured-past : body.0 ≤ wall → wall - body.0 < n → Measured b wall at (Wrong refusal.length)
+    pub measured-past : n.next.0 ≤ wall → wall - n.next.0 < n.value → Measured b wall at (Err refusal.Length)
     measured-past j k = past (omega arith)
 
-    pub measured-in : (end : Bits) → body.0 ≤ wall → n ≤ wall - body.0 → end.0 ≡ body.0 + n → Measured b wall at (Sized body end)
+    pub measured-in : (end : Bits) → n.next.0 ≤ wall → n.value ≤ wall - n.next.0 → end.0 ≡ n.next.0 + n.value → Measured b wall at (Ok (Sized n.next end))
     unfolding head_is length_at
-    measured-in end j k l = record { says = rw l (sym (then _ (number-value e h) (under-then refusal.length (omega arith) refl))); within = omega arith }
+    measured-in end j k l = record { says = rw l (sym (then _ (number-value e h) (under-then _ (omega arith) refl))); within = omega arith }
 
 pub ruleset measured-ways = (measured-refuse, measured-before, measured-past, measured-in)
 
 -- by a flag
 module _ (b : ℕ → ℕ) (wall at : ℕ) (r : Read) (e : read_is r ≡ choice_at b 2 wall at) where
-  pub flagged-refuse : (n : ℕ) → r ≡ of-read.Refuse n → Heads Optional b wall at (Wrong n)
+  pub flagged-refuse : (n : Refusal) → r ≡ Err n → Heads Optional b wall at (Err n)
   unfolding head_is head_at lengths_is code_at
   flagged-refuse n h = record { says = sym (then-fault _ (read-refuse e h)); within = tt }
 
-  module _ (v : ℕ) (next : Bits) (h : r ≡ of-read.Value v next) where
-    pub flagged-off : v ≡ 0 → Heads Optional b wall at (Bare next)
+  module _ (v : ℕ) (next : Bits) (h : r ≡ Ok (v, next)) where
+    pub flagged-off : v ≡ 0 → Heads Optional b wall at (Ok (Bare next))
     unfolding head_is head_at lengths_is code_at length_at
     flagged-off z = record { says = sym (then _ (read-value e h) (rw z)); within = tt }
 
@@ -66,7 +63,7 @@ pub ruleset flagged-ways = (flagged-refuse, flagged-off, flagged-on)
 
 -- by the length coding
 module _ (b : ℕ → ℕ) (wall : ℕ) (at : Bits) (lengths : Lengths) where
-  pub head_never : lengths ≡ Never → Heads lengths b wall at.0 (Bare at)
+  pub head_never : lengths ≡ Never → Heads lengths b wall at.0 (Ok (Bare at))
   unfolding head_is head_at lengths_is
   head_never z = record { says = rw z; within = tt }
 

@@ -15,9 +15,10 @@ use Rattle.model.specs.Whole.{event_words}
 use Rattle.model.proofs.Buffers.{words_append}
 use Rattle.model.proofs.Entries.{words-length}
 use Rattle.reader_parts.specs.declared.Cursor.{Cursor}
-use Rattle.reader_parts.specs.declared.Step.{Step}
-use Rattle.reader_parts.specs.declared.Step.TheVariants.{Go, Refuse}
-use Rattle.reader_parts.specs.Out.{slots_in, room_of, went, step_view, outcome}
+use Rattle.std.specs.Prelude.{Ok, Err}
+use Rattle.numbers.specs.Refused.{number_of}
+use Rattle.numbers.specs.declared.refusal.Fault.{Fault}
+use Rattle.reader_parts.specs.Out.{Step, slots_in, room_of, went, step_view, outcome}
 
 -- lists laid one after another
 pub sets-sets : (l xs ys : List ℕ) (i j : ℕ) → j ≡ i + length xs → sets (sets l i xs) j ys ≡ sets l i (xs ++ ys)
@@ -88,11 +89,11 @@ after-went o c π E T e ρ E' T' d σ K =
     (sym (outcome-onto E T c d.nodes e d.moved (K (room_less (room_of E T c) d.nodes) π e.at.0) σ))
 
 module _ (s : Step) (ρ E' T' : List ℕ) (o : Answer) (c : Cursor) (π E T : List ℕ) (h : step_view s ρ E' T' ≡ outcome o c π E T) where
-  pub did-go : (e : Cursor) → s ≡ Go e → Went o c π E T e ρ E' T'
+  pub did-go : (e : Cursor) → s ≡ Ok e → Went o c π E T e ρ E' T'
   unfolding step_view outcome
   did-go e g = go o refl (rw g at h)
     where
-      go : (a : Answer) → o ≡ a → step_view (Go e) ρ E' T' ≡ outcome a c π E T → Went o c π E T e ρ E' T'
+      go : (a : Answer) → o ≡ a → step_view (Ok e) ρ E' T' ≡ outcome a c π E T → Went o c π E T e ρ E' T'
       go (given ns q) f v =
           let z : e.at.0 ≡ q = cc in
           record { nodes = ns; gave = rw z f; moved = record { count = cc; used = cc }; path = cc; events_are = cc; texts_are = cc }
@@ -100,26 +101,26 @@ module _ (s : Step) (ρ E' T' : List ℕ) (o : Answer) (c : Cursor) (π E T : Li
           let z : ◌≡◌ {A = ℕ} 0 1 = cc in
           absurd (omega arith)
 
-  pub did-stop : (n : ℕ) (p : Bits) → s ≡ Refuse n p → o ≡ refused n p.0 ρ
+  pub did-stop : (e : Fault Bits) → s ≡ Err e → o ≡ refused (number_of e.why) e.at.0 ρ
   unfolding step_view outcome
-  did-stop n p g = go o refl (rw g at h)
+  did-stop e g = go o refl (rw g at h)
     where
-      go : (a : Answer) → o ≡ a → step_view (Refuse n p) ρ E' T' ≡ outcome a c π E T → o ≡ refused n p.0 ρ
+      go : (a : Answer) → o ≡ a → step_view (Err e) ρ E' T' ≡ outcome a c π E T → o ≡ refused (number_of e.why) e.at.0 ρ
       go (given ns q) f v =
           let z : ◌≡◌ {A = ℕ} 0 1 = cc in
           absurd (omega arith)
       go (refused m q σ) f v = f ∙ cc
 
-  pub went-path : (e : Cursor) → s ≡ Go e → ρ ≡ π
+  pub went-path : (e : Cursor) → s ≡ Ok e → ρ ≡ π
   went-path e g = (did-go e g).path
 
   -- a refusal is passed on, whatever would come; σ is the path that the caller says where it goes on
-  pub after_stop : (n : ℕ) (p : Bits) → s ≡ Refuse n p → (σ : List ℕ) (r : Room) (k : Room → ℕ → Answer) → step_view s ρ E' T' ≡ outcome (after r o k) c σ E T
+  pub after_stop : (e : Fault Bits) → s ≡ Err e → (σ : List ℕ) (r : Room) (k : Room → ℕ → Answer) → step_view s ρ E' T' ≡ outcome (after r o k) c σ E T
   unfolding step_view outcome after
-  after_stop n p g σ r k = rw (did-stop n p g, g)
+  after_stop e g σ r k = rw (did-stop e g, g)
 
   -- where the path goes on is the caller's
-  pub outcome-go : (e : Cursor) → s ≡ Go e → (σ : List ℕ) → step_view s σ E' T' ≡ outcome o c σ E T
+  pub outcome-go : (e : Cursor) → s ≡ Ok e → (σ : List ℕ) → step_view s σ E' T' ≡ outcome o c σ E T
   unfolding step_view outcome
   outcome-go e g σ =
       let d = did-go e g in
@@ -129,22 +130,22 @@ module _ (s : Step) (ρ E' T' : List ℕ) (o : Answer) (c : Cursor) (π E T : Li
       let v = d.texts_are in
       ap (λ (t : Step). step_view t σ E' T') g ∙ (cc) ∙ sym (ap (λ (a : Answer). outcome a c σ E T) d.gave)
 
-  pub outcome-stop : (n : ℕ) (p : Bits) → s ≡ Refuse n p → (σ : List ℕ) → step_view s ρ E' T' ≡ outcome o c σ E T
+  pub outcome-stop : (e : Fault Bits) → s ≡ Err e → (σ : List ℕ) → step_view s ρ E' T' ≡ outcome o c σ E T
   unfolding step_view outcome
-  outcome-stop n p g σ = rw (did-stop n p g, g)
+  outcome-stop e g σ = rw (did-stop e g, g)
 
   -- one part after another: what the second says of the buffers that the first left is what both say of the first buffers
-  pub after-go : (e : Cursor) → s ≡ Go e → (σ : List ℕ) (K : Room → List ℕ → ℕ → Answer)
+  pub after-go : (e : Cursor) → s ≡ Ok e → (σ : List ℕ) (K : Room → List ℕ → ℕ → Answer)
       → outcome (K (room_of E' T' e) ρ e.at.0) e σ E' T' ≡ outcome (after (room_of E T c) o (λ u p. K u π p)) c σ E T
   after-go e g σ K = after-went o c π E T e ρ E' T' (did-go e g) σ K
 
   -- the same, where the path stays
-  pub after_next : (e : Cursor) → s ≡ Go e → (K : Room → List ℕ → ℕ → Answer)
+  pub after_next : (e : Cursor) → s ≡ Ok e → (K : Room → List ℕ → ℕ → Answer)
       → outcome (K (room_of E' T' e) ρ e.at.0) e ρ E' T' ≡ outcome (after (room_of E T c) o (λ u p. K u π p)) c π E T
   after_next e g K = after-go e g ρ K ∙ ap (λ (σ : List ℕ). outcome (after (room_of E T c) o (λ u p. K u π p)) c σ E T) (went-path e g)
 
 -- nothing read
-pub outcome-none : (c : Cursor) (π E T : List ℕ) → step_view (Go c) π E T ≡ outcome (given none c.at.0) c π E T
+pub outcome-none : (c : Cursor) (π E T : List ℕ) → step_view (Ok c) π E T ≡ outcome (given none c.at.0) c π E T
 unfolding step_view outcome tree_slots tree_bytes events texts event_words
 outcome-none c π E T =
     let s : c.count ≡ c.count + 0 = omega arith in

@@ -4,9 +4,10 @@ use mathlib.Core.Path.{◌≡◌, refl, sym, ap, ◌∙◌, subst}
 use mathlib.Core.List.{List, [], ◌∷◌}
 use mathlib.Core.Bool.{Bool, true, false, cond}
 use native.Mathlib.Omega.{arith}
+use mir.Val.{bool_byte}
 use borrow.Author.Tests.{ltb-true, ltb-false, eq-eqb, ne_eqb}
 use lib.Dec.{ltb, eqb}
-use Rattle.numbers.specs.Refusal.{past_end, event_room, not_held}
+use Rattle.numbers.specs.Refusal.{event_room}
 use Rattle.numbers.specs.Kind as kinds
 use Rattle.wire.specs.Res.{got, fault}
 use Rattle.wire.specs.declared.Bits.{Bits}
@@ -21,16 +22,17 @@ use Rattle.model.specs.declared.Choices.{Choices}
 use Rattle.model.proofs.Join.{after_none, after-after}
 use Rattle.model.proofs.ModeLaws.{types-only}
 use Rattle.reader_parts.specs.declared.Cast.{Cast}
-use Rattle.reader_parts.specs.declared.Coded.{Coded}
-use Rattle.reader_parts.specs.declared.Coded.TheVariants as coded·is
 use Rattle.reader_parts.specs.declared.Cursor.{Cursor}
 use Rattle.reader_parts.specs.declared.Inner.{Inner}
+use Rattle.std.specs.Prelude.{Ok, Err}
+use Rattle.numbers.specs.Refused.{number_of}
+use Rattle.numbers.specs.declared.refusal.Refusal.{Refusal}
+use Rattle.numbers.specs.declared.refusal.Refusal.TheVariants as refusal
+use Rattle.numbers.specs.declared.refusal.Fault.{Fault}
 use Rattle.reader_parts.specs.declared.Opened.{Opened}
 use Rattle.reader_parts.specs.declared.Opened.TheVariants.{Refuse, Blank, Full, In}
-use Rattle.reader_parts.specs.declared.Step.{Step}
-use Rattle.reader_parts.specs.declared.Step.TheVariants as step
-use Rattle.reader_parts.specs.Out.{room_of, step_view, outcome, ending, Stores}
-use Rattle.reader_parts.specs.Codes.{coded_is, Sent, Says, Tells}
+use Rattle.reader_parts.specs.Out.{Step, room_of, step_view, outcome, ending, Stores}
+use Rattle.reader_parts.specs.Codes.{Coded, coded_is, Sent, Says, Tells}
 use Rattle.reader_parts.specs.Opening.{no_row, row_choices, becomes, behind_head, rest_of, opened_view, from_codes, Placed, Below, Begins, Opens, OpensPlain}
 use Rattle.reader_parts.proofs.CodeWays.{codes-none, codes-past}
 use Rattle.reader_parts.proofs.EndsLaws.{entered-left}
@@ -55,15 +57,10 @@ module _ (c : Choices) (row : ℕ) where
 pub ruleset choices-ways = (choices-root, choices-row)
 
 -- flag
-pub flag-coded : (coded : Bool) → coded ≡ true → 1 ≡ flag_of coded
+pub flag_is : (coded : Bool) → bool_byte coded ≡ flag_of coded
 unfolding flag_of
-flag-coded coded e = rw e
-
-pub flag-free : (coded : Bool) → coded ≡ false → 0 ≡ flag_of coded
-unfolding flag_of
-flag-free coded e = rw e
-
-pub ruleset flag-ways = (flag-coded, flag-free)
+flag_is true = refl
+flag_is false = refl
 
 -- an event without text is refused for lack of room alone, at its place; else it goes on where it says
 module _ (r : Room) (π : List ℕ) (at : ℕ) (e : Event) (q : ℕ) where
@@ -111,32 +108,33 @@ module _ (name t : ℕ) (coded : Bool) (body wall : Bits) (held : Bool) (c : Cur
     start_is : (T π : List ℕ) → step_view s π E' T ≡ outcome (stored (room_of E T c) π c.at.0 (start (m c.at.0)) [] body.0) c π E T
     start_is T π = rw i at (h.says T π)
 
-    pub begin-full : (n : ℕ) (p : Bits) → s ≡ step.Refuse n p → B (Refuse event_room c.at) E'
+    pub begin-full : (n : Fault Bits) → s ≡ Err n → B (Refuse n) E'
     unfolding opened_view outcome entered
-    begin-full n p g =
+    begin-full n g =
         record {
           says = λ sent f k q T π.
-              let none_left = no_slot _ π _ _ _ n p.0 π (did-stop s π E' T _ c π E T (start_is T π) n p g) in
-              sym (rw (held-is e sent f k q (room_of E T c) π c.at.0, none_left) refl);
+              let stop = did-stop s π E' T _ c π E T (start_is T π) n g in
+              let none_left = no_slot _ π _ _ _ _ _ π stop in
+              ap (λ a. outcome a c π E T) (sym stop ∙ no_room_lem _ π _ _ _ _ _ π stop)
+              ∙ sym (rw (held-is e sent f k q (room_of E T c) π c.at.0, none_left) refl);
           placed = tt;
         }
 
-    pub begin-open : (d : Cursor) (x : Inner) → s ≡ step.Go d → x ≡ record { effective = t; cursor = d } → B (In x) E'
+    pub begin-open : (d : Cursor) → s ≡ Ok d → B (In record { cursor = d; effective = t }) E'
     unfolding opened_view from_codes rest_of
-    begin-open d x g z =
-        rw z
-        (record {
+    begin-open d g =
+        record {
           says = λ sent f k p T π.
               after-go s π E' T _ c π E T (start_is T π) d g π (λ u ρ q. from_codes name coded body.0 wall.0 sent f k p t u π q)
               ∙ (λ j. outcome (after (room_of E T c) (stored (room_of E T c) π c.at.0 (start (m c.at.0)) [] body.0)
               (λ u q. sym (after-after u (cast_at sent t k u (name ∷ π) q p) (λ v a. f t v (name ∷ π) wall.0 a) (λ v a. ending coded body.0 wall.0 v (name ∷ π) a)) j)) c π E T)
               ∙ sym (ap (λ a. outcome a c π E T) (held-is e sent f k p (room_of E T c) π c.at.0) ∙ entered-left (m c.at.0) f (room_of E T c) π wall.0 body.0 c E T sent k p);
           placed = (refl, stored-to _ [] _ _ _ _ _ (did-go s [] E' [] _ c [] E [] (start_is [] []) d g).gave);
-        })
+        }
 
   -- not held
   module _ (e : held ≡ false) where
-    pub begin-nine : coded ≡ false → B (Refuse not_held c.at) E
+    pub begin-nine : coded ≡ false → B (Refuse (record { why = refusal.NotHeld; at = c.at })) E
     unfolding opened_view outcome becomes bare
     begin-nine u = record { says = λ sent f k p T π. rw (u, e) refl; placed = tt }
 
@@ -146,17 +144,16 @@ module _ (name t : ℕ) (coded : Bool) (body wall : Bits) (held : Bool) (c : Cur
       unfolding becomes sized
       blank-is sent f k p r π at = rw (u, e) refl
 
-      pub begin-no-blank : (n : ℕ) (p : Bits) → s ≡ step.Refuse n p → B (Refuse event_room c.at) E'
+      pub begin-no-blank : (n : Fault Bits) → s ≡ Err n → B (Refuse n) E'
       unfolding opened_view outcome
-      begin-no-blank n p g =
+      begin-no-blank n g =
           record {
             says = λ sent f k q T π.
-                let full = no_room_lem _ π _ _ _ n p.0 π (did-stop s π E' T _ c π E T (h.says T π) n p g) in
-                sym (rw (blank-is sent f k q (room_of E T c) π c.at.0, full) refl);
+                sym (rw (blank-is sent f k q (room_of E T c) π c.at.0, did-stop s π E' T _ c π E T (h.says T π) n g) refl);
             placed = tt;
           }
 
-      pub begin-blank : (d : Cursor) → s ≡ step.Go d → B (Blank d) E'
+      pub begin-blank : (d : Cursor) → s ≡ Ok d → B (Blank d) E'
       unfolding opened_view step_view
       begin-blank d g =
           record { says = λ sent f k p T π. rw (blank-is sent f k p (room_of E T c) π c.at.0) (rw g at (h.says T π)); placed = tt }
@@ -165,7 +162,7 @@ pub ruleset begin-ways = (begin-full, begin-open, begin-nine, begin-no-blank, be
 
 -- open_plain
 module _ (name t : ℕ) (coded : Bool) (body wall : Bits) (held : Bool) (c : Cursor) (E : List ℕ) where
-  pub plain-past : wall.0 < body.0 → OpensPlain name coded body.0 wall.0 t held c E (Refuse past_end body) E
+  pub plain-past : wall.0 < body.0 → OpensPlain name coded body.0 wall.0 t held c E (Refuse (record { why = refusal.PastEnd; at = body })) E
   unfolding opened_view outcome behind_head code
   plain-past h = record { says = λ b H e. record { says = λ f T π. rw (codes-past b wall.0 body.0 t h) refl; below = λ n k. tt } }
 
@@ -186,15 +183,15 @@ module _ (name t : ℕ) (coded : Bool) (body wall : Bits) (held : Bool) (c : Cur
       nothing-told f T π (In x) p =
           (λ i. outcome (rest_of name coded body.0 wall.0 f x.effective (room_of E' T x.cursor) π (p.1 i)) x.cursor π E' T)
           ∙ sym (ap (λ a. outcome a x.cursor π E' T) (after_none (room_of E' T x.cursor) body.0 (λ u q. rest_of name coded body.0 wall.0 f x.effective u π q)))
-      nothing-told f T π (Refuse m at) p = refl
+      nothing-told f T π (Refuse e) p = refl
       nothing-told f T π (Blank d) p = refl
-      nothing-told f T π (Full m at) p = refl
+      nothing-told f T π (Full e) p = refl
 
       go : (n : ℕ) (o : Opened) → Placed name coded body.0 wall.0 t o → t < n → Below name coded body.0 wall.0 n o
       go n (In x) p k = rw p.0 k
-      go n (Refuse m at) p k = tt
+      go n (Refuse e) p k = tt
       go n (Blank d) p k = tt
-      go n (Full m at) p k = tt
+      go n (Full e) p k = tt
 
 pub ruleset plain-ways = (plain-past, plain_in)
 
@@ -210,13 +207,13 @@ module _ (l : List ℕ) (party : ℕ) (choices : Choices) (t row : ℕ) (b : ℕ
   say : Says y b wall.0 body.0 k
   say = rw (← w) q
 
-  pub cast-wrong : (n : ℕ) → k ≡ coded·is.Wrong n → O (Refuse n body) E
+  pub cast-wrong : (n : Refusal) → k ≡ Err n → O (Refuse (record { why = n; at = body })) E
   unfolding opened_view outcome behind_head code coded_is
   cast-wrong n e =
-      let bad : codes_at y b wall.0 body.0 ≡ fault n = sym say.says ∙ rw e in
+      let bad : codes_at y b wall.0 body.0 ≡ fault (number_of n) = sym say.says ∙ rw e in
       record { says = λ f T π. rw bad refl; below = λ m h. tt }
 
-  module _ (x : Cast) (i : k ≡ coded·is.As x) (held : Bool) (j : held ≡ held_of l party x.effective) (o : Opened) (E₁ : List ℕ)
+  module _ (x : Cast) (i : k ≡ Ok x) (held : Bool) (j : held ≡ held_of l party x.effective) (o : Opened) (E₁ : List ℕ)
       (h : Begins name coded body.0 wall.0 x.effective held c E o E₁) where
     coded-is : codes_at y b wall.0 body.0 ≡ got (x.effective, x.substitute, x.next.0)
     unfolding coded_is
@@ -231,17 +228,16 @@ module _ (l : List ℕ) (party : ℕ) (choices : Choices) (t row : ℕ) (b : ℕ
     unfolding behind_head code
     begun f T π = rw (coded-is, ← j, ← sent_is) (h.says x.sent f x.substitute x.next.0 T π)
 
-    pub cast-refuse : (n : ℕ) (at : Bits) → o ≡ Refuse n at → O (Refuse n at) E₁
+    -- it is not open
+    pub cast-shut : ((z : Inner) → o ≡ In z → ⊥) → O o E₁
     unfolding opened_view
-    cast-refuse n at e = record { says = λ f T π. rw e at (begun f T π); below = λ m g. tt }
-
-    pub cast-blank : (d : Cursor) → o ≡ Blank d → O (Blank d) E₁
-    unfolding opened_view
-    cast-blank d e = record { says = λ f T π. rw e at (begun f T π); below = λ m g. tt }
-
-    pub cast-full : (n : ℕ) (at : Bits) → o ≡ Full n at → O (Full n at) E₁
-    unfolding opened_view
-    cast-full n at e = record { says = λ f T π. rw e at (begun f T π); below = λ m g. tt }
+    cast-shut e = go o refl
+      where
+        go : (u : Opened) → o ≡ u → O u E₁
+        go (In z) g = absurd (e z g)
+        go (Refuse a) g = record { says = λ f T π. rw g at (begun f T π); below = λ m g. tt }
+        go (Blank d) g = record { says = λ f T π. rw g at (begun f T π); below = λ m g. tt }
+        go (Full a) g = record { says = λ f T π. rw g at (begun f T π); below = λ m g. tt }
 
     module _ (z : Inner) (p : o ≡ In z) (s : Step) (E₂ : List ℕ) (g : Tells x z.cursor E₁ s E₂) where
       type_is : z.effective ≡ x.effective
@@ -253,18 +249,18 @@ module _ (l : List ℕ) (party : ℕ) (choices : Choices) (t row : ℕ) (b : ℕ
       unfolding opened_view
       opened-is f T π = rw (p, type_is) at (begun f T π)
 
-      pub cast-untold : (n : ℕ) (at : Bits) → s ≡ step.Refuse n at → O (Full n at) E₂
+      pub cast-untold : (n : Fault Bits) → s ≡ Err n → O (Full n) E₂
       unfolding opened_view outcome from_codes after
-      cast-untold n at e =
+      cast-untold n e =
           record {
             says = λ f T π.
-                let full : cast_at x.sent x.effective x.substitute (room_of E₁ T z.cursor) (name ∷ π) z.cursor.at.0 x.next.0 ≡ refused n at.0 (name ∷ π) =
-                did-stop s (name ∷ π) E₂ T _ z.cursor (name ∷ π) E₁ T (g.says T (name ∷ π)) n at e in
+                let full : cast_at x.sent x.effective x.substitute (room_of E₁ T z.cursor) (name ∷ π) z.cursor.at.0 x.next.0 ≡ refused (number_of n.why) n.at.0 (name ∷ π) =
+                did-stop s (name ∷ π) E₂ T _ z.cursor (name ∷ π) E₁ T (g.says T (name ∷ π)) n e in
                 rw full at (opened-is f T π);
             below = λ m a. tt;
           }
 
-      pub cast-open : (d : Cursor) → s ≡ step.Go d → O (In record { effective = x.effective; cursor = d }) E₂
+      pub cast-open : (d : Cursor) → s ≡ Ok d → O (In record { effective = x.effective; cursor = d }) E₂
       unfolding opened_view from_codes
       cast-open d e =
           record {
@@ -274,7 +270,7 @@ module _ (l : List ℕ) (party : ℕ) (choices : Choices) (t row : ℕ) (b : ℕ
             below = λ m a. a.says (x.effective, x.substitute, x.next.0) coded-is;
           }
 
-pub ruleset cast-ways = (cast-wrong, cast-refuse, cast-blank, cast-full, cast-untold, cast-open)
+pub ruleset cast-ways = (cast-wrong, cast-shut, cast-untold, cast-open)
 
 -- open: where there is nothing to choose from, the root or not
 pub open-plainly : (l : List ℕ) (party : ℕ) (choices : Choices) (t row : ℕ) (b : ℕ → ℕ) (name : ℕ) (coded : Bool) (body wall : ℕ) (c : Cursor) (E : List ℕ) (held : Bool) (r : Opened) (E' : List ℕ)

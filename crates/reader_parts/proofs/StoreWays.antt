@@ -18,9 +18,9 @@ use Rattle.model.specs.Model.Answer.{given, refused}
 use Rattle.model.specs.Read.{Room, kept, stored}
 use Rattle.model.specs.Whole.{event_words}
 use Rattle.reader_parts.specs.declared.Cursor.{Cursor}
-use Rattle.reader_parts.specs.declared.Step.{Step}
-use Rattle.reader_parts.specs.declared.Step.TheVariants.{Go, Refuse}
-use Rattle.reader_parts.specs.Out.{slots_in, room_of, went, step_view, outcome, Stores, Keeps}
+use Rattle.std.specs.Prelude.{Ok, Err}
+use Rattle.numbers.specs.declared.refusal.Refusal.TheVariants as refusal
+use Rattle.reader_parts.specs.Out.{Step, slots_in, room_of, went, step_view, outcome, Stores, Keeps}
 
 module _ (r : Room) (π : List ℕ) (at : ℕ) (e : Event) (ts : List ℕ) (q : ℕ) where
   pub stored_past : r.bytes < length ts → stored r π at e ts q ≡ refused text_room at π
@@ -47,12 +47,12 @@ outcome-leaf at e ts q c π E T =
 
 -- store
 module _ (kind p q next room : ℕ) (c : Cursor) (E : List ℕ) (f : room ≡ slots_in (length E)) where
-  pub store-full : room ≤ c.count → Stores kind p q next c E (Refuse event_room c.at) E
+  pub store-full : room ≤ c.count → Stores kind p q next c E (Err (record { why = refusal.EventRoom; at = c.at })) E
   unfolding step_view outcome
   store-full h = record { says = λ T π. rw (stored-full (room_of E T c) π c.at.0 (event kind p q (next - c.at.0)) [] next (omega arith) (omega arith)) }
 
   pub store_in : (n : ℕ) (d : Cursor) → c.count < room → n ≡ next - c.at.0 → d.at.0 ≡ next → d.count ≡ c.count + 1 → d.used ≡ c.used
-      → Stores kind p q next c E (Go d) (set (set (set (set E (4 * c.count) kind) (4 * c.count + 1) p) (4 * c.count + 2) q) (4 * c.count + 3) n)
+      → Stores kind p q next c E (Ok d) (set (set (set (set E (4 * c.count) kind) (4 * c.count + 1) p) (4 * c.count + 2) q) (4 * c.count + 3) n)
   unfolding step_view event_words
   store_in n d h m x y z = record {
     says = λ T π.
@@ -74,9 +74,9 @@ late E i j k l a b x y f g h =
 -- store_seldom
 module _ (kind p q next room : ℕ) (c : Cursor) (E : List ℕ) (f : room ≡ slots_in (length E)) where
   pub seldom-in : (n : ℕ) (d : Cursor) → c.count < room → n ≡ next - c.at.0 → d.at.0 ≡ next → d.count ≡ c.count + 1 → d.used ≡ c.used
-      → Stores kind p q next c E (Go d) (set (set (set (set E (4 * c.count + 1) p) (4 * c.count + 2) q) (4 * c.count + 3) n) (4 * c.count) kind)
+      → Stores kind p q next c E (Ok d) (set (set (set (set E (4 * c.count + 1) p) (4 * c.count + 2) q) (4 * c.count + 3) n) (4 * c.count) kind)
   seldom-in n d h m x y z =
-      subst (λ (l : List ℕ). Stores kind p q next c E (Go d) l)
+      subst (λ (l : List ℕ). Stores kind p q next c E (Ok d) l)
       (sym (late E (4 * c.count) (4 * c.count + 1) (4 * c.count + 2) (4 * c.count + 3) kind p q n (omega arith) (omega arith) (omega arith)))
       (store_in kind p q next room c E f n d h m x y z)
 
@@ -100,7 +100,7 @@ module _ (E T : List ℕ) (c d : Cursor) (π : List ℕ) (e : Event) (ts : List 
 
 -- the Value of a text of n bytes from p on
 module _ (b : ℕ → ℕ) (p n next room : ℕ) (c : Cursor) (E T : List ℕ) (f : room ≡ length T - c.used) where
-  pub keep-full : (T' : List ℕ) → room < n → Keeps n (bytes_at b p n) next c E T (Refuse text_room c.at) E T'
+  pub keep-full : (T' : List ℕ) → room < n → Keeps n (bytes_at b p n) next c E T (Err (record { why = refusal.TextRoom; at = c.at })) E T'
   unfolding step_view outcome
   keep-full T' h = record {
     says = λ π. rw (stored_past (room_of E T c) π c.at.0 (event kinds.value n 0 (next - c.at.0)) (bytes_at b p n) next (omega (arith, bytes-length b p n)));

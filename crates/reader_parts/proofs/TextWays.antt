@@ -10,13 +10,11 @@ use mir.Val.{Fits}
 use mir.Syntax.{w8}
 use lib.ListN.{length, get_or, set}
 use lib.Seq.{sets, set-set, set_comm, get_or-set_same, get_or-set_other}
-use Rattle.numbers.specs.Refusal.{past_end, text_room}
+use Rattle.numbers.specs.Refusal.{past_end}
 use Rattle.numbers.specs.Kind as kinds
 use Rattle.numbers.specs.Limit.{most_text}
 use Rattle.wire.specs.declared.Bits.{Bits}
-use Rattle.wire.specs.declared.Read.{Read}
-use Rattle.wire.specs.declared.Read.TheVariants as of-read
-use Rattle.wire.specs.Answer.{read_is}
+use Rattle.wire.specs.Answer.{Read, read_is}
 use Rattle.wire.specs.Res.{Res, got, fault}
 use Rattle.wire.proofs.Res.{then, then-fault, under-then, under-fault}
 use Rattle.wire.proofs.ReadWays.{read-value, read-refuse}
@@ -32,9 +30,12 @@ use Rattle.value.proofs.OctetsLaws.{octet-num}
 use Rattle.value.proofs.SimpleLaws.{words-got, words-fault, passes_then, passes-fault}
 use Rattle.model.specs.Read.{code}
 use Rattle.reader_parts.specs.declared.Cursor.{Cursor}
-use Rattle.reader_parts.specs.declared.Step.{Step}
-use Rattle.reader_parts.specs.declared.Step.TheVariants.{Refuse}
-use Rattle.reader_parts.specs.Out.{step_view, outcome, Stores, Keeps}
+use Rattle.std.specs.Prelude.{Result, Ok, Err}
+use Rattle.numbers.specs.Refused.{number_of, answered}
+use Rattle.numbers.specs.declared.refusal.Refusal.{Refusal}
+use Rattle.numbers.specs.declared.refusal.Refusal.TheVariants as refusal
+use Rattle.numbers.proofs.Refusals.{number-some}
+use Rattle.reader_parts.specs.Out.{Step, step_view, outcome, Stores, Keeps}
 use Rattle.reader_parts.specs.Texts.{Moves, Copies, Follows}
 use Rattle.reader_parts.proofs.Laws.{sets-sets}
 use Rattle.reader_parts.proofs.StoreWays.{keep-full, keep-in}
@@ -177,12 +178,12 @@ copied-not s p n used T h = record { laid = λ l. absurd (omega arith); judged =
 pub ruleset copy-ways = (copied, copied-not)
 
 -- judged: where it is known that nothing is wrong
-pub judged-fine : (x : ℕ) (fine : Bool) → (fine ≡ true → x ≡ 0) → fine ≡ true → 0 ≡ x
+pub judged-fine : (x : ℕ) (fine : Bool) → (fine ≡ true → x ≡ 0) → fine ≡ true → answered {T = Unit {0}} (Ok tt) ≡ x
 judged-fine x fine f e = sym (f e)
 
 -- a value's words that follow or do not
 module _ (m : Res (ℕ × ℕ × List ℕ × ℕ)) (c : Cursor) (E T : List ℕ) where
-  follows-refuse : (n : ℕ) (E' T' : List ℕ) → m ≡ fault n → Follows m c E T (Refuse n c.at) E' T'
+  follows-refuse : (n : Refusal) (E' T' : List ℕ) → m ≡ fault (number_of n) → Follows m c E T (Err (record { why = n; at = c.at })) E' T'
   unfolding code step_view outcome
   follows-refuse n E' T' e = record { says = λ π. rw e }
 
@@ -195,26 +196,28 @@ module _ (s : List ℕ) (wall n p : ℕ) (c : Cursor) (E T : List ℕ) where
   abbrev After : Step → List ℕ → List ℕ → Type 0
   After t E' T' = Follows (words_of text (text_of (bit_at s) wall n p)) c E T t E' T'
 
-  pub text-before : wall < p → After (Refuse past_end c.at) E T
+  pub text-before : wall < p → After (Err (record { why = refusal.PastEnd; at = c.at })) E T
   unfolding text_of
-  text-before h = follows-refuse _ c E T past_end E T (words-fault text (under-fault past_end _ (omega arith)))
+  text-before h = follows-refuse _ c E T refusal.PastEnd E T (words-fault text (under-fault past_end _ (omega arith)))
 
   module _ (h : p ≤ wall) where
-    pub text-past : (wall - p) / 8 < n → After (Refuse past_end c.at) E T
+    pub text-past : (wall - p) / 8 < n → After (Err (record { why = refusal.PastEnd; at = c.at })) E T
     unfolding text_of
-    text-past k = follows-refuse _ c E T past_end E T (words-fault text (under-fault past_end _ (omega arith)))
+    text-past k = follows-refuse _ c E T refusal.PastEnd E T (words-fault text (under-fault past_end _ (omega arith)))
 
-    module _ (k : n ≤ (wall - p) / 8) (w : ℕ) (e : w ≡ text_fault (bytes_at (bit_at s) p n)) (T' : List ℕ) where
-      pub text-wrong : 0 < w → After (Refuse w c.at) E T'
+    module _ (k : n ≤ (wall - p) / 8) (w : Result (Unit {0}) Refusal) (e : answered w ≡ text_fault (bytes_at (bit_at s) p n)) (T' : List ℕ) where
+      pub text-wrong : (x : Refusal) → w ≡ Err x → After (Err (record { why = x; at = c.at })) E T'
       unfolding text_of
-      text-wrong l = follows-refuse _ c E T w E T' (rw e (words-fault text (under-then past_end (omega arith) (passes-fault _ (λ z. omega (arith, e))))))
+      text-wrong x l =
+          let f : number_of x ≡ text_fault (bytes_at (bit_at s) p n) = rw l at e in
+          follows-refuse _ c E T x E T' (rw f (words-fault text (under-then past_end (omega arith) (passes-fault _ (λ z. number-some x (f ∙ z))))))
 
-      text-got : w ≤ 0 → words_of text (text_of (bit_at s) wall n p) ≡ got (n, 0, bytes_at (bit_at s) p n, p + 8 * n)
+      text-got : w ≡ Ok tt → words_of text (text_of (bit_at s) wall n p) ≡ got (n, 0, bytes_at (bit_at s) p n, p + 8 * n)
       unfolding text_of first_word second_word
-      text-got l = words-got text (under-then past_end (omega arith) (passes_then (omega (arith, e)) refl))
+      text-got l = words-got text (under-then past_end (omega arith) (passes_then (sym (rw l at e)) refl))
 
-      module _ (l : w ≤ 0) (room : ℕ) (g : room ≡ length T - c.used) where
-        pub text-full : room < n → After (Refuse text_room c.at) E T'
+      module _ (l : w ≡ Ok tt) (room : ℕ) (g : room ≡ length T - c.used) where
+        pub text-full : room < n → After (Err (record { why = refusal.TextRoom; at = c.at })) E T'
         text-full r = follows-keep _ c E T n (bytes_at (bit_at s) p n) (p + 8 * n) _ E T' (text-got l) (keep-full (bit_at s) p n (p + 8 * n) room c E T g T' r)
 
         pub text-kept : (d : Cursor) (t : Step) (E' : List ℕ) (next : ℕ) (fine : Bool) → n ≤ room → d.at.0 ≡ c.at.0 → d.count ≡ c.count → d.used ≡ c.used + n → next ≡ p + 8 * n
@@ -226,11 +229,11 @@ pub ruleset after-ways = (text-before, text-past, text-wrong, text-full, text-ke
 
 -- text: refused by its count, or by what comes after it
 module _ (b : ℕ → ℕ) (wall : ℕ) (c : Cursor) (E T : List ℕ) (r : Read) (e : read_is r ≡ number_at b most_text wall c.at.0) where
-  pub text-count : (n : ℕ) → r ≡ of-read.Refuse n → Follows (words_of text (simple_at text b wall c.at.0)) c E T (Refuse n c.at) E T
+  pub text-count : (n : Refusal) → r ≡ Err n → Follows (words_of text (simple_at text b wall c.at.0)) c E T (Err (record { why = n; at = c.at })) E T
   unfolding simple_at code_at
   text-count n g = follows-refuse _ c E T n E T (words-fault text (then-fault _ (read-refuse e g)))
 
-  pub text-rest : (n : ℕ) (p : Bits) (t : Step) (E' T' : List ℕ) → r ≡ of-read.Value n p → Follows (words_of text (text_of b wall n p.0)) c E T t E' T'
+  pub text-rest : (n : ℕ) (p : Bits) (t : Step) (E' T' : List ℕ) → r ≡ Ok (n, p) → Follows (words_of text (text_of b wall n p.0)) c E T t E' T'
       → Follows (words_of text (simple_at text b wall c.at.0)) c E T t E' T'
   unfolding simple_at code_at
   text-rest n p t E' T' g f = subst (λ (m : Res (ℕ × List ℕ × ℕ)). Follows (words_of text m) c E T t E' T') (sym (then _ (read-value e g) refl)) f

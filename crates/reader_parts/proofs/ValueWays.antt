@@ -15,8 +15,7 @@ use Rattle.table.specs.Rows.{table_of}
 use Rattle.value.specs.Simple.{Simple, plain, text, dated, simple_of, first_word, second_word, simple_at, words_of, bytes_at, SimpleIs, a_code, a_date}
 use Rattle.value.proofs.SimpleLaws.{simple-found}
 use Rattle.value.specs.Code.{Code}
-use Rattle.value.specs.Answer.{value_is}
-use Rattle.value.specs.declared.Value.{Value}
+use Rattle.value.specs.Answer.{Valued, value_is}
 use Rattle.value.specs.declared.Value.TheVariants as of-value
 use Rattle.model.specs.Model.{event, value, Answer}
 use Rattle.model.specs.Model.Plan.{done}
@@ -25,9 +24,9 @@ use Rattle.model.specs.Items.{Lengths, item_at}
 use Rattle.model.specs.Read.{code, stored, read}
 use Rattle.model.proofs.Steps.{item-valued, value-is}
 use Rattle.reader_parts.specs.declared.Cursor.{Cursor}
-use Rattle.reader_parts.specs.declared.Step.{Step}
-use Rattle.reader_parts.specs.declared.Step.TheVariants.{Refuse}
-use Rattle.reader_parts.specs.Out.{room_of, step_view, outcome, Reads, Stores, Keeps}
+use Rattle.std.specs.Prelude.{Ok, Err}
+use Rattle.numbers.specs.declared.refusal.Refusal.{Refusal}
+use Rattle.reader_parts.specs.Out.{Step, room_of, step_view, outcome, Reads, Stores, Keeps}
 use Rattle.reader_parts.specs.Texts.{Follows}
 
 -- only a text has bytes
@@ -60,26 +59,26 @@ words-read s (got (v, us, k)) p q ts n e =
     (v, rw (a, b))
 words-read s (fault k) p q ts n e = absurd (let z : ◌≡◌ {A = ℕ} 0 1 = cc in omega arith)
 
-module _ (s : List ℕ) (wall k x y : ℕ) (c : Cursor) (E T : List ℕ) (r : Value) (e : value_is (bit_at s) r ≡ words_of (simple_of k x y) (simple_at (simple_of k x y) (bit_at s) wall c.at.0)) where
+module _ (s : List ℕ) (wall k x y : ℕ) (c : Cursor) (E T : List ℕ) (r : Valued) (e : value_is (bit_at s) r ≡ words_of (simple_of k x y) (simple_at (simple_of k x y) (bit_at s) wall c.at.0)) where
   item-is : words_of (simple_of k x y) (item_at (valued k x y) (bit_at s) wall c.at.0) ≡ value_is (bit_at s) r
   item-is = ap (words_of (simple_of k x y)) (item-valued (bit_at s) wall c.at.0 k x y) ∙ sym e
 
   -- the reading of the plan, by what the call answered
-  read_is : (mode : Lengths) (held : ℕ → Bool) (π : List ℕ) (a : Value) → r ≡ a → read (bit_at s) mode held (value k x y done) (room_of E T c) π wall c.at.0
+  read_is : (mode : Lengths) (held : ℕ → Bool) (π : List ℕ) (a : Valued) → r ≡ a → read (bit_at s) mode held (value k x y done) (room_of E T c) π wall c.at.0
       ≡ code (value_is (bit_at s) a) π c.at.0 (λ (v, w, ts, q). stored (room_of E T c) π c.at.0 (event kinds.value v w (q - c.at.0)) ts q)
   read_is mode held π a h = value-is (bit_at s) mode held (table_of []) (room_of E T c) π wall c.at.0 k x y ∙ rw (item-is, h)
 
-  pub value-refuse : (n : ℕ) → r ≡ of-value.Refuse n → Reads (value k x y done) (bit_at s) wall c E T (Refuse n c.at) E T
+  pub value-refuse : (n : Refusal) → r ≡ Err n → Reads (value k x y done) (bit_at s) wall c E T (Err (record { why = n; at = c.at })) E T
   unfolding value_is code step_view outcome
-  value-refuse n h = record { says = λ mode held π. rw (read_is mode held π (of-value.Refuse n) h) }
+  value-refuse n h = record { says = λ mode held π. rw (read_is mode held π (Err n) h) }
 
   -- a date has no text
-  pub value-dated : (p q : ℕ) (next : Bits) → r ≡ of-value.Dated p q next → (t : Step) (E' : List ℕ) → Stores kinds.value p q next.0 c E t E' → Reads (value k x y done) (bit_at s) wall c E T t E' T
+  pub value-dated : (p q : ℕ) (next : Bits) → r ≡ Ok (of-value.Dated p q next) → (t : Step) (E' : List ℕ) → Stores kinds.value p q next.0 c E t E' → Reads (value k x y done) (bit_at s) wall c E T t E' T
   unfolding value_is code
-  value-dated p q next h t E' l = record { says = λ mode held π. l.says T π ∙ sym (rw (read_is mode held π (of-value.Dated p q next) h)) }
+  value-dated p q next h t E' l = record { says = λ mode held π. l.says T π ∙ sym (rw (read_is mode held π (Ok (of-value.Dated p q next)) h)) }
 
   -- nor has a number
-  module _ (word : ℕ) (n : Bytes) (next : Bits) (h : r ≡ of-value.Read word n next) where
+  module _ (word : ℕ) (n : Bytes) (next : Bits) (h : r ≡ Ok (of-value.Read word n next)) where
     abbrev ts : List ℕ
     ts = bytes_at (bit_at s) (next.0 - 8 * n.0) n.0
 
@@ -92,7 +91,7 @@ module _ (s : List ℕ) (wall k x y : ℕ) (c : Cursor) (E T : List ℕ) (r : Va
 
     value_read : (t : Step) (E' T' : List ℕ) → Keeps word ts next.0 c E T t E' T' → Reads (value k x y done) (bit_at s) wall c E T t E' T'
     unfolding value_is code
-    value_read t E' T' l = record { says = λ mode held π. l.says π ∙ sym (rw (read_is mode held π (of-value.Read word n next) h)) }
+    value_read t E' T' l = record { says = λ mode held π. l.says π ∙ sym (rw (read_is mode held π (Ok (of-value.Read word n next)) h)) }
 
     pub value-number : (t : Step) (E' : List ℕ) → (k ≡ simple.text → ⊥) → Stores kinds.value word 0 next.0 c E t E' → Reads (value k x y done) (bit_at s) wall c E T t E' T
     value-number t E' l m = value_read t E' T (record { says = λ π. rw (untold l) (m.says T π) })

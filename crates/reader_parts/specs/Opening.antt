@@ -7,6 +7,7 @@ use Rattle.model.specs.Items.{codes_at}
 use Rattle.model.specs.Read.{Room, Into, after, code, cast_at, mark, bare, sized}
 use Rattle.model.specs.declared.Choices.{Choices}
 use Rattle.reader_parts.specs.declared.Cursor.{Cursor}
+use Rattle.numbers.specs.Refused.{number_of}
 use Rattle.reader_parts.specs.declared.Opened.{Opened}
 use Rattle.reader_parts.specs.declared.Opened.TheVariants.{Refuse, Blank, Full, In}
 use Rattle.reader_parts.specs.Out.{room_of, Out, outcome, ending}
@@ -35,9 +36,9 @@ module _ (name : ℕ) (coded : Bool) (body wall : ℕ) where
 
   -- what an answer leaves, whatever the rest is
   unfoldable pub opened_view : (rest : ℕ → Room → List ℕ → ℕ → Answer) → Opened → (π E T : List ℕ) → Out
-  opened_view rest (Refuse n at) π E T = stopped n at.0 π
+  opened_view rest (Refuse e) π E T = stopped (number_of e.why) e.at.0 π
   opened_view rest (Blank d) π E T = went d.at.0 d.count d.used π E T
-  opened_view rest (Full n at) π E T = stopped n at.0 (name ∷ π)
+  opened_view rest (Full e) π E T = stopped (number_of e.why) e.at.0 (name ∷ π)
   opened_view rest (In x) π E T = outcome (rest x.effective (room_of E T x.cursor) π x.cursor.at.0) x.cursor π E T
 
   -- the rest, with the codes' event still to be told
@@ -47,15 +48,15 @@ module _ (name : ℕ) (coded : Bool) (body wall : ℕ) where
   -- of an element that is open: its type and its place
   abbrev pub Placed : ℕ → Opened → Type 0
   Placed t (In x) = (x.effective ≡ t) × (x.cursor.at.0 ≡ body)
-  Placed t (Refuse n at) = Unit {0}
+  Placed t (Refuse e) = Unit {0}
   Placed t (Blank d) = Unit {0}
-  Placed t (Full n at) = Unit {0}
+  Placed t (Full e) = Unit {0}
 
   abbrev pub Below : ℕ → Opened → Type 0
   Below n (In x) = x.effective < n
-  Below n (Refuse m at) = Unit {0}
+  Below n (Refuse e) = Unit {0}
   Below n (Blank d) = Unit {0}
-  Below n (Full m at) = Unit {0}
+  Below n (Full e) = Unit {0}
 
   -- CONTRACTS, for every path, whatever is inside. Of an element of a type, held or not
   pub record Begins (t : ℕ) (held : Bool) (c : Cursor) (E : List ℕ) (r : Opened) (E' : List ℕ) : Type 0 where

@@ -1,6 +1,6 @@
 -- What a part of the reader leaves (`step_view`) and what the meaning says it leaves (`outcome`): a contract is an equation of the
 -- two. On a refusal neither speaks of the buffers.
-use Rattle.std.specs.Prelude.{ℕ, ◌+◌, ◌-◌, ◌*◌, ◌/◌, min, ◌≡◌, List, [], Bool, cond, length}
+use Rattle.std.specs.Prelude.{ℕ, ◌+◌, ◌-◌, ◌*◌, ◌/◌, min, ◌≡◌, List, [], Bool, cond, length, Result, Ok, Err}
 use Rattle.std.proofs.lemmas.List.Edits.{sets}
 use Rattle.numbers.specs.Refusal.{content_short}
 use Rattle.numbers.specs.Kind as kinds
@@ -14,8 +14,13 @@ use Rattle.model.specs.Items.{Lengths}
 use Rattle.model.specs.Read.{Room, after, met, stored, read}
 use Rattle.model.specs.Whole.{event_words}
 use Rattle.reader_parts.specs.declared.Cursor.{Cursor}
-use Rattle.reader_parts.specs.declared.Step.{Step}
-use Rattle.reader_parts.specs.declared.Step.TheVariants.{Go, Refuse}
+use Rattle.numbers.specs.Refused.{number_of}
+use Rattle.numbers.specs.declared.refusal.Fault.{Fault}
+use Rattle.wire.specs.declared.Bits.{Bits}
+
+-- a part was read, or what is refused and where
+abbrev pub Step : Type 0
+Step = Result Cursor (Fault Bits)
 
 -- events that so many words hold
 abbrev pub slots_in : ℕ → ℕ
@@ -31,8 +36,8 @@ pub data Out : Type 0 where
   stopped : (number place : ℕ) (π : List ℕ) → Out
 
 unfoldable pub step_view : Step → List ℕ → List ℕ → List ℕ → Out
-step_view (Go c) π E T = went c.at.0 c.count c.used π E T
-step_view (Refuse n at) π E T = stopped n at.0 π
+step_view (Ok c) π E T = went c.at.0 c.count c.used π E T
+step_view (Err e) π E T = stopped (number_of e.why) e.at.0 π
 
 -- a tree's events and texts laid into the buffers, from the cursor on; π is the path where it goes on
 unfoldable pub outcome : Answer → Cursor → List ℕ → List ℕ → List ℕ → Out

@@ -9,9 +9,10 @@ use Rattle.model.specs.Model.Plan.{done}
 use Rattle.model.specs.Items.{Lengths}
 use Rattle.model.specs.Read.{after, stored, read}
 use Rattle.reader_parts.specs.declared.Cursor.{Cursor}
+use Rattle.numbers.specs.Refused.{number_of}
 use Rattle.reader_parts.specs.declared.attributes.Lead.{Lead}
 use Rattle.reader_parts.specs.declared.attributes.Lead.TheVariants.{Refuse, Go, Value}
-use Rattle.reader_parts.specs.Out.{Out, room_of, outcome, own_value}
+use Rattle.reader_parts.specs.Out.{Out, Step, step_view, room_of, outcome, own_value}
 use Rattle.reader_parts.specs.Out.Out.{went, stopped}
 
 -- the value that a content is, if it is one, is next
@@ -30,7 +31,7 @@ before_rows l type = attributes ((table_of l).attributes type) (own_value ((tabl
 module _ (b : ℕ → ℕ) (mode : Lengths) (held : ℕ → Bool) (wall : ℕ) where
   -- what is left once the value that is next, if one is, is read
   unfoldable pub lead_view : Lead → (π E T : List ℕ) → Out
-  lead_view (Refuse n at) π E T = stopped n at.0 π
+  lead_view (Refuse e) π E T = stopped (number_of e.why) e.at.0 π
   lead_view (Go c) π E T = went c.at.0 c.count c.used π E T
   lead_view (Value v) π E T =
       outcome (read b mode held (value v.simple v.x v.y done) (room_of E T v.cursor) π wall v.cursor.at.0) v.cursor π E T
@@ -44,3 +45,7 @@ pub record LeadNotes (present next : ℕ) (a : Attribute) (c : Cursor) (E : List
   pub says : (b : ℕ → ℕ) (wall : ℕ) (mode : Lengths) (held : ℕ → Bool) (T π : List ℕ) → lead_view b mode held wall l π E' T
       ≡ outcome (after (room_of E T c) (stored (room_of E T c) π c.at.0 (event kinds.attribute a.name present (next - c.at.0)) [] next)
       (λ u p. read b mode held (maybe present (value a.simple a.b a.c done) done) u π wall p)) c π E T
+
+-- the value that is next read, if one is
+pub record Finishes (l : Lead) (b : ℕ → ℕ) (wall : ℕ) (E T : List ℕ) (s : Step) (E' T' : List ℕ) : Type 0 where
+  pub says : (mode : Lengths) (held : ℕ → Bool) (π : List ℕ) → step_view s π E' T' ≡ lead_view b mode held wall l π E T

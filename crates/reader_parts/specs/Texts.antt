@@ -10,8 +10,7 @@ use Rattle.value.specs.Simple.{bytes_at}
 use Rattle.model.specs.Model.{event}
 use Rattle.model.specs.Read.{code, stored}
 use Rattle.reader_parts.specs.declared.Cursor.{Cursor}
-use Rattle.reader_parts.specs.declared.Step.{Step}
-use Rattle.reader_parts.specs.Out.{room_of, step_view, outcome}
+use Rattle.reader_parts.specs.Out.{Step, room_of, step_view, outcome}
 
 -- of the texts T came T', with the n octets from bit k of byte i on; where `plain` says so all are printable
 pub record Moves (s : List ℕ) (k i n : ℕ) (T : List ℕ) (used : ℕ) (T' : List ℕ) (plain : Bool) : Type 0 where

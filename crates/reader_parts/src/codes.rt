@@ -13,16 +13,13 @@ use crate::storing::store_seldom;
 use crate::{Cast, Coded, Cursor, Step};
 use model::Choices;
 use numbers::kind;
+use numbers::refusal::Refusal;
 use table::{TypeList, rows};
 use value::reading::choice;
 use wire::{Bits, Read};
 
-// A type that was picked, its number in the list (from 1, or 0 where it is not of the list) and the place past its code; or a refusal.
-#[derive(Clone, Copy)]
-pub enum Picked {
-    Is(u32, u32, Bits),
-    Wrong(u32),
-}
+// A type that was picked, its number in the list (from 1, or 0 where it is not of the list) and the place past its code; or why it is refused.
+type Picked = Result<(u32, u32, Bits), Refusal>;
 
 // None, or one of n.
 fn one_of(payload: &[u8], wall: Bits, at: Bits, n: u32) -> Read
@@ -32,18 +29,12 @@ fn one_of(payload: &[u8], wall: Bits, at: Bits, n: u32) -> Read
     if n == 0 {
         return choice(payload, wall, at, 1);
     }
-    match choice(payload, wall, at, 2) {
-        Read::Refuse(e) => Read::Refuse(e),
-        Read::Value(flag, p) => {
-            if flag == 0 {
-                return Read::Value(0, p);
-            }
-            match choice(payload, wall, p, n) {
-                Read::Refuse(e) => Read::Refuse(e),
-                Read::Value(v, q) => Read::Value(v + 1, q),
-            }
-        }
+    let (flag, p) = choice(payload, wall, at, 2)?;
+    if flag == 0 {
+        return Ok((0, p));
     }
+    let (v, q) = choice(payload, wall, p, n)?;
+    Ok((v + 1, q))
 }
 
 // A type, or one of a list in its place.
@@ -51,15 +42,11 @@ fn pick(table: &[u32], payload: &[u8], wall: Bits, at: Bits, own: u32, list: Typ
     requires { (wall.0 ≤ 8 * length payload.now) × (list.first < 4398046511104) }
     ensures { Picks table.now (bit_at payload.now) wall.0 at.0 own list result }
 {
-    match one_of(payload, wall, at, list.count) {
-        Read::Refuse(e) => Picked::Wrong(e),
-        Read::Value(k, next) => {
-            if k == 0 {
-                return Picked::Is(own, 0, next);
-            }
-            Picked::Is(rows::listed(table, list, k - 1), k, next)
-        }
+    let (k, next) = one_of(payload, wall, at, list.count)?;
+    if k == 0 {
+        return Ok((own, 0, next));
     }
+    Ok((rows::listed(table, list, k - 1), k, next))
 }
 
 // No types.
@@ -99,7 +86,7 @@ fn derived(table: &[u32], choices: Choices, t: u32) -> TypeList
 fn sends(swaps: u32, casts: u32) -> bool
     ensures { result ≡ sends_of swaps casts }
 {
-    if 0 < swaps { true } else { 0 < casts }
+    0 < swaps || 0 < casts
 }
 
 // An element's codes, from a place on: which substitute, then which derived type of the type that it then has.
@@ -116,25 +103,16 @@ pub fn codes(
     ensures { Says (types_by table.now choices t row) (bit_at payload.now) wall.0 at.0 result }
 {
     let swaps = substitutes(table, choices, row);
-    match pick(table, payload, wall, at, t, swaps) {
-        Picked::Wrong(n) => Coded::Wrong(n),
-        Picked::Is(own, k, p) => {
-            let casts = derived(table, choices, own);
-            match pick(table, payload, wall, p, own, casts) {
-                Picked::Wrong(n) => Coded::Wrong(n),
-                Picked::Is(effective, j, q) => {
-                    let sent = sends(swaps.count, casts.count);
-                    let x = Cast {
-                        effective,
-                        substitute: k,
-                        next: q,
-                        sent,
-                    };
-                    Coded::As(x)
-                }
-            }
-        }
-    }
+    let (own, substitute, p) = pick(table, payload, wall, at, t, swaps)?;
+    let casts = derived(table, choices, own);
+    let (effective, _, next) = pick(table, payload, wall, p, own, casts)?;
+    let sent = sends(swaps.count, casts.count);
+    Ok(Cast {
+        effective,
+        substitute,
+        next,
+        sent,
+    })
 }
 
 // The event of an element's codes, where a flag bit was sent.
@@ -145,10 +123,5 @@ pub fn tell(events: &mut [u32], c: Cursor, x: Cast) -> Step
     if x.sent {
         return store_seldom(events, c, kind::CAST, x.effective, x.substitute, next);
     }
-    let d = Cursor {
-        at: next,
-        count: c.count,
-        used: c.used,
-    };
-    Step::Go(d)
+    Ok(Cursor { at: next, ..c })
 }

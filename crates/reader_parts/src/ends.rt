@@ -5,14 +5,15 @@ ghost use Rattle.reader_parts.specs.Out.{Closes};
 
 use crate::storing::store;
 use crate::{Cursor, Step};
-use numbers::{kind, refusal};
+use numbers::kind;
+use numbers::refusal::{Fault, Refusal};
 use wire::Bits;
 
 // Whether the end is where it was declared, if it was.
 fn meets(coded: bool, at: Bits, wall: Bits) -> bool
     ensures { result ≡ met coded at.0 wall.0 }
 {
-    if coded { at.0 == wall.0 } else { true }
+    !coded || at.0 == wall.0
 }
 
 // CONTENT_SHORT at the body where the declared end is not met; then End, where it has room.
@@ -22,7 +23,10 @@ pub fn close(events: &mut [u32], coded: bool, body: Bits, wall: Bits, c: Cursor)
     let at = c.at;
     let met = meets(coded, at, wall);
     if !met {
-        return Step::Refuse(refusal::CONTENT_SHORT, body);
+        return Err(Fault {
+            why: Refusal::ContentShort,
+            at: body,
+        });
     }
     store(events, c, kind::END, 0, 0, at)
 }

@@ -14,6 +14,7 @@ pub mod storing; // storing.rt: one event
 pub mod values; // values.rt: a simple value, with its text
 
 use numbers::limit;
+use numbers::refusal::{Fault, Refusal};
 use wire::Bits;
 
 // Where a reading is: the place in the payload, how many events and how many text bytes are stored.
@@ -24,12 +25,8 @@ pub struct Cursor {
     pub used: usize,
 }
 
-// A part was read; or the number and the place of a refusal.
-#[derive(Clone, Copy)]
-pub enum Step {
-    Go(Cursor),
-    Refuse(u32, Bits),
-}
+// A part was read; or what is refused, and where.
+pub type Step = Result<Cursor, Fault<Bits>>;
 
 // The names of the open elements, the outermost first. By value: who opened an element has, at its End, the path without it.
 #[derive(Clone, Copy)]
@@ -38,12 +35,11 @@ pub struct Path {
     pub count: usize,
 }
 
-// An element's head: where its body begins; that and its declared end; or the number of a refusal.
+// An element's head: where its body begins; or that and its declared end.
 #[derive(Clone, Copy)]
 pub enum Head {
     Bare(Bits),
     Sized(Bits, Bits),
-    Wrong(u32),
 }
 
 // An element's codes: its effective type, its substitute (from 1, or 0), the place past them, and whether a flag bit was sent.
@@ -55,12 +51,8 @@ pub struct Cast {
     pub sent: bool,
 }
 
-// What an element's codes say; or the number of a refusal.
-#[derive(Clone, Copy)]
-pub enum Coded {
-    As(Cast),
-    Wrong(u32),
-}
+// What an element's codes say; or why they are refused.
+pub type Coded = Result<Cast, Refusal>;
 
 // An element that is open: its effective type, and where the reading is.
 #[derive(Clone, Copy)]
@@ -69,12 +61,13 @@ pub struct Inner {
     pub effective: u32,
 }
 
-// What becomes of an element behind its head: refused; a Blank; refused once it is in the path, for lack of room for its codes' event; open.
+// What becomes of an element behind its head: refused before it is in the path; a Blank; refused once it is in the path, as for lack of room for its codes'
+// event; open. One enum and no Result of it: with that and `?`, 2,048 events read cost 14 in 100 more (its guard is 1.31).
 #[derive(Clone, Copy)]
 pub enum Opened {
-    Refuse(u32, Bits),
+    Refuse(Fault<Bits>),
     Blank(Cursor),
-    Full(u32, Bits),
+    Full(Fault<Bits>),
     In(Inner),
 }
 

@@ -9,9 +9,10 @@ ghost use Rattle.reader_parts.specs.Opening.{row_choices, Begins, OpensPlain, Op
 
 use crate::codes::{codes, tell};
 use crate::storing::{store, store_seldom};
-use crate::{Coded, Cursor, Inner, Opened, Step};
+use crate::{Cursor, Inner, Opened};
 use model::Choices;
-use numbers::{kind, limit, refusal};
+use numbers::refusal::{Fault, Refusal};
+use numbers::{kind, limit};
 use table::rows;
 use wire::Bits;
 
@@ -36,7 +37,7 @@ fn choices_of(choices: Choices, row: u32) -> Choices
 fn flag(coded: bool) -> u32
     ensures { result ≡ flag_of coded }
 {
-    if coded { 1 } else { 0 }
+    u32::from(coded)
 }
 
 // An element of a type, held or not: Start, a Blank, or a refusal.
@@ -52,26 +53,25 @@ fn begin(
 ) -> Opened
     ensures { Begins name coded body.0 wall.0 t held c events.old result events.new }
 {
-    let at = c.at;
     if held {
-        let s = store(events, c, kind::START, name, flag(coded), body);
-        let Step::Go(d) = s else {
-            return Opened::Refuse(refusal::EVENT_ROOM, at);
+        return match store(events, c, kind::START, name, flag(coded), body) {
+            Err(fault) => Opened::Refuse(fault),
+            Ok(cursor) => Opened::In(Inner {
+                cursor,
+                effective: t,
+            }),
         };
-        let x = Inner {
-            effective: t,
-            cursor: d,
-        };
-        return Opened::In(x);
     }
     if coded {
-        let s = store_seldom(events, c, kind::BLANK, name, t, wall);
-        let Step::Go(d) = s else {
-            return Opened::Refuse(refusal::EVENT_ROOM, at);
+        return match store_seldom(events, c, kind::BLANK, name, t, wall) {
+            Err(fault) => Opened::Refuse(fault),
+            Ok(cursor) => Opened::Blank(cursor),
         };
-        return Opened::Blank(d);
     }
-    Opened::Refuse(refusal::NOT_HELD, at)
+    Opened::Refuse(Fault {
+        why: Refusal::NotHeld,
+        at: c.at,
+    })
 }
 
 // An element that has nothing to choose from: codes of no bits, which have to stand before the wall.
@@ -88,7 +88,10 @@ fn open_plain(
     ensures { OpensPlain name coded body.0 wall.0 t held c events.old result events.new }
 {
     if wall.0 < body.0 {
-        return Opened::Refuse(refusal::PAST_END, body);
+        return Opened::Refuse(Fault {
+            why: Refusal::PastEnd,
+            at: body,
+        });
     }
     begin(events, c, name, t, held, coded, body, wall)
 }
@@ -114,31 +117,18 @@ fn open_cast(
         events.new }
 {
     let own = choices_of(choices, row);
-    let k = codes(table, payload, own, t, row, wall, body);
-    match k {
-        Coded::Wrong(n) => Opened::Refuse(n, body),
-        Coded::As(cast) => {
+    match codes(table, payload, own, t, row, wall, body) {
+        Err(why) => Opened::Refuse(Fault { why, at: body }),
+        Ok(cast) => {
             let effective = cast.effective;
             let held = rows::held(table, party, effective);
-            let o = begin(events, c, name, effective, held, coded, body, wall);
-            match o {
-                Opened::Refuse(n, at) => Opened::Refuse(n, at),
-                Opened::Blank(d) => Opened::Blank(d),
-                Opened::Full(n, at) => Opened::Full(n, at),
-                Opened::In(x) => {
-                    let d = x.cursor;
-                    let s = tell(events, d, cast);
-                    match s {
-                        Step::Refuse(n, at) => Opened::Full(n, at),
-                        Step::Go(e) => {
-                            let y = Inner {
-                                effective,
-                                cursor: e,
-                            };
-                            Opened::In(y)
-                        }
-                    }
-                }
+            let opened = begin(events, c, name, effective, held, coded, body, wall);
+            let Opened::In(x) = opened else {
+                return opened;
+            };
+            match tell(events, x.cursor, cast) {
+                Err(fault) => Opened::Full(fault),
+                Ok(cursor) => Opened::In(Inner { cursor, effective }),
             }
         }
     }

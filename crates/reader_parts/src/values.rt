@@ -1,6 +1,7 @@
 // A simple value: its code, its text's bytes, its event.
-ghost use Rattle.std.specs.Prelude.{◌≡◌, true, ◌+◌, ◌-◌, ◌*◌, ◌≤◌, ◌<◌, min, length};
+ghost use Rattle.std.specs.Prelude.{◌≡◌, true, ◌+◌, ◌-◌, ◌*◌, ◌≤◌, ◌<◌, length};
 ghost use Rattle.wire.specs.Bits.{bit_at};
+ghost use Rattle.numbers.specs.Refused.{answered};
 ghost use Rattle.utf8.specs.Rfc.{In};
 ghost use Rattle.utf8.specs.Text.{text_fault};
 ghost use Rattle.utf8.specs.Slanted.{Within};
@@ -12,30 +13,19 @@ ghost use Rattle.reader_parts.specs.Texts.{Moves, Copies, Follows};
 
 use crate::storing::store;
 use crate::{Cursor, Step};
-use numbers::{kind, limit, refusal};
+use numbers::refusal::{Fault, Refusal};
+use numbers::{kind, limit};
 use utf8::slanted::octet;
 use value::Value;
 use value::kinds::of_kind;
 use value::reading::{number, text_fault};
-use wire::{Bits, Bytes, Read};
+use wire::{Bits, Bytes};
 
 // Whether an octet is printable ASCII.
 fn printable(octet: u8) -> bool
     ensures { result ≡ true → In 0x20 0x7F octet }
 {
-    if octet < 0x20 {
-        return false;
-    }
-    octet <= 0x7F
-}
-
-fn both(a: bool, b: bool) -> bool
-    ensures { result ≡ true → (a ≡ true) × (b ≡ true) }
-{
-    if a {
-        return b;
-    }
-    false
+    0x20 <= octet && octet <= 0x7F
 }
 
 // Up to 16 octets, from bit k of byte i on, into texts; and whether all are printable. All are held before the first is stored, so that the back end
@@ -46,26 +36,15 @@ fn block(payload: &[u8], k: u32, i: usize, n: usize, texts: &mut [u8], used: usi
 {
     let mut held = [0u8; 16];
     let mut plain = true;
-    let mut j: usize = 0;
-    while j < n {
+    for j in 0..n {
         let x = octet(payload, k, i + j);
         held[j] = x;
-        plain = both(plain, printable(x));
-        j += 1;
+        plain &= printable(x);
     }
-    let mut h: usize = 0;
-    while h < n {
-        let x = held[h];
-        texts[used + h] = x;
-        h += 1;
+    for h in 0..n {
+        texts[used + h] = held[h];
     }
     plain
-}
-
-fn lesser(a: usize, b: usize) -> usize
-    ensures { result ≡ min a b }
-{
-    if b < a { b } else { a }
 }
 
 // n octets, from bit k of byte i on, into texts; and whether all are printable. The last 16 may be partly those before.
@@ -76,22 +55,16 @@ fn move_octets(payload: &[u8], k: u32, i: usize, n: usize, texts: &mut [u8], use
     if n < 16 {
         return block(payload, k, i, n, texts, used);
     }
+    // The last turn goes back to the last 16, so that no range gives the places.
     let last = n - 16;
     let mut plain = true;
     let mut j: usize = 0;
     while j < n {
-        let at = lesser(j, last);
-        plain = both(plain, block(payload, k, i + at, 16, texts, used + at));
+        let at = j.min(last);
+        plain &= block(payload, k, i + at, 16, texts, used + at);
         j = at + 16;
     }
     plain
-}
-
-// The bytes that are left of so many.
-fn room_left(have: usize, used: usize) -> usize
-    ensures { result ≡ have - used }
-{
-    if have < used { 0 } else { have - used }
 }
 
 // n bytes of the payload, from a place on, into texts, where they have room; and whether they have and nothing is wrong with them, as far as that is
@@ -101,7 +74,7 @@ fn copy(payload: &[u8], texts: &mut [u8], from: Bits, n: u32, used: usize) -> bo
     ensures { Copies payload.now from.0 n texts.old used texts.new result }
 {
     let m = n as usize;
-    let room = room_left(texts.len(), used);
+    let room = texts.len().saturating_sub(used);
     if room < m {
         return false;
     }
@@ -111,14 +84,14 @@ fn copy(payload: &[u8], texts: &mut [u8], from: Bits, n: u32, used: usize) -> bo
 }
 
 // What is wrong with n bytes from a place on, where it is not known that nothing is.
-fn judged(payload: &[u8], from: Bits, n: u32, fine: bool) -> u32
+fn judged(payload: &[u8], from: Bits, n: u32, fine: bool) -> Result<(), Refusal>
     requires { (from.0 + 8 * n ≤ 8 * length payload.now)
         × (from.0 + 8 * n < 4294967296)
         × (fine ≡ true → text_fault (bytes_at (bit_at payload.now) from.0 n) ≡ 0) }
-    ensures { result ≡ text_fault (bytes_at (bit_at payload.now) from.0 n) }
+    ensures { answered result ≡ text_fault (bytes_at (bit_at payload.now) from.0 n) }
 {
     if fine {
-        return refusal::ACCEPTED;
+        return Ok(());
     }
     let bytes = Bytes(n);
     text_fault(payload, from, bytes)
@@ -142,27 +115,33 @@ fn text_after(
     let e = wall.0;
     let from = p.0;
     if e < from {
-        return Step::Refuse(refusal::PAST_END, at);
+        return Err(Fault {
+            why: Refusal::PastEnd,
+            at,
+        });
     }
     if (e - from) / 8 < n {
-        return Step::Refuse(refusal::PAST_END, at);
+        return Err(Fault {
+            why: Refusal::PastEnd,
+            at,
+        });
     }
     let used = c.used;
-    let room = room_left(texts.len(), used);
+    let room = texts.len().saturating_sub(used);
     let fine = copy(payload, texts, p, n, used);
-    let wrong = judged(payload, p, n, fine);
-    if 0 < wrong {
-        return Step::Refuse(wrong, at);
+    if let Err(why) = judged(payload, p, n, fine) {
+        return Err(Fault { why, at });
     }
     let m = n as usize;
     if room < m {
-        return Step::Refuse(refusal::TEXT_ROOM, at);
+        return Err(Fault {
+            why: Refusal::TextRoom,
+            at,
+        });
     }
-    let count = c.count;
     let d = Cursor {
-        at,
-        count,
         used: used + m,
+        ..c
     };
     let next = Bits(from + 8 * n);
     store(events, d, kind::VALUE, n, 0, next)
@@ -176,8 +155,8 @@ fn text(payload: &[u8], events: &mut [u32], texts: &mut [u8], wall: Bits, c: Cur
 {
     let at = c.at;
     match number(payload, wall, at, limit::MOST_TEXT) {
-        Read::Refuse(e) => Step::Refuse(e, at),
-        Read::Value(n, p) => text_after(payload, events, texts, wall, c, n, p),
+        Err(why) => Err(Fault { why, at }),
+        Ok((n, p)) => text_after(payload, events, texts, wall, c, n, p),
     }
 }
 
@@ -200,9 +179,12 @@ pub fn value(
         return text(payload, events, texts, wall, c);
     }
     let at = c.at;
+    // No `.map_err(..)?`, as it is on the way of every value: with that, and with enums in Results, 2,048 events read cost 14 in 100 more (its guard is 1.31).
     match of_kind(payload, wall, at, simple, x, y) {
-        Value::Refuse(n) => Step::Refuse(n, at),
-        Value::Read { word, text, next } => store(events, c, kind::VALUE, word, 0, next),
-        Value::Dated { p, q, next } => store(events, c, kind::VALUE, p, q, next),
+        Err(why) => Err(Fault { why, at }),
+        Ok(read) => match read {
+            Value::Read { word, text, next } => store(events, c, kind::VALUE, word, 0, next),
+            Value::Dated { p, q, next } => store(events, c, kind::VALUE, p, q, next),
+        },
     }
 }

@@ -1,13 +1,14 @@
 -- The names that an array and a count are.
 use Prim.Native.Nat.{ℕ, zero, suc, ◌≤◌}
-use mathlib.Core.Path.{◌≡◌, refl, sym, ap, ◌∙◌}
+use mathlib.Core.Path.{◌≡◌, refl, ap, ◌∙◌}
 use mathlib.Core.List.{List, [], ◌∷◌, ◌++◌}
 use native.Mathlib.Omega.{arith}
 use lib.ListN.{length, get_or, take, length-append}
 use lib.Seq.{take-suc}
 use Rattle.numbers.specs.Limit.{most_names}
-use Rattle.reader.specs.Answers.{answer_is, first_names}
-use Rattle.reader.specs.declared.Answer.{Answer}
+use Rattle.std.specs.Prelude.{Err}
+use Rattle.reader.specs.declared.Refused.{Refused}
+use Rattle.reader.specs.Answers.{Answer, answer_is, path_is, first_names}
 use Rattle.call_parts.specs.Area.{area_of, told}
 
 pub first-length : (l : List ℕ) (n : ℕ) → length (first_names l n) ≡ n
@@ -24,15 +25,14 @@ first_taken l (suc n) h = take-suc l n 0 h ∙ ap (λ (x : List ℕ). x ++ (get_
 pub among : (l : List ℕ) (n : ℕ) → length l ≡ most_names → n ≤ most_names → n ≤ length l
 among l n e h = omega arith
 
--- without a path the area shows no name; with one, the first of the array's
-module _ (a : Answer) where
-  abbrev told_with : List ℕ → List ℕ
-  told_with π = area_of (told a.place a.mode a.events a.text.0 a.bits.0 π)
+-- the area of a refusal shows the first of the array's
+pub path-told : (r : Refused) → r.path.count ≤ length r.path.names → area_of (told r.fault.at 0 0 0 0 (take r.path.count r.path.names)) ≡ area_of (answer_is (Err r))
+unfolding area_of
+path-told r h = ap (λ (π : List ℕ). area_of (told r.fault.at 0 0 0 0 π)) (first_taken r.path.names r.path.count h)
 
-  pub no-path : a.path.count ≡ 0 → told_with [] ≡ area_of (answer_is a)
-  unfolding area_of first_names
-  no-path e = sym (rw e)
-
-  pub path-told : a.path.count ≤ length a.path.names → told_with (take a.path.count a.path.names) ≡ area_of (answer_is a)
-  unfolding area_of
-  path-told h = ap told_with (first_taken a.path.names a.path.count h)
+-- and they fit where the path does
+pub counted : (a : Answer) (r : Refused) (n : ℕ) → a ≡ Err r → length (answer_is a).path ≤ n → r.path.count ≤ n
+counted a r n e h =
+    let k : length (path_is r.path) ≡ r.path.count = first-length r.path.names r.path.count in
+    let g : length (path_is r.path) ≤ n = rw (← ap (λ (x : Answer). length (answer_is x).path) e) h in
+    omega arith

@@ -9,13 +9,11 @@ use lib.ListN.{length, take, drop, replicate, length-append, length-drop}
 use lib.Seq.{length-take-le, take_at}
 use Rattle.numbers.specs.Limit as limit
 use Rattle.model.specs.Whole.{Reply, Outcome, outcome, reading, after_verdict, events_left, texts_left}
-use Rattle.reader.specs.Answers.{answer_is}
-use Rattle.reader.specs.declared.Answer.{Answer}
+use Rattle.reader.specs.Answers.{Answer, answer_is}
 use Rattle.buffers.specs.Bytes.{words_of, bytes_of, stored}
 use Rattle.buffers.proofs.BytesLaws.{bytes-length}
 use Rattle.buffers.proofs.Loops.{tail-back}
 use Rattle.call_parts.specs.Area.{area_of}
-use Rattle.reads.proofs.PathNames.{first-length}
 use Rattle.call_parts.specs.Calls.{zeros, table_verdict, judged, read_bytes, events_back}
 use Rattle.reads.proofs.Paths.{path-fits}
 use Rattle.reads.specs.Promises.{ReadBack, Suffices}
@@ -29,11 +27,11 @@ use Rattle.reads.proofs.RoomLaws.{more_room}
 pub words-fit : (R : Reply) (o : Outcome) (E : List ℕ) (m : ℕ) → o ≡ outcome R → E ≡ events_left m R → length E ≡ m → 4 * o.events ≤ length E
 words-fit R o E m a f n = let h = events-fit m R E f n in omega (arith, ap (λ (p : Outcome). p.events) a)
 
-pub words-read : (R : Reply) (o : Outcome) (r : ℕ) (A E X B B₁ Z : List ℕ) (m x : ℕ) → o ≡ outcome R → E ≡ events_left m R → X ≡ texts_left x R → length E ≡ m → 4 * m ≤ length B
+words_read : (R : Reply) (o : Outcome) (r : ℕ) (A E X B B₁ Z : List ℕ) (m x : ℕ) → o ≡ outcome R → E ≡ events_left m R → X ≡ texts_left x R → length E ≡ m → 4 * m ≤ length B
     → B₁ ≡ stored (take (4 * o.events) E) B → Z ≡ replicate (length (mid_of (4 * (4 * o.events)) (length B₁ - 4 * (4 * o.events)) B₁)) 0
     → (r ≡ o.number) × (A ≡ area_of o)
     → ReadBack R (length B) x r A (put_mid (4 * (4 * o.events)) (length B₁ - 4 * (4 * o.events)) B₁ Z) X
-words-read R o r A E X B B₁ Z m x a f t n w s z (b, c) =
+words_read R o r A E X B B₁ Z m x a f t n w s z (b, c) =
     let k = 4 * o.events in
     let P = bytes_of (take k E) in
     let w' = words-fit R o E m a f n in
@@ -50,13 +48,15 @@ words-read R o r A E X B B₁ Z m x a f t n w s z (b, c) =
       texts = t;
     }
 
+pub words-read : (R : Reply) (o : Outcome) (r : ℕ) (A E X B B₁ Z : List ℕ) (m x k : ℕ) → k ≡ 4 * o.events → o ≡ outcome R → E ≡ events_left m R → X ≡ texts_left x R → length E ≡ m → 4 * m ≤ length B
+    → B₁ ≡ stored (take k E) B → Z ≡ replicate (length (mid_of (4 * k) (length B₁ - 4 * k) B₁)) 0
+    → (r ≡ o.number) × (A ≡ area_of o)
+    → ReadBack R (length B) x r A (put_mid (4 * k) (length B₁ - 4 * k) B₁ Z) X
+words-read R o r A E X B B₁ Z m x k e a f t n w s z q = rw e (words_read R o r A E X B B₁ Z m x a f t n w (rw e at s) (rw e at z) q)
+
 -- the path of what is told fits
-pub names-fit : (l : List ℕ) (party name type : ℕ) (s : List ℕ) (m x : ℕ) (a : Answer) → answer_is a ≡ outcome (reading l party name type s m x) → a.path.count ≤ limit.most_names
-names-fit l party name type s m x a e =
-    let n = first-length a.path.names a.path.count in
-    let p = path-fits l party name type s m x in
-    let q = ap (λ (o : Outcome). length o.path) e in
-    omega arith
+pub names-fit : (l : List ℕ) (party name type : ℕ) (s : List ℕ) (m x : ℕ) (a : Answer) → answer_is a ≡ outcome (reading l party name type s m x) → length (answer_is a).path ≤ limit.most_names
+names-fit l party name type s m x a e = rw e (path-fits l party name type s m x)
 
 module _ {e x r : ℕ} {A E X : List ℕ} where
   -- the same reading, by another name

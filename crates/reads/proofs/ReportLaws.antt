@@ -9,8 +9,7 @@ use Rattle.numbers.specs.Limit.{most_events, most_event_words, most_payload}
 use Rattle.model.specs.Model.{Event, events}
 use Rattle.model.specs.Whole.{Reply, Outcome, reading, outcome, event_words, events_left, filled}
 use Rattle.model.specs.Whole.Reply.{accepted, declined}
-use Rattle.reader.specs.Answers.{answer_is, Replies}
-use Rattle.reader.specs.declared.Answer.{Answer}
+use Rattle.reader.specs.Answers.{Answer, answer_is, Replies}
 use Rattle.theorems.proofs.Reader.{reading-sound, list-fits}
 use Rattle.theorems.proofs.NamedReading.{zero-accepts}
 use Rattle.buffers.specs.Bytes.{words_of}
@@ -42,10 +41,10 @@ events-from p (e ∷ L) z i h =
 
 -- what the reader answered is enough to be added
 pub record Ready (s : List ℕ) (r : Answer) : Type 0 where
-  pub whole : 4 * r.events ≤ most_event_words
-  pub few : r.events ≤ most_events
-  pub used : r.bits.0 ≤ 8 * length s
-  pub most : r.number ≡ 0 → length s ≤ most_payload
+  pub whole : 4 * (answer_is r).events ≤ most_event_words
+  pub few : (answer_is r).events ≤ most_events
+  pub used : (answer_is r).bits ≤ 8 * length s
+  pub most : (answer_is r).number ≡ 0 → length s ≤ most_payload
 
 module _ (l : List ℕ) (party name type : ℕ) (s : List ℕ) (r : Answer) (E T : List ℕ) (h : Replies (reading l party name type s most_event_words most_payload) most_event_words most_payload r E T) where
   pub ready : Ready s r
@@ -55,14 +54,14 @@ module _ (l : List ℕ) (party name type : ℕ) (s : List ℕ) (r : Answer) (E T
       go : (R : Reply) → reading l party name type s most_event_words most_payload ≡ R → answer_is r ≡ outcome R → Ready s r
       go (accepted mode ns q) e a =
           let f = list-fits l party name type s most_event_words most_payload mode ns q e in
-          let b : r.events ≡ length (events ns) = ap (λ (o : Outcome). o.events) a in
-          let c : r.bits.0 ≡ q = ap (λ (o : Outcome). o.bits) a in
+          let b : (answer_is r).events ≡ length (events ns) = ap (λ (o : Outcome). o.events) a in
+          let c : (answer_is r).bits ≡ q = ap (λ (o : Outcome). o.bits) a in
           let w = f.words-suffice in let v = f.few in let u = f.payload-suffices in
           let t = (reading-sound l party name type s most_event_words most_payload mode ns q e).is.mode-byte.few in
           record { whole = omega arith; few = omega arith; used = omega arith; most = λ z. t }
       go (declined n p π) e a =
-          let b : r.events ≡ 0 = ap (λ (o : Outcome). o.events) a in
-          let c : r.bits.0 ≡ 0 = ap (λ (o : Outcome). o.bits) a in
+          let b : (answer_is r).events ≡ 0 = ap (λ (o : Outcome). o.events) a in
+          let c : (answer_is r).bits ≡ 0 = ap (λ (o : Outcome). o.bits) a in
           record { whole = omega arith; few = omega arith; used = omega arith; most = λ z. absurd (numbered n p π e (sym z ∙ ap (λ (o : Outcome). o.number) a)) }
         where
           numbered : (n p : ℕ) (π : List ℕ) → reading l party name type s most_event_words most_payload ≡ declined n p π → 0 ≡ n → ⊥
@@ -70,22 +69,22 @@ module _ (l : List ℕ) (party name type : ℕ) (s : List ℕ) (r : Answer) (E T
               let y = (zero-accepts l party name type s most_event_words most_payload (ap (λ (x : Reply). (outcome x).number) e ∙ sym z)).is in
               let x : ◌≡◌ {A = ℕ} 0 1 = cc in omega arith
 
-  pub words-added : (B B' : List ℕ) (bits : ℕ) → bits ≡ r.bits.0 → B' ≡ bytes_of (adds r.number (length s) bits (events_in E 0 r.events) (numbers_in B))
-      → AddedBy (reading l party name type s most_event_words most_payload) (length s) B r.number B'
+  pub words-added : (B B' : List ℕ) (bits : ℕ) → bits ≡ (answer_is r).bits → B' ≡ bytes_of (adds (answer_is r).number (length s) bits (events_in E 0 (answer_is r).events) (numbers_in B))
+      → AddedBy (reading l party name type s most_event_words most_payload) (length s) B (answer_is r).number B'
   unfolding outcome added events_left filled events_in
   words-added B B' bits k f =
-      record { number = ap (λ (o : Outcome). o.number) h.answer; report = f ∙ ap bytes_of (ap (λ (x : ℕ). adds r.number (length s) x (events_in E 0 r.events) (numbers_in B)) k ∙ go (reading l party name type s most_event_words most_payload) h.answer h.events_left_lem) }
+      record { number = ap (λ (o : Outcome). o.number) h.answer; report = f ∙ ap bytes_of (ap (λ (x : ℕ). adds (answer_is r).number (length s) x (events_in E 0 (answer_is r).events) (numbers_in B)) k ∙ go (reading l party name type s most_event_words most_payload) h.answer h.events_left_lem) }
     where
-      go : (R : Reply) → answer_is r ≡ outcome R → E ≡ events_left most_event_words R → adds r.number (length s) r.bits.0 (events_in E 0 r.events) (numbers_in B) ≡ added (length s) R (numbers_in B)
+      go : (R : Reply) → answer_is r ≡ outcome R → E ≡ events_left most_event_words R → adds (answer_is r).number (length s) (answer_is r).bits (events_in E 0 (answer_is r).events) (numbers_in B) ≡ added (length s) R (numbers_in B)
       go (accepted mode ns q) a b =
-          let n : r.number ≡ 0 = ap (λ (o : Outcome). o.number) a in
-          let c : r.events ≡ length (events ns) = ap (λ (o : Outcome). o.events) a in
-          let d : r.bits.0 ≡ q = ap (λ (o : Outcome). o.bits) a in
+          let n : (answer_is r).number ≡ 0 = ap (λ (o : Outcome). o.number) a in
+          let c : (answer_is r).events ≡ length (events ns) = ap (λ (o : Outcome). o.events) a in
+          let d : (answer_is r).bits ≡ q = ap (λ (o : Outcome). o.bits) a in
           rw (n, c, d, b) (ap (λ (L : List Event). adds 0 (length s) q L (numbers_in B)) (events-from [] (events ns) _ 0 refl))
       go (declined m p π) a b =
-          let n : r.number ≡ m = ap (λ (o : Outcome). o.number) a in
-          let c : r.events ≡ 0 = ap (λ (o : Outcome). o.events) a in
-          let d : r.bits.0 ≡ 0 = ap (λ (o : Outcome). o.bits) a in
+          let n : (answer_is r).number ≡ m = ap (λ (o : Outcome). o.number) a in
+          let c : (answer_is r).events ≡ 0 = ap (λ (o : Outcome). o.events) a in
+          let d : (answer_is r).bits ≡ 0 = ap (λ (o : Outcome). o.bits) a in
           rw (n, c, d)
 
 -- in rooms of that size
@@ -97,20 +96,20 @@ module _ (l : List ℕ) (party name type : ℕ) (s : List ℕ) (r : Answer) (E T
   pub ready-in : Ready s r
   ready-in = ready l party name type s r E T in-room
 
-  pub ready-whole : (n : ℕ) → n ≡ most_event_words → 4 * r.events ≤ n
+  pub ready-whole : (n : ℕ) → n ≡ most_event_words → 4 * (answer_is r).events ≤ n
   ready-whole n e = let y = ready-in.whole in omega arith
 
-  pub ready-few : r.events ≤ most_events
+  pub ready-few : (answer_is r).events ≤ most_events
   ready-few = ready-in.few
 
-  pub ready-used : (bits : ℕ) → bits ≡ r.bits.0 → bits ≤ 8 * length s
+  pub ready-used : (bits : ℕ) → bits ≡ (answer_is r).bits → bits ≤ 8 * length s
   ready-used bits e = let y = ready-in.used in omega arith
 
-  pub ready-most : r.number ≡ 0 → length s ≤ most_payload
+  pub ready-most : (answer_is r).number ≡ 0 → length s ≤ most_payload
   ready-most = ready-in.most
 
-  pub words-added-in : (B B' : List ℕ) (bits : ℕ) → bits ≡ r.bits.0 → B' ≡ bytes_of (adds r.number (length s) bits (events_in E 0 r.events) (numbers_in B))
-      → AddedBy (reading l party name type s most_event_words most_payload) (length s) B r.number B'
+  pub words-added-in : (B B' : List ℕ) (bits : ℕ) → bits ≡ (answer_is r).bits → B' ≡ bytes_of (adds (answer_is r).number (length s) bits (events_in E 0 (answer_is r).events) (numbers_in B))
+      → AddedBy (reading l party name type s most_event_words most_payload) (length s) B (answer_is r).number B'
   words-added-in B B' bits k f = words-added l party name type s r E T in-room B B' bits k f
 
 pub ruleset ready-ways = (ready-whole, ready-few, ready-used, ready-most)
@@ -127,10 +126,10 @@ bytes-added t party name type s k w B r B' told e a =
     }
 
 pub lent-added : (t : List ℕ) (k room party name type : ℕ) (s : List ℕ) (r : Answer) (E T : List ℕ) (W X : ℕ) (w : W ≡ most_event_words) (x : X ≡ most_payload) (B B' : List ℕ) (bits : ℕ)
-    → Lends k (length t) room → ReadLent t k party name type s W X r E T → bits ≡ r.bits.0 → B' ≡ bytes_of (adds r.number (length s) bits (events_in E 0 r.events) (numbers_in B))
-    → AddedBy (read_for_report t party name type s) (length s) B r.number B'
+    → Lends k (length t) room → ReadLent t k party name type s W X r E T → bits ≡ (answer_is r).bits → B' ≡ bytes_of (adds (answer_is r).number (length s) bits (events_in E 0 (answer_is r).events) (numbers_in B))
+    → AddedBy (read_for_report t party name type s) (length s) B (answer_is r).number B'
 lent-added t k room party name type s r E T W X w x B B' bits l h e f =
-    bytes-added t party name type s k (take k (words_of t)) B r.number B' (lent-tell t k room l) refl (words-added-in (take k (words_of t)) party name type s r E T W X w x h B B' bits e f)
+    bytes-added t party name type s k (take k (words_of t)) B (answer_is r).number B' (lent-tell t k room l) refl (words-added-in (take k (words_of t)) party name type s r E T W X w x h B B' bits e f)
 
 -- the words that were loaded are those of the table
 pub words-read : (t room words : List ℕ) (party name type : ℕ) (s : List ℕ) (k W X : ℕ) (r : Answer) (E T : List ℕ) → Lends k (length t) (length room) → words ≡ take k (words_of t) ++ drop k room

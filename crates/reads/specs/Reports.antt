@@ -2,8 +2,7 @@
 use Rattle.std.specs.Prelude.{ℕ, ◌≡◌, cond, List, eqb, length, take}
 use Rattle.numbers.specs.Refusal.{area_size}
 use Rattle.model.specs.Whole.{Reply, outcome, reading}
-use Rattle.reader.specs.Answers.{Replies}
-use Rattle.reader.specs.declared.Answer.{Answer}
+use Rattle.reader.specs.Answers.{Answer, Replies}
 use Rattle.buffers.specs.Bytes.{words_of}
 use Rattle.report.specs.Eights.{bytes_of}
 use Rattle.report.specs.Places.{report_bytes}

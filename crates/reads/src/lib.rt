@@ -8,20 +8,21 @@ ghost use Rattle.numbers.specs.Limit as limit;
 ghost use Rattle.numbers.specs.Limit.{most_event_words, most_names, most_table_words};
 ghost use Rattle.reader.specs.Answers.{answer_is};
 ghost use Rattle.call_parts.specs.Promises.{Fits, Told};
-ghost use Rattle.call_parts.specs.EventRoom.{some_event_words, many_event_words, slot_words};
-ghost use Rattle.call_parts.specs.TableRoom.{some_words, form1_words};
+ghost use Rattle.call_parts.specs.EventRoom.{slot_words};
 ghost use Rattle.reads.specs.Promises.{ReadByBytes, ReadByWords, ReadIfRoom, ReadInto, Slots};
 
 use buffers::{clear, load, store};
 use call_parts::area::tell;
 use call_parts::asked::{Asked, In, Out, Room, Words};
 use call_parts::rooms::{
-    FEW_EVENT_WORDS, FEW_WORDS, FIRST_RUNG, FORM_1_WORDS, LEAST_EVENT_WORDS, LEAST_PAYLOAD,
-    LEAST_WORDS, MANY_EVENT_WORDS, SMALL_PAYLOAD, SOME_EVENT_WORDS, SOME_WORDS,
+    FEW_EVENT_WORDS, FEW_WORDS, FORM_1_WORDS, LEAST_EVENT_WORDS, LEAST_PAYLOAD, LEAST_WORDS,
+    MANY_EVENT_WORDS, SMALL_PAYLOAD, SOME_EVENT_WORDS, SOME_WORDS,
 };
 use call_parts::tables::{is_whole, judge_and_tell};
+use numbers::limit::{MOST_EVENT_WORDS, MOST_TABLE_WORDS};
+use numbers::refusal::Refusal;
 use numbers::{limit, refusal};
-use reader::{Answer, read};
+use reader::{Reading, Refused, read};
 
 // The words that are lent for events: four for each that has room.
 fn slot_words(bytes: usize) -> usize
@@ -36,32 +37,32 @@ fn slot_words(bytes: usize) -> usize
     limit::MOST_EVENT_WORDS
 }
 
-fn smaller(a: usize, b: usize) -> usize
-    ensures { result ≡ min a b }
-{
-    if a < b {
-        return a;
-    }
-    b
-}
-
-// What the reader answered; the number is given back. Most answers have no path, whose names are then not copied.
-fn tell_answer(area: &mut [u8], a: Answer) -> u32
-    requires { (length area.old ≡ limit.area) × (a.path.count ≤ most_names) }
+// What the reader answered; the number is given back.
+fn tell_answer(area: &mut [u8], a: Result<Reading, Refused>) -> u32
+    requires { (length area.old ≡ limit.area) × (length (answer_is a).path ≤ most_names) }
     ensures { Told area (answer_is a) result }
 {
-    let text = a.text.0;
-    let bits = a.bits.0;
-    let p = a.path;
-    let count = p.count;
-    if count == 0 {
-        let none = [0u16; limit::MOST_NAMES];
-        tell(area, a.place, a.mode, a.events, text, bits, &none, 0);
-        return a.number;
+    match a {
+        Ok(r) => {
+            tell(area, 0, r.mode, r.events, r.text.0, r.bits.0, &[], 0);
+            refusal::ACCEPTED
+        }
+        Err(r) => {
+            let path = r.path;
+            tell(area, r.fault.at, 0, 0, 0, 0, &path.names, path.count);
+            r.fault.why.number()
+        }
     }
-    let names = p.names;
-    tell(area, a.place, a.mode, a.events, text, bits, &names, count);
-    a.number
+}
+
+// The words of the events that were stored.
+fn words_stored(a: Result<Reading, Refused>) -> usize
+    ensures { result ≡ 4 * (answer_is a).events }
+{
+    match a {
+        Ok(r) => 4 * (r.events as usize),
+        Err(_) => 0,
+    }
 }
 
 // Reads by a table's words into the words lent for events, stores those of its events as bytes, with zeros behind them, and
@@ -80,7 +81,7 @@ fn read_into(
     ensures { ReadInto words by payload (length list.old) events texts area result }
 {
     let a = read(words, by.party, by.name, by.ty, payload, list, texts);
-    let k = 4 * (a.events as usize);
+    let k = words_stored(a);
     store(&list[..k], events);
     clear(&mut events[4 * k..]);
     tell_answer(area, a)
@@ -99,7 +100,7 @@ fn try_room(
     requires { length area.old ≡ limit.area }
     ensures { ReadIfRoom words by payload room events texts area result }
 {
-    let m = smaller(slot_words(events.len()), room.len());
+    let m = slot_words(events.len()).min(room.len());
     read_into(words, by, payload, &mut room[..m], events, texts, area)
 }
 
@@ -119,39 +120,9 @@ fn read_in_room(
     try_room(words, by, payload, room, events, texts, area)
 }
 
-// Reads with room for some events.
+// Reads with room for N words of events.
 #[inline(never)]
-fn read_some_events(words: Words, by: Asked, payload: In, events: Out, texts: Out, area: Out) -> u32
-    requires { Slots events area some_event_words }
-    ensures { ReadByWords words by payload events texts area result }
-{
-    let mut room = [0u32; SOME_EVENT_WORDS];
-    read_in_room(words, by, payload, &mut room, events, texts, area)
-}
-
-// The same with room for many.
-#[inline(never)]
-fn read_many_events(words: Words, by: Asked, payload: In, events: Out, texts: Out, area: Out) -> u32
-    requires { Slots events area many_event_words }
-    ensures { ReadByWords words by payload events texts area result }
-{
-    let mut room = [0u32; MANY_EVENT_WORDS];
-    read_in_room(words, by, payload, &mut room, events, texts, area)
-}
-
-// The same with room for every event that has a place.
-#[inline(never)]
-fn read_most_events(words: Words, by: Asked, payload: In, events: Out, texts: Out, area: Out) -> u32
-    requires { Slots events area most_event_words }
-    ensures { ReadByWords words by payload events texts area result }
-{
-    let mut room = [0u32; limit::MOST_EVENT_WORDS];
-    read_in_room(words, by, payload, &mut room, events, texts, area)
-}
-
-// Reads on this rung if the events fit there, or on a later one.
-fn read_events_by_rungs(
-    rung: u32,
+fn read_events_in<const N: usize>(
     words: Words,
     by: Asked,
     payload: In,
@@ -159,24 +130,27 @@ fn read_events_by_rungs(
     texts: Out,
     area: Out,
 ) -> u32
-    requires { Slots events area most_event_words }
+    requires lent { Slots events area N }
+    requires few { N ≤ most_event_words }
+    ensures { ReadByWords words by payload events texts area result }
+{
+    let mut room = [0u32; N];
+    read_in_room(words, by, payload, &mut room, events, texts, area)
+}
+
+// Reads with room for some events or more, on the least rung that has room.
+fn read_events(words: Words, by: Asked, payload: In, events: Out, texts: Out, area: Out) -> u32
+    requires { length area.old ≡ limit.area }
     ensures { ReadByWords words by payload events texts area result }
 {
     let m = slot_words(events.len());
-    if rung == 0 {
-        return read_most_events(words, by, payload, events, texts, area);
+    if m <= SOME_EVENT_WORDS {
+        return read_events_in::<SOME_EVENT_WORDS>(words, by, payload, events, texts, area);
     }
-    if rung == 1 {
-        if m <= MANY_EVENT_WORDS {
-            return read_many_events(words, by, payload, events, texts, area);
-        }
+    if m <= MANY_EVENT_WORDS {
+        return read_events_in::<MANY_EVENT_WORDS>(words, by, payload, events, texts, area);
     }
-    if rung == 2 {
-        if m <= SOME_EVENT_WORDS {
-            return read_some_events(words, by, payload, events, texts, area);
-        }
-    }
-    read_events_by_rungs(rung - 1, words, by, payload, events, texts, area)
+    read_events_in::<MOST_EVENT_WORDS>(words, by, payload, events, texts, area)
 }
 
 // Reads with room for few events; and again, with room for all, where it does not suffice.
@@ -186,10 +160,10 @@ fn read_few_first(words: Words, by: Asked, payload: In, events: Out, texts: Out,
 {
     let mut room = [0u32; FEW_EVENT_WORDS];
     let number = try_room(words, by, payload, &mut room, events, texts, area);
-    if number != refusal::EVENT_ROOM {
+    if number != Refusal::EventRoom.number() {
         return number;
     }
-    read_events_by_rungs(FIRST_RUNG, words, by, payload, events, texts, area)
+    read_events(words, by, payload, events, texts, area)
 }
 
 // Reads with the least room, and again where it does not suffice.
@@ -199,7 +173,7 @@ fn read_least_first(words: Words, by: Asked, payload: In, events: Out, texts: Ou
 {
     let mut room = [0u32; LEAST_EVENT_WORDS];
     let number = try_room(words, by, payload, &mut room, events, texts, area);
-    if number != refusal::EVENT_ROOM {
+    if number != Refusal::EventRoom.number() {
         return number;
     }
     read_few_first(words, by, payload, events, texts, area)
@@ -227,7 +201,7 @@ fn read_with_event_room(
     if payload.len() <= SMALL_PAYLOAD {
         return read_few_first(words, by, payload, events, texts, area);
     }
-    read_events_by_rungs(FIRST_RUNG, words, by, payload, events, texts, area)
+    read_events(words, by, payload, events, texts, area)
 }
 
 // Reads by a table's bytes, in room lent for its words.
@@ -248,39 +222,9 @@ fn read_with_table_room(
     read_with_event_room(&room[..n], by, payload, events, texts, area)
 }
 
-// Reads by a table's bytes, in room for some words of it.
+// Reads by a table's bytes, in room for N words of it.
 #[inline(never)]
-fn read_in_some(table: In, by: Asked, payload: In, events: Out, texts: Out, area: Out) -> u32
-    requires { Fits 4 table area some_words }
-    ensures { ReadByBytes table by payload events texts area result }
-{
-    let mut room = [0u32; SOME_WORDS];
-    read_with_table_room(table, &mut room, by, payload, events, texts, area)
-}
-
-// The same in room for as many words as a table of form 1 can have.
-#[inline(never)]
-fn read_in_form_1(table: In, by: Asked, payload: In, events: Out, texts: Out, area: Out) -> u32
-    requires { Fits 4 table area form1_words }
-    ensures { ReadByBytes table by payload events texts area result }
-{
-    let mut room = [0u32; FORM_1_WORDS];
-    read_with_table_room(table, &mut room, by, payload, events, texts, area)
-}
-
-// The same in room for every word that a table can have.
-#[inline(never)]
-fn read_in_all(table: In, by: Asked, payload: In, events: Out, texts: Out, area: Out) -> u32
-    requires { Fits 4 table area most_table_words }
-    ensures { ReadByBytes table by payload events texts area result }
-{
-    let mut room = [0u32; limit::MOST_TABLE_WORDS];
-    read_with_table_room(table, &mut room, by, payload, events, texts, area)
-}
-
-// Reads by a table's bytes, on this rung if its words fit there, or on a later one.
-fn read_by_rungs(
-    rung: u32,
+fn read_in<const N: usize>(
     table: In,
     by: Asked,
     payload: In,
@@ -288,27 +232,15 @@ fn read_by_rungs(
     texts: Out,
     area: Out,
 ) -> u32
-    requires { Fits 4 table area most_table_words }
+    requires lent { Fits 4 table area N }
+    requires few { N ≤ most_table_words }
     ensures { ReadByBytes table by payload events texts area result }
 {
-    let n = table.len() / 4;
-    if rung == 0 {
-        return read_in_all(table, by, payload, events, texts, area);
-    }
-    if rung == 1 {
-        if n <= FORM_1_WORDS {
-            return read_in_form_1(table, by, payload, events, texts, area);
-        }
-    }
-    if rung == 2 {
-        if n <= SOME_WORDS {
-            return read_in_some(table, by, payload, events, texts, area);
-        }
-    }
-    read_by_rungs(rung - 1, table, by, payload, events, texts, area)
+    let mut room = [0u32; N];
+    read_with_table_room(table, &mut room, by, payload, events, texts, area)
 }
 
-// Reads by a table's bytes, in room for few words of it, or on the rung that fits.
+// Reads by a table's bytes, in room for few words of it, or on the least rung that has room.
 fn read_whole(table: In, by: Asked, payload: In, events: Out, texts: Out, area: Out) -> u32
     requires { Fits 4 table area most_table_words }
     ensures { ReadByBytes table by payload events texts area result }
@@ -322,7 +254,13 @@ fn read_whole(table: In, by: Asked, payload: In, events: Out, texts: Out, area: 
         let mut few = [0u32; FEW_WORDS];
         return read_with_table_room(table, &mut few, by, payload, events, texts, area);
     }
-    read_by_rungs(FIRST_RUNG, table, by, payload, events, texts, area)
+    if n <= SOME_WORDS {
+        return read_in::<SOME_WORDS>(table, by, payload, events, texts, area);
+    }
+    if n <= FORM_1_WORDS {
+        return read_in::<FORM_1_WORDS>(table, by, payload, events, texts, area);
+    }
+    read_in::<MOST_TABLE_WORDS>(table, by, payload, events, texts, area)
 }
 
 // Reads by a table's bytes, and refuses those of which there are too many, or no whole words.

@@ -2,6 +2,7 @@
 ghost use Rattle.std.specs.Prelude.{◌≡◌, length};
 ghost use Rattle.numbers.specs.Limit.{most_table_words};
 ghost use Rattle.report.specs.Places.{report_bytes};
+ghost use Rattle.reader.specs.Answers.{answer_is};
 ghost use Rattle.call_parts.specs.TableRoom.{Lends};
 ghost use Rattle.reads.specs.Reports.{AddedBytes, ReadInWords};
 
@@ -9,15 +10,9 @@ use buffers::load;
 use call_parts::asked::{Asked, In, Out, Room};
 use call_parts::rooms::{FEW_WORDS, SOME_WORDS};
 use call_parts::tables::words_lent;
-use numbers::limit;
-use reader::{Answer, read};
+use numbers::{limit, refusal};
+use reader::{Reading, Refused, read};
 use report::add;
-
-fn long(x: u32) -> u64
-    ensures { result ≡ x }
-{
-    x as u64
-}
 
 // Reads into words by a table's bytes: the n words of it that are looked at, in room lent for them.
 fn read_in_room(
@@ -28,7 +23,7 @@ fn read_in_room(
     payload: In,
     list: Room,
     texts: Out,
-) -> Answer
+) -> Result<Reading, Refused>
     requires { Lends n (length table.now) (length room.old) }
     ensures { ReadInWords table n by payload list texts result }
 {
@@ -37,7 +32,14 @@ fn read_in_room(
 }
 
 // The same in room for few words of the table, for some, for all.
-fn read_words(table: In, n: usize, by: Asked, payload: In, list: Room, texts: Out) -> Answer
+fn read_words(
+    table: In,
+    n: usize,
+    by: Asked,
+    payload: In,
+    list: Room,
+    texts: Out,
+) -> Result<Reading, Refused>
     requires { Lends n (length table.now) most_table_words }
     ensures { ReadInWords table n by payload list texts result }
 {
@@ -53,6 +55,16 @@ fn read_words(table: In, n: usize, by: Asked, payload: In, list: Room, texts: Ou
     read_in_room(table, n, &mut all, by, payload, list, texts)
 }
 
+// What a reading adds: its number, the bits used, how many events.
+fn counted(a: Result<Reading, Refused>) -> (u32, u32, u32)
+    ensures { result ≡ ((answer_is a).number, (answer_is a).bits, (answer_is a).events) }
+{
+    match a {
+        Ok(r) => (refusal::ACCEPTED, r.bits.0, r.events),
+        Err(r) => (r.fault.why.number(), 0, 0),
+    }
+}
+
 // Reads by a table's bytes, with room for every event that has a place, and adds what was read. The table's words and the reader's frames have
 // ended where the report's begin, so that the stack holds the one or the other.
 pub fn add_bytes(table: In, by: Asked, payload: In, report: Out) -> u32
@@ -63,11 +75,15 @@ pub fn add_bytes(table: In, by: Asked, payload: In, report: Out) -> u32
     let mut texts = [0u8; limit::MOST_PAYLOAD];
     let n = words_lent(table.len());
     let a = read_words(table, n, by, payload, &mut list, &mut texts);
-    let number = a.number;
-    let used = a.bits.0;
-    let bits = long(used);
-    let bytes = payload.len() as u64;
-    let count = a.events as usize;
-    add(report, number, bytes, bits, &list, count);
+    let (number, used, count) = counted(a);
+    let bits = u64::from(used);
+    add(
+        report,
+        number,
+        payload.len() as u64,
+        bits,
+        &list,
+        count as usize,
+    );
     number
 }

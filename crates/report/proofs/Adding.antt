@@ -1,8 +1,9 @@
 -- The ways through what adds: the bytes that a report is left with.
-use Prim.Native.Nat.{ℕ, zero, suc, ◌+◌, ◌-◌, ◌*◌, ◌≤◌, ◌<◌}
+use Prim.Native.Nat.{ℕ, zero, suc, ◌+◌, ◌*◌, ◌≤◌, ◌<◌}
 use mathlib.Core.Path.{◌≡◌, refl, sym, ap, ◌∙◌}
 use mathlib.Core.Bool.{Bool, true, false, cond}
 use mathlib.Core.List.{List, []}
+use Rattle.std.specs.Prelude.{Option, Some, None}
 use native.Mathlib.Omega.{arith}
 use borrow.Author.Tests.{lt-ltb, le-ltb, eq-eqb, ne_eqb}
 use lib.ListN.{length, get_or, set, drop}
@@ -11,36 +12,9 @@ use Rattle.model.specs.Model.{Event}
 use Rattle.report.specs.Eights.{eight, numbers_of, bytes_of}
 use Rattle.report.specs.Places.{numbers, report_bytes, limit, answered, answers}
 use Rattle.report.specs.Report.{at, plus, accepts, refuses, sums, fits, settled, adds}
-use Rattle.report.specs.Sums.{within, passed, and_then, put, counts_in, accepts_in, numbers_in, sum_of, events_in, Octets}
+use Rattle.report.specs.Sums.{within, passed, accepts_in, numbers_in, sum_of, events_in, Octets}
 use Rattle.report.proofs.EightLaws.{put_back, whole_back, numbers-length}
 use Rattle.report.proofs.Passing.{settle, Fits, fits-true, fits-false, fits-set, Names, accepts-settle}
-
--- the sums of an accepted payload, one after the other
-module _ (R : List ℕ) (bytes bits : ℕ) (L : List Event) (a : Bool) (s₁ : List ℕ) (one : sum_of a s₁ ≡ put 1 (8 * bytes) R) where
-  pub accept-1 : (s : List ℕ) → a ≡ false → sum_of false s ≡ accepts_in bytes bits L R
-  unfolding accepts_in and_then
-  accept-1 s e = rw (← one, e)
-
-  module _ (go₁ : a ≡ true) (b : Bool) (s₂ : List ℕ) (two : sum_of b s₂ ≡ put 2 8 (numbers_in s₁)) where
-    pub accept-2 : (s : List ℕ) → b ≡ false → sum_of false s ≡ accepts_in bytes bits L R
-    unfolding accepts_in and_then
-    accept-2 s e = rw (← one, go₁, ← two, e)
-
-    module _ (go₂ : b ≡ true) (c : Bool) (s₃ : List ℕ) (three : sum_of c s₃ ≡ put 3 (8 * bytes - bits) (numbers_in s₂)) where
-      pub accept-3 : (s : List ℕ) → c ≡ false → sum_of false s ≡ accepts_in bytes bits L R
-      unfolding accepts_in and_then
-      accept-3 s e = rw (← one, go₁, ← two, go₂, ← three, e)
-
-      module _ (go₃ : c ≡ true) (d : Bool) (s₄ : List ℕ) (four : sum_of d s₄ ≡ put 4 1 (numbers_in s₃)) where
-        pub accept-4 : (s : List ℕ) → d ≡ false → sum_of false s ≡ accepts_in bytes bits L R
-        unfolding accepts_in and_then
-        accept-4 s e = rw (← one, go₁, ← two, go₂, ← three, go₃, ← four, e)
-
-        pub accept-5 : (r : Bool) (s : List ℕ) → d ≡ true → sum_of r s ≡ counts_in L [] (numbers_in s₄) → sum_of r s ≡ accepts_in bytes bits L R
-        unfolding accepts_in and_then
-        accept-5 r s e f = rw (← one, go₁, ← two, go₂, ← three, go₃, ← four, e) f
-
-pub ruleset accept-ways = (accept-1, accept-2, accept-3, accept-4, accept-5)
 
 -- numbers of 8 bytes fit
 pub numbers_fit : (n : ℕ) (s : List ℕ) → Octets s → Fits (numbers_of n s)
@@ -81,16 +55,16 @@ names-fit w h i (suc n) = (h (4 * i + 1), names-fit w h (i + 1) n)
 
 module _ (s : List ℕ) (size : length s ≡ report_bytes) (octets : Octets s) (goes : at (numbers_in s) 0 ≡ 0) where
   -- an accepted payload: u is what the sums left
-  module _ (bytes bits : ℕ) (L : List Event) (fit : Names L) (u : List ℕ) (ok : Bool) (sum : sum_of ok u ≡ accepts_in bytes bits L (numbers_in s)) where
+  module _ (bytes bits : ℕ) (L : List Event) (fit : Names L) (u : List ℕ) (ok : Option (Unit {0})) (sum : sum_of ok u ≡ accepts_in bytes bits L (numbers_in s)) where
     same : sum_of ok u ≡ settle (accepts bytes bits L (numbers_in s))
     same = sum ∙ accepts-settle bytes bits L (numbers_in s) fit (numbers_fit numbers s octets) (numbers-length numbers s)
 
-    pub accepted-goes : ok ≡ true → length u ≡ report_bytes → Octets u → u ≡ bytes_of (adds 0 bytes bits L (numbers_in s))
+    pub accepted-goes : (x : Unit {0}) → ok ≡ Some x → length u ≡ report_bytes → Octets u → u ≡ bytes_of (adds 0 bytes bits L (numbers_in s))
     unfolding sums
-    accepted-goes e n k =
+    accepted-goes x e n k =
         whole_back u n k ∙ ap bytes_of (sym (going 0 bytes bits L (numbers_in s) goes ∙ settled-sum (numbers_in s) (numbers_in u) (accepts bytes bits L (numbers_in s)) (rw e at same)))
 
-    pub accepted-stops : (t b r : List ℕ) → ok ≡ false → t ≡ s → b ≡ t → r ≡ sets b (8 * 0) (eight 1) → r ≡ bytes_of (adds 0 bytes bits L (numbers_in s))
+    pub accepted-stops : (t b r : List ℕ) → ok ≡ None → t ≡ s → b ≡ t → r ≡ sets b (8 * 0) (eight 1) → r ≡ bytes_of (adds 0 bytes bits L (numbers_in s))
     unfolding sums
     accepted-stops t b r e copied restored f =
         put_back s r 0 1 size (omega arith) (omega arith) octets (f ∙ ap (λ (x : List ℕ). sets x (8 * 0) (eight 1)) (restored ∙ copied))
@@ -109,7 +83,7 @@ module _ (s : List ℕ) (size : length s ≡ report_bytes) (octets : Octets s) (
         go zero a b = absurd (omega arith)
         go (suc k) a b = rw (lt-ltb (suc k) answers b)
 
-    pub refused-stops : (was : ℕ) (r : List ℕ) → answer < answers → was ≡ at (numbers_in s) (answered + answer) → was ≡ 18446744073709551615 → r ≡ sets s (8 * 0) (eight 1)
+    pub refused-stops : (was : ℕ) (r : List ℕ) → answer < answers → was ≡ at (numbers_in s) (answered + answer) → limit ≤ was + 1 → r ≡ sets s (8 * 0) (eight 1)
         → r ≡ bytes_of (adds answer bytes bits L (numbers_in s))
     unfolding R settled
     refused-stops was r h e m f =
@@ -118,11 +92,11 @@ module _ (s : List ℕ) (size : length s ≡ report_bytes) (octets : Octets s) (
         put_back s r 0 1 size (omega arith) (omega arith) octets f
         ∙ ap bytes_of (sym (placed h ∙ rw (fits-false (plus (answered + answer) 1 R) (answered + answer) (omega arith))))
 
-    pub refused-counts : (was : ℕ) (r : List ℕ) → answer < answers → was ≡ at (numbers_in s) (answered + answer) → was < limit → (was ≡ 18446744073709551615 → ⊥) → r ≡ sets s (8 * (answered + answer)) (eight (was + 1))
+    pub refused-counts : (was sum : ℕ) (r : List ℕ) → answer < answers → was ≡ at (numbers_in s) (answered + answer) → was + 1 < limit → sum ≡ was + 1 → r ≡ sets s (8 * (answered + answer)) (eight sum)
         → r ≡ bytes_of (adds answer bytes bits L (numbers_in s))
     unfolding R settled
-    refused-counts was r h e l m f =
-        put_back s r (answered + answer) (was + 1) size (omega arith) (omega arith) octets f
+    refused-counts was sum r h e m g f =
+        put_back s r (answered + answer) (was + 1) size (omega arith) (omega arith) octets (f ∙ ap (λ (x : ℕ). sets s (8 * (answered + answer)) (eight x)) g)
         ∙ ap bytes_of (ap (λ (x : ℕ). set R (answered + answer) (x + 1)) e ∙ sym (placed h ∙ rw (fits-true (plus (answered + answer) 1 R) (fits-set R (answered + answer) (at R (answered + answer) + 1) (numbers_fit numbers s octets) (omega arith)))))
 
     pub refused-nowhere : answers ≤ answer → s ≡ bytes_of (adds answer bytes bits L (numbers_in s))
@@ -134,9 +108,6 @@ module _ (s : List ℕ) (size : length s ≡ report_bytes) (octets : Octets s) (
         go (suc k) a b = rw (le-ltb (suc k) answers b, fits-true R (numbers_fit numbers s octets))
 
 -- the ways of the whole
-pub goes-way : (R : List ℕ) (was : ℕ) → was ≡ at R 0 → was ≡ 0 → at R 0 ≡ 0
-goes-way R was e z = sym e ∙ z
-
 pub whole-accepted : (answer bytes bits : ℕ) (L : List Event) (R r : List ℕ) → answer ≡ 0 → r ≡ bytes_of (adds 0 bytes bits L R) → r ≡ bytes_of (adds answer bytes bits L R)
 whole-accepted answer bytes bits L R r e f = rw e f
 

@@ -1,14 +1,14 @@
 -- Laws of numbers of 8 bytes: the number at an index, a number stored, and that bytes and numbers undo each other.
-use Prim.Native.Nat.{ℕ, zero, suc, ◌+◌, ◌*◌, ◌/◌, ◌%◌, ◌≤◌, ◌<◌}
+use Prim.Native.Nat.{ℕ, zero, suc, ◌+◌, ◌-◌, ◌*◌, ◌/◌, ◌%◌, ◌≤◌, ◌<◌}
 use mathlib.Core.Path.{◌≡◌, refl, sym, ap, ◌∙◌}
 use mathlib.Core.List.{List, [], ◌∷◌, ◌++◌}
 use native.Mathlib.Omega.{arith}
-use mathlib.Core.Bool.{Bool, true, false}
-use native.Mathlib.Numerals.{add-one}
-use borrow.Author.Tests.{ltb-true, ltb-false}
-use lib.Dec.{ltb}
-use lib.ListN.{length, get_or, set, take, drop, get_or-eq_default}
-use lib.Seq.{take-suc, take-suc-set, take_all, sets, get_or-drop, length-sets}
+use lib.ListN.{length, get_or, set, take, drop}
+use lib.Seq.{sets, sets-eq, get_or-drop, length-sets}
+use borrow.Rule.Slice.PartMut.{put_mid, post_of, Post-is}
+use Rattle.std.specs.Int.{to_be_bytes}
+use Rattle.std.proofs.lemmas.Nat.{be_bytes_8}
+use Rattle.std.proofs.Common.{w64, append_assoc}
 use Rattle.buffers.specs.Bytes.{word_from, spelled}
 use Rattle.report.specs.Eights.{number, number_from, eight, numbers_of, bytes_of}
 use Rattle.report.specs.Places.{numbers, report_bytes, limit}
@@ -133,29 +133,28 @@ put_back s s' i v n h l k e =
 pub whole_back : (s : List ℕ) → length s ≡ report_bytes → Octets s → s ≡ bytes_of (numbers_of numbers s)
 whole_back s n k = sym (bytes_back numbers s (n ∙ omega arith) k)
 
--- one more byte copied; all of them
-pub copied_more : (to from : List ℕ) (i : ℕ) → i < length to → i < length from → take i to ≡ take i from → take (i + 1) (set to i (get_or from i 0)) ≡ take (i + 1) from
-copied_more to from i h k e =
-    ap (λ (j : ℕ). take j (set to i (get_or from i 0))) (add-one i) ∙ take-suc-set to i (get_or from i 0) h
-    ∙ ap (λ (x : List ℕ). x ++ (get_or from i 0 ∷ [])) e ∙ sym (take-suc from i 0 k) ∙ ap (λ (j : ℕ). take j from) (sym (add-one i))
-
-pub copied_all : (to from : List ℕ) (i : ℕ) → length to ≤ i → length from ≤ i → take i to ≡ take i from → to ≡ from
-copied_all to from i h k e = sym (take_all i to h) ∙ e ∙ take_all i from k
-
--- what is stored at an index
+-- a number stored
 pub put-way : (s s' : List ℕ) (i v : ℕ) → length s ≡ report_bytes → i < numbers → s' ≡ sets s (8 * i) (eight v) → numbers_of numbers s' ≡ set (numbers_of numbers s) i v
 put-way s s' i v n h e = ap (numbers_of numbers) e ∙ number-stored numbers s i v h (omega arith)
 
-pub octets-more : (s : List ℕ) (i : ℕ) → ((k : ℕ) → k < i → get_or s k 0 < 256) → get_or s i 0 < 256 → (k : ℕ) → k < i + 1 → get_or s k 0 < 256
-octets-more s i h g k l = go (ltb k i) refl
-  where
-    go : (u : Bool) → ltb k i ≡ u → get_or s k 0 < 256
-    go true e = h k (ltb-true k i e)
-    go false e = let f = ltb-false k i e in let z : k ≡ i = omega arith in rw z g
+-- the bytes of a number, written over a part
+eight-octet : (n : ℕ) → n < limit → (i : ℕ) → get_or (eight n) i 0 < 256
+eight-octet n h zero = omega arith
+eight-octet n h (suc zero) = omega arith
+eight-octet n h (suc (suc zero)) = omega arith
+eight-octet n h (suc (suc (suc zero))) = omega arith
+eight-octet n h (suc (suc (suc (suc zero)))) = omega arith
+eight-octet n h (suc (suc (suc (suc (suc zero))))) = omega arith
+eight-octet n h (suc (suc (suc (suc (suc (suc zero)))))) = omega arith
+eight-octet n h (suc (suc (suc (suc (suc (suc (suc zero))))))) = omega arith
+eight-octet n h (suc (suc (suc (suc (suc (suc (suc (suc i)))))))) = omega arith
 
-pub octets-all : (s : List ℕ) (i : ℕ) → length s ≤ i → ((k : ℕ) → k < i → get_or s k 0 < 256) → Octets s
-octets-all s i l h k = go (ltb k i) refl
-  where
-    go : (u : Bool) → ltb k i ≡ u → get_or s k 0 < 256
-    go true e = h k (ltb-true k i e)
-    go false e = let f = ltb-false k i e in let z = get_or-eq_default s 0 {n = k} (omega arith) in omega arith
+eight-is : (n : ℕ) → n < limit → to_be_bytes w64 n ≡ eight n
+eight-is n h = be_bytes_8 (eight n) n refl (eight-octet n h) (omega arith)
+
+pub eight-put : (s t : List ℕ) (p n : ℕ) → p + 7 < length s → n < limit → t ≡ to_be_bytes w64 n → put_mid p (p + 8 - p) s t ≡ sets s p (eight n)
+eight-put s t p n h l e =
+    ap (λ (x : List ℕ). take p s ++ (x ++ post_of p (p + 8 - p) s)) (e ∙ eight-is n l)
+    ∙ ap (λ (x : List ℕ). take p s ++ (eight n ++ x)) (Post-is p (p + 8) s (omega arith))
+    ∙ sym (append_assoc (take p s) (eight n) (drop (p + 8) s))
+    ∙ sym (sets-eq (eight n) s p (omega arith))

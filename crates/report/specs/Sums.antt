@@ -1,6 +1,8 @@
 -- What the functions promise: the sums of Report number by number, up to the first that would pass. proofs/Passing shows that they are the same.
-use Rattle.std.specs.Prelude.{ℕ, zero, suc, ◌+◌, ◌-◌, ◌*◌, ◌%◌, ◌<◌, ◌≤◌, ◌≡◌, Bool, true, false, cond, List, [], ◌∷◌, ltb, get_or}
+use Rattle.std.specs.Prelude.{ℕ, zero, suc, ◌+◌, ◌-◌, ◌*◌, ◌%◌, ◌<◌, ◌≤◌, ◌≡◌, cond, List, [], ◌∷◌, ltb, get_or, Option, Some, None}
 use Rattle.model.specs.Model.{Event, event}
+use Rattle.report.specs.declared.counting.Sort.{Sort as Sorts}
+use Rattle.report.specs.declared.counting.Sort.TheVariants as code
 use Rattle.report.specs.Eights.{numbers_of}
 use Rattle.report.specs.Places.{numbers, limit, total_bits, mode_bits, padding_bits, answered, other, seen}
 use Rattle.report.specs.Report.{Sort, at, plus, named, sort_of, line_for, bits_to, open_after}
@@ -17,6 +19,13 @@ and_then passed k = passed
 
 unfoldable pub put : ℕ → ℕ → List ℕ → Sum
 put i n R = cond (ltb (at R i + n) limit) (within (plus i n R)) passed
+
+-- what an event does, as the code has it
+unfoldable pub sort_is : Sorts → Sort
+sort_is code.Begins = begins
+sort_is code.Blank = blank
+sort_is code.Ends = ends
+sort_is code.Inside = inside
 
 unfoldable pub met_in : Sort → (name i : ℕ) → List ℕ → Sum
 met_in begins name i R = put (seen i) 1 (named i name R)
@@ -43,9 +52,9 @@ accepts_in bytes bits L R =
 abbrev pub numbers_in : List ℕ → List ℕ
 numbers_in s = numbers_of numbers s
 
-abbrev pub sum_of : Bool → List ℕ → Sum
-sum_of true s = within (numbers_in s)
-sum_of false s = passed
+abbrev pub sum_of : Option (Unit {0}) → List ℕ → Sum
+sum_of (Some u) s = within (numbers_in s)
+sum_of None s = passed
 
 -- each byte is one
 abbrev pub Octets : List ℕ → Type 0

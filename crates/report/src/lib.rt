@@ -6,7 +6,7 @@ mod eights; // eights.rt: numbers of eight bytes
 mod lines; // lines.rt: a name's line, and sums
 mod places; // places.rt: where each number stands
 
-ghost use Rattle.std.specs.Prelude.{◌≡◌, [], ◌*◌, ◌<◌, ◌≤◌, length};
+ghost use Rattle.std.specs.Prelude.{◌≡◌, [], ◌*◌, ◌/◌, ◌<◌, ◌≤◌, length};
 ghost use Rattle.numbers.specs.Limit.{most_events, most_payload};
 ghost use Rattle.report.specs.Eights.{bytes_of};
 ghost use Rattle.report.specs.Places.{report_bytes};
@@ -14,59 +14,43 @@ ghost use Rattle.report.specs.Report.{at, adds};
 ghost use Rattle.report.specs.Sums.{sum_of, numbers_in, events_in, accepts_in};
 
 use counting::count_events;
-use eights::{copy, number, put_number};
+use eights::{number, put_number};
 use lines::plus;
 use numbers::{limit, refusal};
 
-// What an accepted payload of so many bytes adds, of which it used so many bits.
-fn accept(s: &mut [u8], bytes: u64, bits: u64, words: &[u32], count: usize) -> bool
+// What an accepted payload of so many bytes adds, of which it used so many bits; nothing where a number would pass.
+#[tactic(auto, unfolding(crate::specs::Sums::accepts_in, crate::specs::Sums::and_then))]
+fn accept(s: &mut [u8], bytes: u64, bits: u64, words: &[u32]) -> Option<()>
     requires size { length s.old ≡ report_bytes }
-    requires whole { 4 * count ≤ length words.now }
-    requires few { count ≤ most_events }
+    requires few { length words.now / 4 ≤ most_events }
     requires used { bits ≤ 8 * bytes }
     requires most { bytes ≤ most_payload }
     ensures { sum_of result s.new
-        ≡ accepts_in bytes bits (events_in words.now 0 count) (numbers_in s.old) }
+        ≡ accepts_in bytes bits (events_in words.now 0 (length words.now / 4)) (numbers_in s.old) }
 {
-    let total = 8 * bytes;
-    let a = plus(s, places::TOTAL_BITS, total);
-    if a {
-        let b = plus(s, places::MODE_BITS, 8);
-        if b {
-            let c = plus(s, places::PADDING_BITS, total - bits);
-            if c {
-                let d = plus(s, places::ANSWERED, 1);
-                if d {
-                    return count_events(s, words, count);
-                }
-                return false;
-            }
-            return false;
-        }
-        return false;
-    }
-    false
+    plus(s, places::TOTAL_BITS, 8 * bytes)?;
+    plus(s, places::MODE_BITS, 8)?;
+    plus(s, places::PADDING_BITS, 8 * bytes - bits)?;
+    plus(s, places::ANSWERED, 1)?;
+    count_events(s, words)
 }
 
 // A payload that was accepted. Where a number passes, the report is again as it was, and has stopped.
-fn add_accepted(report: &mut [u8], bytes: u64, bits: u64, words: &[u32], count: usize)
+fn add_accepted(report: &mut [u8], bytes: u64, bits: u64, words: &[u32])
     requires size { length report.old ≡ report_bytes }
-    requires whole { 4 * count ≤ length words.now }
-    requires few { count ≤ most_events }
+    requires few { length words.now / 4 ≤ most_events }
     requires used { bits ≤ 8 * bytes }
     requires most { bytes ≤ most_payload }
     requires goes { at (numbers_in report.old) 0 ≡ 0 }
     ensures { report.new
-        ≡ bytes_of (adds 0 bytes bits (events_in words.now 0 count) (numbers_in report.old)) }
+        ≡ bytes_of (adds 0 bytes bits (events_in words.now 0 (length words.now / 4)) (numbers_in report.old)) }
 {
     let mut was = [0u8; limit::REPORT];
-    copy(report, &mut was);
-    let ok = accept(report, bytes, bits, words, count);
-    if ok {
-        return;
+    was.copy_from_slice(report);
+    if accept(report, bytes, bits, words).is_none() {
+        report.copy_from_slice(&was);
+        put_number(report, places::STOPPED, 1);
     }
-    copy(&was, report);
-    put_number(report, places::STOPPED, 1);
 }
 
 // A payload that was refused.
@@ -78,13 +62,10 @@ fn add_refused(report: &mut [u8], answer: u32)
 {
     if answer < places::ANSWERS {
         let i = places::ANSWERED + (answer as usize);
-        let was = number(report, i);
-        if was == places::MOST {
-            put_number(report, places::STOPPED, 1);
-            return;
+        match number(report, i).checked_add(1) {
+            None => put_number(report, places::STOPPED, 1),
+            Some(sum) => put_number(report, i, sum),
         }
-        let sum = was + 1;
-        put_number(report, i, sum);
     }
 }
 
@@ -99,12 +80,12 @@ pub fn add(report: &mut [u8], answer: u32, bytes: u64, bits: u64, words: &[u32],
     ensures { report.new
         ≡ bytes_of (adds answer bytes bits (events_in words.now 0 count) (numbers_in report.old)) }
 {
-    let stopped = number(report, places::STOPPED);
-    if stopped == 0 {
-        if answer == refusal::ACCEPTED {
-            add_accepted(report, bytes, bits, words, count);
-            return;
-        }
+    if number(report, places::STOPPED) != 0 {
+        return;
+    }
+    if answer == refusal::ACCEPTED {
+        add_accepted(report, bytes, bits, &words[..4 * count]);
+    } else {
         add_refused(report, answer);
     }
 }

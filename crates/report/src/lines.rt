@@ -10,17 +10,14 @@ use crate::places;
 use numbers::limit;
 
 // Adds to a number, unless it would pass.
-pub fn plus(s: &mut [u8], i: usize, n: u64) -> bool
+#[tactic(auto, unfolding(crate::specs::Sums::put))]
+pub fn plus(s: &mut [u8], i: usize, n: u64) -> Option<()>
     requires { (length s.old ≡ report_bytes) × (i < numbers) }
     ensures { sum_of result s.new ≡ put i n (numbers_in s.old) }
 {
-    let was = number(s, i);
-    if places::MOST - was < n {
-        return false;
-    }
-    let sum = was + n;
+    let sum = number(s, i).checked_add(n)?;
     put_number(s, i, sum);
-    true
+    Some(())
 }
 
 // The line of a name: the first that is free or has it, else the line of all others.
@@ -28,31 +25,23 @@ pub fn line_of(s: &[u8], name: u64) -> usize
     requires { length s.now ≡ report_bytes }
     ensures { (result ≡ line_of (numbers_in s.now) name) × Line result }
 {
-    let mut left = limit::REPORT_LINES;
-    let mut i = places::FIRST_LINE;
-    while 0 < left {
-        let times = number(s, i + 1);
-        if times == 0 {
+    for k in 0..limit::REPORT_LINES {
+        let i = places::FIRST_LINE + places::LINE * k;
+        if number(s, i + 1) == 0 || number(s, i) == name {
             return i;
         }
-        let is = number(s, i);
-        if is == name {
-            return i;
-        }
-        i += places::LINE;
-        left -= 1;
     }
     places::OTHER
 }
 
 // A line found for a name has it, and has been seen once more.
-pub fn meet(s: &mut [u8], i: usize, name: u64) -> bool
+#[tactic(auto, unfolding(crate::specs::Report::named))]
+pub fn meet(s: &mut [u8], i: usize, name: u64) -> Option<()>
     requires { (length s.old ≡ report_bytes) × Line i }
     ensures { sum_of result s.new ≡ put (place.seen i) 1 (named i name (numbers_in s.old)) }
 {
-    if i == places::OTHER {
-        return plus(s, i + 1, 1);
+    if i != places::OTHER {
+        put_number(s, i, name);
     }
-    put_number(s, i, name);
     plus(s, i + 1, 1)
 }

@@ -16,5 +16,3 @@ pub const OTHER: usize = 68;
 pub const FIRST_LINE: usize = 72;
 // The numbers of a line: name, seen, own bits, blanked bits.
 pub const LINE: usize = 4;
-// The greatest number.
-pub const MOST: u64 = 18446744073709551615;

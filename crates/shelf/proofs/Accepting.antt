@@ -1,9 +1,7 @@
 -- The reader accepts a file exactly where no block of it is bad and its first number, if it has one, is 0.
 use Rattle.std.proofs.Common.{◌≡◌, ℕ, zero, suc, ◌+◌, ◌-◌, ◌%◌, ◌≤◌, Bool, true, false, cond, eqb, List, [], ◌∷◌, ◌++◌, length, sym, refl, ap, ◌∙◌, inl, inr, ⊎_elim, arith, le-ltb, lt-ltb, eq-eqb, eqb-true}
 use borrow.Author.Tests.{eqb-false}
-use Rattle.shelf.specs.declared.answers.Stepped.{Stepped}
-use Rattle.shelf.specs.declared.answers.Stepped.TheVariants.{Off, On}
-use Rattle.shelf.specs.declared.answers.Scan.TheVariants.{Whole}
+use Rattle.shelf.specs.Answers.{Stepped, Off, On, Whole}
 use Rattle.shelf.specs.Stream.{walk, first_from}
 use Rattle.shelf.specs.Block.{bytes_from}
 use Rattle.shelf.specs.Judge.{byte_of, blocks, number_at, first_at, end_at, some_used, rest_zero, first_inside, zero_first, alone, reason, walked, in_step}
@@ -156,7 +154,7 @@ accepts-so : (f : List ℕ) (room : ℕ) → length f ≤ room → BeginsAt0 f �
 unfolding shelf_read read_scanned scan
 accepts-so f room h z e =
     let s = scans-whole f z e in
-    let n : s.bytes ≤ room = omega (arith, scan-within f refl s.whole) in
+    let n : s.bytes ≤ room = omega (arith, scan-within f s.whole) in
     record {
       records = s.records;
       bytes = s.bytes;

@@ -4,8 +4,7 @@ use lib.ListN.{get_or-eq_default}
 use lib.Seq.{sets, sets-eq}
 use borrow.Rule.Slice.PartMut.{put_mid, mid_of, put_same, mid_len}
 use Rattle.buffers.specs.Bytes.{four, word_from, half_from}
-use Rattle.shelf.specs.declared.answers.Walk.{Walk}
-use Rattle.shelf.specs.declared.answers.Walk.TheVariants.{To}
+use Rattle.shelf.specs.Answers.{Walk, To}
 use Rattle.shelf.specs.Stream.{byte_at, walk, first_from}
 use Rattle.shelf.specs.Block.{bytes_from, sum_to, head_of, block, used_in, name_after, first_in, block_in, cut, blocks_for}
 use Rattle.shelf.specs.Judge.{place_of, byte_of, blocks, used_at, first_at, end_at, some_used, rest_zero}

@@ -1,7 +1,7 @@
 -- The calls: an area of another size; the answer told.
 use Rattle.std.proofs.Common.{◌≡◌, ℕ, ◌*◌, ◌/◌, ◌%◌, min, List, [], ◌∷◌, ◌++◌, length, replicate, refl, ap, ◌∙◌, append-nil, arith, drop_of_length-le, eq-eqb, ne_eqb}
 use Rattle.buffers.specs.Bytes.{bytes_of, stored}
-use Rattle.shelf.specs.declared.answers.Answer.{Answer}
+use Rattle.shelf.specs.Answers.{Answer}
 use Rattle.shelf.specs.Shelf.{Outcome, Done, shelf_write, shelf_read}
 use Rattle.shelf.specs.Calls.{back, area_of, called, write_call, read_call}
 

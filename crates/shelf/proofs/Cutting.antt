@@ -1,7 +1,7 @@
 -- The blocks of a stream: how long they are, what they name, one more of them in its place.
 use Rattle.std.proofs.Common.{◌≡◌, ℕ, zero, suc, ◌+◌, ◌-◌, ◌*◌, ◌<◌, ◌≤◌, List, ◌++◌, length, take, drop, sym, refl, ap, ◌∙◌, ⊎_elim, append_assoc, add-one, arith, length-append, length-drop, drop-drop, take_at, drop_at, le-ltb, lt-ltb}
 use lib.ListN.{length-replicate}
-use borrow.Rule.Slice.PartMut.{put_mid, Post-is, mid_len, same_len_mid}
+use borrow.Rule.Slice.PartMut.{put_mid, Post-is}
 use Rattle.buffers.specs.Bytes.{four}
 use Rattle.shelf.specs.Stream.{next, named, first_from}
 use Rattle.shelf.specs.Block.{bytes_from, sum_to, body_of, block, used_in, first_in, block_in, cut}
@@ -42,11 +42,6 @@ first_small b lo hi p h = ⊎_elim (λ i. simp (lt-ltb p lo i) (named_small lo h
 pub cut-none : (b : ℕ → ℕ) (n : ℕ) (file₀ : List ℕ) → file₀ ≡ cut b n 0 ++ drop (512 * 0) file₀
 unfolding cut
 cut-none b n file₀ = refl
-
-pub cut-same : (b : ℕ → ℕ) (n i : ℕ) (file d : List ℕ) → 512 * i + 512 ≤ length file → d ≡ block_in b n i
-    → length (put_mid (512 * i) (512 * i + 512 - 512 * i) file d) ≡ length file
-cut-same b n i file d h e =
-    same_len_mid (512 * i) (512 * i + 512 - 512 * i) file d (omega (arith, ap length e, block-in-long b n i, mid_len (512 * i) (512 * i + 512) file h))
 
 pub cut-more : (b : ℕ → ℕ) (n i : ℕ) (file₀ file d : List ℕ) → 512 * i + 512 ≤ length file₀ → file ≡ cut b n i ++ drop (512 * i) file₀ → d ≡ block_in b n i
     → put_mid (512 * i) (512 * i + 512 - 512 * i) file d ≡ cut b n (i + 1) ++ drop (512 * (i + 1)) file₀

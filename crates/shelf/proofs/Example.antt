@@ -1,6 +1,6 @@
 -- Examples of the request's page, computed: a record of two bytes, its block, and it read back; streams that are refused.
 use Rattle.std.proofs.Common.{◌≡◌, ℕ, List, [], ◌∷◌, ◌++◌, set, replicate, refl}
-use Rattle.shelf.specs.declared.answers.Soundness.TheVariants.{Faulty}
+use Rattle.shelf.specs.Answers.{Faulty}
 use Rattle.shelf.specs.Stream.{byte_at, walk_by, walk, judged, fault, first_from}
 use Rattle.shelf.specs.Block.{bytes_from, sum_to, body_of, block, name_after, first_in, block_in, cut}
 use Rattle.shelf.specs.Judge.{zeros_from, some_used, rest_zero, first_inside, zero_first, alone, reason, closes, walked, in_step}

@@ -1,45 +1,28 @@
 -- Following the records from block to block: what a block names, and where the walk comes to.
 use Rattle.std.proofs.Common.{◌≡◌, ℕ, ◌+◌, ◌-◌, ◌*◌, ◌<◌, ◌≤◌, min, List, sym, refl, ap, ◌∙◌, ⊎_elim, arith, le-ltb, lt-ltb}
-use Rattle.shelf.specs.declared.answers.Walk.{Walk}
-use Rattle.shelf.specs.declared.answers.Walk.TheVariants.{Over, To}
-use Rattle.shelf.specs.Stream.{walk, first_from}
+use Rattle.std.specs.Prelude.{Result, Ok, Err}
+use Rattle.shelf.specs.declared.answers.Reached.{Reached}
+use Rattle.shelf.specs.Answers.{Walk, Over, To, walk_of}
+use Rattle.shelf.specs.Stream.{walk}
 use Rattle.shelf.specs.Block.{bytes_from, block, used_in, name_after, first_in, block_in, blocks_for}
 use Rattle.shelf.specs.Promises.{walk_on, Fewer, Followed}
 use Rattle.shelf.proofs.Sides.{less}
 use Rattle.shelf.proofs.Walks.{and_then, walk-stop, walked-so, reached, walk-longer}
-use Rattle.shelf.proofs.Cutting.{first_small}
-
-pub name-small : (b : ℕ → ℕ) (lo hi p : ℕ) {r : ℕ} → r ≡ first_from b lo hi p → hi ≤ lo + 498 → r < 65536
-name-small b lo hi p g h = rw g (first_small b lo hi p h)
 
 -- what a block names
-module _ (b : ℕ → ℕ) (lo hi : ℕ) {w : Walk} where
-  pub name-over : {p : ℕ} → w ≡ Over p → 65535 ≡ name_after b lo hi w
-  unfolding name_after
-  name-over e = rw e
-
-  pub name-to : {p c r : ℕ} → w ≡ To p c → r ≡ first_from b lo hi p → r ≡ name_after b lo hi w
-  unfolding name_after
-  name-to e g = rw e g
-
-  pub on-over : {p : ℕ} → w ≡ Over p → w ≡ walk_on b hi w
+module _ (b : ℕ → ℕ) (lo hi : ℕ) {w : Result Reached ℕ} where
+  pub on-over : {p : ℕ} → w ≡ Err p → Over p ≡ walk_on b hi (walk_of w)
   unfolding walk_on
   on-over e = rw e
 
-  pub on-to : {p c : ℕ} {r : Walk} → w ≡ To p c → r ≡ walk b hi p c → r ≡ walk_on b hi w
+  pub on-to : {x : Reached} {r : Walk} → w ≡ Ok x → r ≡ walk b hi x.place x.count → r ≡ walk_on b hi (walk_of w)
   unfolding walk_on
   on-to e g = rw e g
 
-pub followed-past : {w : Walk} {p c : ℕ} (i : ℕ) → Followed i w → w ≡ To p c → 498 * i ≤ p + 1
-followed-past {w} {p} {c} i g e = g.past p c e
+pub fewer-so : {w : Result Reached ℕ} {x : Reached} → Fewer (walk_of w) → w ≡ Ok x → x.count ≤ x.place
+fewer-so {w} {x} g e = g.most x.place x.count (ap walk_of e)
 
-pub followed-fewer : {w : Walk} (i : ℕ) → Followed i w → Fewer w
-followed-fewer i g = g.fewer
-
-pub fewer-so : {w : Walk} {p c : ℕ} → Fewer w → w ≡ To p c → c ≤ p
-fewer-so {w} {p} {c} g e = g.most p c e
-
-pub ruleset follow-ways = (name-over, name-to, on-over, on-to)
+pub ruleset follow-ways = (on-over, on-to)
 
 pub followed-on : (b : ℕ → ℕ) (n i used : ℕ) (w : Walk) {r : Walk} → used ≡ used_in n i → r ≡ walk_on b (498 * i + used) w → r ≡ walk_on b (498 * i + used_in n i) w
 followed-on b n i used w e g = g ∙ ap (λ (x : ℕ). walk_on b (498 * i + x) w) e

@@ -1,9 +1,7 @@
 -- The file cut from a stream, read: the stream's own verdict, block for block.
 use Rattle.std.proofs.Common.{◌≡◌, ℕ, zero, suc, ◌+◌, ◌-◌, ◌*◌, ◌/◌, ◌%◌, ◌<◌, ◌≤◌, Bool, true, false, cond, eqb, ltb, List, length, sym, refl, ap, ◌∙◌, ⊎_elim, arith, le-ltb, lt-ltb, eq-eqb, ne_eqb, le-leb}
 use borrow.Author.Tests.{lt-leb}
-use Rattle.shelf.specs.declared.answers.Walk.{Walk}
-use Rattle.shelf.specs.declared.answers.Walk.TheVariants.{Over, To}
-use Rattle.shelf.specs.declared.answers.Scan.TheVariants.{Refused, Whole}
+use Rattle.shelf.specs.Answers.{Walk, Over, To, Refused, Whole}
 use Rattle.shelf.specs.Stream.{next, walk, judged, fault, named, first_from}
 use Rattle.shelf.specs.Block.{bytes_from, sum_to, block, used_in, name_after, first_in, block_in, cut, blocks_for}
 use Rattle.shelf.specs.Judge.{byte_of, blocks, last, number_at, used_at, first_at, sum_at, end_at, some_used, first_inside, zero_first, alone, reason, closes, walked, in_step}

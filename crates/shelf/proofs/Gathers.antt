@@ -1,10 +1,10 @@
 -- Stretches one after another: what ends one, one block more, and what all of them come to.
 use Rattle.std.proofs.Common.{◌≡◌, ℕ, zero, suc, ◌+◌, ◌-◌, ◌*◌, ◌<◌, ◌≤◌, List, [], ◌∷◌, ◌++◌, length, sym, refl, ap, ◌∙◌, ⊎_elim, append_assoc, append-nil, arith, length-append, get_or-append-add, le-ltb, lt-ltb}
 use lib.ListN.{get_or-append}
-use Rattle.shelf.specs.declared.answers.Known.{Known}
-use Rattle.shelf.specs.declared.answers.Known.TheVariants.{Lost}
-use Rattle.shelf.specs.declared.answers.Judged.{Judged}
-use Rattle.shelf.specs.declared.answers.Judged.TheVariants.{Bad, Good}
+use Rattle.std.specs.Prelude.{Option, None, Result, Ok, Err}
+use Rattle.numbers.specs.Refused.{number_of}
+use Rattle.numbers.specs.declared.refusal.Refusal.{Refusal}
+use Rattle.shelf.specs.declared.answers.Trail.{Trail}
 use Rattle.shelf.specs.declared.answers.Kept.{Kept}
 use Rattle.shelf.specs.declared.answers.Listed.{Listed}
 use Rattle.shelf.specs.declared.answers.Tally.{Tally}
@@ -12,9 +12,8 @@ use Rattle.shelf.specs.declared.answers.Stand.{Stand}
 use Rattle.shelf.specs.Stream.{byte_at}
 use Rattle.shelf.specs.Block.{bytes_from}
 use Rattle.shelf.specs.Judge.{place_of, byte_of, blocks, number_at, end_at}
-use Rattle.shelf.specs.Salvage as salvage
-use Rattle.shelf.specs.Salvage.{Turn, Stretch, Entry, dropped_in, judge, onward, stretch, stretches_by, stretches, kept_of, count_of, good_entry, bad_entry, good_entries, entries_of}
-use Rattle.shelf.specs.Rescue.{known_of, judged_of, turn_at, laid, Listing, told, listing, Gathered, held, entries_in, good_in, gather_one, gathered, nothing, to_come, left_over, Goods, Ready, Keeps, Few, Within, Stands}
+use Rattle.shelf.specs.Salvage.{Turn, Known, lost, from, Judged, Stretch, Entry, dropped_in, judge, onward, stretch, stretches_by, stretches, kept_of, count_of, good_entry, bad_entry, good_entries, entries_of}
+use Rattle.shelf.specs.Rescue.{known_of, judged_of, turn_at, laid, Listing, told, listing, Gathered, held, entries_in, good_in, gather_one, gathered, nothing, to_come, left_over, Keeps, Few, Within, Stands}
 use Rattle.shelf.proofs.Sides.{less}
 use Rattle.shelf.proofs.Bytes.{bytes-long, byte-of}
 use Rattle.shelf.proofs.Takes.{lost-ready, is-good, good-ready, good-most}
@@ -22,12 +21,12 @@ use Rattle.shelf.proofs.Lays.{laid-long, laid-before, laid-there}
 use Rattle.shelf.proofs.Lists.{listing-append}
 
 -- A STRETCH ENDS
-stretch-is : (f : List ℕ) (first last reason : ℕ) (k : salvage.Known)
+stretch-is : (f : List ℕ) (first last reason : ℕ) (k : Known)
     → stretch f first last k reason
     ≡ record { first = first; last = last; start = (stretch f first last k 0).start; stop = (stretch f first last k 0).stop; count = (stretch f first last k 0).count; reason = reason }
 unfolding stretch
-stretch-is f first last reason salvage.Known.lost = refl
-stretch-is f first last reason (salvage.Known.from s p c) = refl
+stretch-is f first last reason lost = refl
+stretch-is f first last reason (from s p c) = refl
 
 good-same : (k : ℕ) (f : List ℕ) (s s' : Stretch) (i : ℕ) → s.start ≡ s'.start → s.stop ≡ s'.stop → good_entries k f s i ≡ good_entries k f s' i
 unfolding good_entries
@@ -40,19 +39,16 @@ good-same (suc k) f s s' i e g =
 abbrev put-together : (records stream : ℕ) → List ℕ → Listing → Gathered
 put-together records stream fresh l = record { records = records; stream = stream; fresh = fresh; listing = l }
 
-abbrev listed_in : Tally → Listed
-listed_in t = record { entries = t.entries; dropped = t.dropped }
-
 module _ (f : List ℕ) (first last reason : ℕ) (known : Known) (t : Tally) (fresh list : List ℕ) {kept : Kept} (k : Keeps f first last known kept) where
   pub ended : {good all : Listed} {fresh' list₁ list₂ : List ℕ} → fresh' ≡ laid fresh t.stream (byte_of f) kept.start (kept.stop - kept.start)
-      → told good list₁ ≡ listing (told (listed_in t) list) (good_in f first last kept.start kept.stop) → told all list₂ ≡ listing (told good list₁) (bad_entry last reason)
-      → held (record { records = t.records + kept.count; stream = t.stream + (kept.stop - kept.start); entries = all.entries; dropped = all.dropped }) fresh' list₂
-      ≡ gather_one f (held t fresh list) (stretch f first last (known_of known) reason)
+      → told good list₁ ≡ listing (told t.listed list) (good_in f first last kept.start kept.stop) → told all list₂ ≡ listing (told good list₁) (bad_entry last reason)
+      → held (record { records = t.records + kept.count; stream = t.stream + (kept.stop - kept.start); listed = all }) fresh' list₂
+      ≡ gather_one f (held t fresh list) (stretch f first last known reason)
   unfolding gather_one entries_in good_in
   ended {good} {all} {fresh'} {list₁} {list₂} e g h =
-      let S = stretch f first last (known_of known) 0 in
+      let S = stretch f first last known 0 in
       let T : Stretch = record { first = first; last = last; start = S.start; stop = S.stop; count = S.count; reason = reason } in
-      let X = told (listed_in t) list in
+      let X = told t.listed list in
       let B = bad_entry last reason in
       let E = good_entries (last - first) f T first in
       ap (λ (x : List ℕ). put-together (t.records + kept.count) (t.stream + (kept.stop - kept.start)) x (told all list₂)) e
@@ -69,10 +65,10 @@ module _ (f : List ℕ) (first last reason : ℕ) (known : Known) (t : Tally) (f
       (good-same (last - first) f (record { first = 0; last = 0; start = S.start; stop = S.stop; count = 0; reason = 0 }) T first refl refl)
       ∙ ap (put-together (t.records + S.count) (t.stream + (S.stop - S.start)) (laid fresh t.stream (byte_of f) S.start (S.stop - S.start)))
       (sym (listing-append X E B))
-      ∙ sym (ap (gather_one f (held t fresh list)) (stretch-is f first last reason (known_of known)))
+      ∙ sym (ap (gather_one f (held t fresh list)) (stretch-is f first last reason known))
 
   pub ended-within : {all : Listed} → first ≤ last → Within first t → Few (last + 1) all
-      → Within (last + 1) (record { records = t.records + kept.count; stream = t.stream + (kept.stop - kept.start); entries = all.entries; dropped = all.dropped })
+      → Within (last + 1) (record { records = t.records + kept.count; stream = t.stream + (kept.stop - kept.start); listed = all })
   ended-within {all} h w q =
       let a = k.after in
       let b = k.on in
@@ -80,52 +76,49 @@ module _ (f : List ℕ) (first last reason : ℕ) (known : Known) (t : Tally) (f
       let d = k.fewer in
       let x = w.records in
       let y = w.stream in
-      record { records = omega arith; stream = omega arith; entries = q.entries; dropped = q.dropped }
-
-pub few-of : (first : ℕ) (t : Tally) → Within first t → Few first (record { entries = t.entries; dropped = t.dropped })
-few-of first t w = record { entries = w.entries; dropped = w.dropped }
+      record { records = omega arith; stream = omega arith; listed = q }
 
 -- ONE BLOCK MORE
-module _ (f : List ℕ) (first i : ℕ) (known : Known) (h : i < blocks f) (j : Judged) (e : judged_of j ≡ judge f i (turn_at f first i) (known_of known)) where
-  opened : to_come f i first known ≡ onward f first i (known_of known) (judged_of j) (stretches_by (blocks f - (i + 1)) f (i + 1))
+module _ (f : List ℕ) (first i : ℕ) (known : Known) (h : i < blocks f) (j : Result (Option Trail) Refusal) (e : judged_of j ≡ judge f i (turn_at f first i) known) where
+  opened : to_come f i first known ≡ onward f first i known (judged_of j) (stretches_by (blocks f - (i + 1)) f (i + 1))
   unfolding to_come stretches_by
   opened =
       let left : blocks f - i ≡ suc (blocks f - (i + 1)) = omega arith in
-      rw left (ap (λ (x : salvage.Judged). onward f first i (known_of known) x (stretches_by (blocks f - (i + 1)) f (i + 1))) (sym e))
+      rw left (ap (λ (x : Judged). onward f first i known x (stretches_by (blocks f - (i + 1)) f (i + 1))) (sym e))
 
-  come-bad : (r : ℕ) → j ≡ Bad r → to_come f i first known ≡ stretch f first i (known_of known) r ∷ to_come f (i + 1) (i + 1) Lost
-  unfolding to_come onward judged_of known_of turn_at
+  come-bad : (r : Refusal) → j ≡ Err r → to_come f i first known ≡ stretch f first i known (number_of r) ∷ to_come f (i + 1) (i + 1) lost
+  unfolding to_come onward turn_at
   come-bad r g =
       let t : turn_at f (i + 1) (i + 1) ≡ Turn.any = rw (le-ltb (i + 1) (i + 1) (omega arith)) in
-      opened ∙ ap (λ (x : Judged). onward f first i (known_of known) (judged_of x) (stretches_by (blocks f - (i + 1)) f (i + 1))) g
-      ∙ ap (λ (x : Turn). stretch f first i (known_of known) r ∷ stretches_by (blocks f - (i + 1)) f (i + 1) (i + 1) x salvage.Known.lost) (sym t)
+      opened ∙ ap (λ (x : Result (Option Trail) Refusal). onward f first i known (judged_of x) (stretches_by (blocks f - (i + 1)) f (i + 1))) g
+      ∙ ap (λ (x : Turn). stretch f first i known (number_of r) ∷ stretches_by (blocks f - (i + 1)) f (i + 1) (i + 1) x lost) (sym t)
 
-  come-good : (now : Known) → first ≤ i → j ≡ Good now → to_come f i first known ≡ to_come f (i + 1) first now
-  unfolding to_come onward judged_of turn_at
+  come-good : (now : Option Trail) → first ≤ i → j ≡ Ok now → to_come f i first known ≡ to_come f (i + 1) first (known_of now)
+  unfolding to_come onward turn_at
   come-good now l g =
       let back : i + 1 - 1 ≡ i = omega arith in
       let t : turn_at f first (i + 1) ≡ Turn.only (number_at f i + 1) = rw (lt-ltb first (i + 1) (omega arith), back) in
-      opened ∙ ap (λ (x : Judged). onward f first i (known_of known) (judged_of x) (stretches_by (blocks f - (i + 1)) f (i + 1))) g
+      opened ∙ ap (λ (x : Result (Option Trail) Refusal). onward f first i known (judged_of x) (stretches_by (blocks f - (i + 1)) f (i + 1))) g
       ∙ ap (λ (x : Turn). stretches_by (blocks f - (i + 1)) f (i + 1) first x (known_of now)) (sym t)
 
-  pub passed-bad : {r : ℕ} (t after : Tally) (fresh list fresh' list' : List ℕ) → j ≡ Bad r → held after fresh' list' ≡ gather_one f (held t fresh list) (stretch f first i (known_of known) r)
-      → gathered f (held after fresh' list') (to_come f (i + 1) (i + 1) Lost) ≡ gathered f (held t fresh list) (to_come f i first known)
+  pub passed-bad : {r : Refusal} (t after : Tally) (fresh list fresh' list' : List ℕ) → j ≡ Err r → held after fresh' list' ≡ gather_one f (held t fresh list) (stretch f first i known (number_of r))
+      → gathered f (held after fresh' list') (to_come f (i + 1) (i + 1) lost) ≡ gathered f (held t fresh list) (to_come f i first known)
   unfolding gathered
   passed-bad {r} t after fresh list fresh' list' g k =
-      ap (λ (x : Gathered). gathered f x (to_come f (i + 1) (i + 1) Lost)) k ∙ sym (ap (gathered f (held t fresh list)) (come-bad r g))
+      ap (λ (x : Gathered). gathered f x (to_come f (i + 1) (i + 1) lost)) k ∙ sym (ap (gathered f (held t fresh list)) (come-bad r g))
 
-  pub passed-good : {now : Known} (t : Tally) (fresh list : List ℕ) → first ≤ i → j ≡ Good now
-      → gathered f (held t fresh list) (to_come f (i + 1) first now) ≡ gathered f (held t fresh list) (to_come f i first known)
+  pub passed-good : {now : Option Trail} (t : Tally) (fresh list : List ℕ) → first ≤ i → j ≡ Ok now
+      → gathered f (held t fresh list) (to_come f (i + 1) first (known_of now)) ≡ gathered f (held t fresh list) (to_come f i first known)
   passed-good {now} t fresh list l g = ap (gathered f (held t fresh list)) (sym (come-good now l g))
 
-pub stands-first : (f : List ℕ) (i : ℕ) {t : Tally} → Within i t → Stands f i (record { first = i; known = Lost; tally = t })
+pub stands-first : (f : List ℕ) (i : ℕ) {t : Tally} → Within i t → Stands f i (record { first = i; known = None; tally = t })
 stands-first f i w =
     record { begun = omega arith; goods = record { most = λ j a b. absurd (omega arith) }; ready = lost-ready f i i; tally = w }
 
-pub stands_good : (f : List ℕ) (i : ℕ) (s : Stand) {j : Judged} {now : Known} → i < blocks f → Stands f i s → judged_of j ≡ judge f i (turn_at f s.first i) (known_of s.known) → j ≡ Good now
+pub stands_good : (f : List ℕ) (i : ℕ) (s : Stand) {j : Result (Option Trail) Refusal} {now : Option Trail} → i < blocks f → Stands f i s → judged_of j ≡ judge f i (turn_at f s.first i) (known_of s.known) → j ≡ Ok now
     → Stands f (i + 1) (record { first = s.first; known = now; tally = s.tally })
 stands_good f i s {j} {now} h w e g =
-    let good = is-good f s.first i s.known now (sym (ap judged_of g) ∙ e) in
+    let good = is-good f s.first i (known_of s.known) (known_of now) (sym (ap judged_of g) ∙ e) in
     record {
       begun = omega (arith, w.begun);
       goods =
@@ -133,19 +126,19 @@ stands_good f i s {j} {now} h w e g =
             most =
                 λ k a b. ⊎_elim (λ (l : k < i). w.goods.most k a l) (λ (l : i ≤ k). let z : i ≡ k = omega arith in rw z at (good-most f i good)) (less k i);
           };
-      ready = good-ready f s.first i s.known now h w.begun w.ready good;
+      ready = good-ready f s.first i (known_of s.known) (known_of now) h w.begun w.ready good;
       tally = w.tally;
     }
 
 -- from the first block to the last
-pub stands-start : (f : List ℕ) → Stands f 0 (record { first = 0; known = Lost; tally = nothing })
-stands-start f = stands-first f 0 (record { records = omega arith; stream = omega arith; entries = omega arith; dropped = omega arith })
+pub stands-start : (f : List ℕ) → Stands f 0 (record { first = 0; known = None; tally = nothing })
+stands-start f = stands-first f 0 (record { records = omega arith; stream = omega arith; listed = record { entries = omega arith; dropped = omega arith } })
 
-pub come-start : (f : List ℕ) (g : Gathered) → gathered f g (stretches f) ≡ gathered f g (to_come f 0 0 Lost)
-unfolding stretches to_come turn_at known_of
+pub come-start : (f : List ℕ) (g : Gathered) → gathered f g (stretches f) ≡ gathered f g (to_come f 0 0 lost)
+unfolding stretches to_come turn_at
 come-start f g = let e : blocks f - 0 ≡ blocks f = omega arith in rw e
 
-pub come-end : (f : List ℕ) (i : ℕ) (s : Stand) (A g : Gathered) {x : ℕ} {G : Gathered} → A ≡ gathered f g (to_come f i s.first s.known) → i ≤ blocks f → blocks f ≤ i → x ≡ left_over f
+pub come-end : (f : List ℕ) (i : ℕ) (s : Stand) (A g : Gathered) {x : ℕ} {G : Gathered} → A ≡ gathered f g (to_come f i s.first (known_of s.known)) → i ≤ blocks f → blocks f ≤ i → x ≡ left_over f
     → G ≡ gather_one f g (stretch f s.first (blocks f) (known_of s.known) x) → G ≡ A
 unfolding gathered to_come stretches_by left_over
 come-end f i s A g {x} {G} e h l m k =
@@ -157,12 +150,8 @@ come-end f i s A g {x} {G} e h l m k =
 pub come-on : {A X Y : Gathered} → A ≡ X → Y ≡ X → A ≡ Y
 come-on e g = e ∙ sym g
 
-module _ (f : List ℕ) (i m : ℕ) (s : Stand) (w : Stands f i s) (h : i ≤ m) (l : m ≤ i) where
-  pub goods-end : Goods f s.first m
-  goods-end = let z : i ≡ m = omega arith in rw z at w.goods
-
-  pub ready-end : Ready f s.first m s.known
-  ready-end = let z : i ≡ m = omega arith in rw z at w.ready
+pub stands-end : (f : List ℕ) (i m : ℕ) (s : Stand) → Stands f i s → i ≤ m → m ≤ i → Stands f m s
+stands-end f i m s w h l = let z : i ≡ m = omega arith in rw z at w
 
 -- ALL OF THEM
 pub all-records : (f : List ℕ) (g : Gathered) (ss : List Stretch) → (gathered f g ss).records ≡ g.records + count_of ss

@@ -1,7 +1,7 @@
 -- The records that are kept of a stretch: whole ones, one after another, up to the last that ends within it.
 use Rattle.std.proofs.Common.{◌≡◌, ℕ, zero, suc, ◌+◌, ◌-◌, ◌<◌, ◌≤◌, cond, ltb, leb, List, [], ◌∷◌, ◌++◌, length, refl, ap, ◌∙◌, ⊎_elim, arith, le-ltb, lt-ltb, le-leb}
 use borrow.Author.Tests.{lt-leb}
-use Rattle.shelf.specs.declared.answers.Walk.TheVariants.{To}
+use Rattle.shelf.specs.Answers.{To}
 use Rattle.shelf.specs.Stream.{byte_at, length_at, next, walk}
 use Rattle.shelf.specs.Block.{bytes_from}
 use Rattle.shelf.specs.Salvage.{Stop, kept_by}

@@ -1,11 +1,11 @@
 -- The records kept of a stretch: one more, the last, and where they lie.
 use Rattle.std.proofs.Common.{◌≡◌, ℕ, zero, suc, ◌+◌, ◌-◌, ◌*◌, ◌<◌, ◌≤◌, Bool, true, false, cond, ltb, leb, List, sym, refl, ap, ◌∙◌, ⊎_elim, arith, le-ltb, lt-ltb, le-leb, leb-true}
 use borrow.Author.Tests.{lt-leb}
-use Rattle.shelf.specs.declared.answers.Known.{Known}
-use Rattle.shelf.specs.declared.answers.Known.TheVariants.{Lost, From}
 use Rattle.shelf.specs.declared.answers.Kept.{Kept}
 use Rattle.shelf.specs.Stream.{length_at, next}
 use Rattle.shelf.specs.Judge.{byte_of, blocks, used_at, end_at}
+use Rattle.std.specs.Prelude.{Option, Some, None}
+use Rattle.shelf.specs.declared.answers.Trail.{Trail}
 use Rattle.shelf.specs.Salvage.{Stop, kept_by, ending, stretch}
 use Rattle.shelf.specs.Rescue.{known_of, kept_from, Goods, Ready, Keeps}
 use Rattle.shelf.proofs.Sides.{less}
@@ -86,9 +86,9 @@ module _ (f : List ℕ) (first last : ℕ) where
         (λ (l : last ≤ first). let a = ending-none l in omega arith) (less first last)
 
 -- what is kept of it, and where
-module _ (f : List ℕ) (first last : ℕ) {known : Known} {end : ℕ} (h : first ≤ last) (g : Goods f first last) (e : end ≡ ending f first last) where
-  pub keeps-none : known ≡ Lost → Keeps f first last known (record { start = end; stop = end; count = 0 })
-  unfolding stretch known_of
+module _ (f : List ℕ) (first last : ℕ) {known : Option Trail} {end : ℕ} (h : first ≤ last) (g : Goods f first last) (e : end ≡ ending f first last) where
+  pub keeps-none : known ≡ None → Keeps f first last (known_of known) (record { start = end; stop = end; count = 0 })
+  unfolding stretch
   keeps-none k =
       let a = ending-upto f first last e h g in
       let b = ending-least f first last e h g in
@@ -100,12 +100,13 @@ module _ (f : List ℕ) (first last : ℕ) {known : Known} {end : ℕ} (h : firs
         fewer = omega arith;
       }
 
-  pub keeps-some : {start p c : ℕ} {r : Kept} → known ≡ From start p c → Ready f first last known → r ≡ kept_from f end start → Keeps f first last known r
-  unfolding stretch known_of kept_from
-  keeps-some {start} {p} {c} {r} k t q =
+  pub keeps-some : {trail : Trail} {r : Kept} → known ≡ Some trail → Ready f first last (known_of known) → r ≡ kept_from f end trail.start → Keeps f first last (known_of known) r
+  unfolding stretch kept_from
+  keeps-some {trail} {r} k t q =
+      let start = trail.start in
       let a = ending-upto f first last e h g in
-      let s = t.after start p c k in
-      let u = t.before start p c k in
+      let s = t.after start trail.reached.place trail.reached.count (ap known_of k) in
+      let u = t.before start trail.reached.place trail.reached.count (ap known_of k) in
       let l = lies end (byte_of f) end start 0 in
       let z = kept_by end (byte_of f) end start 0 in
       let v : r.start ≡ start = ap (λ (x : Kept). x.start) q in
@@ -122,5 +123,5 @@ module _ (f : List ℕ) (first last : ℕ) {known : Known} {end : ℕ} (h : firs
 pub ending-within : (f : List ℕ) (first last : ℕ) {end : ℕ} → end ≡ ending f first last → first ≤ last → Goods f first last → last ≤ blocks f → end ≤ 498 * blocks f
 ending-within f first last e h g l = let z = ending-upto f first last e h g in omega arith
 
-pub ready-within : (f : List ℕ) (first last : ℕ) {known : Known} {start p c : ℕ} → Ready f first last known → known ≡ From start p c → last ≤ blocks f → start ≤ 498 * blocks f
-ready-within f first last {known} {start} {p} {c} r e l = let z = r.before start p c e in omega arith
+pub ready-within : (f : List ℕ) (first last : ℕ) {known : Option Trail} {t : Trail} → Ready f first last (known_of known) → known ≡ Some t → last ≤ blocks f → t.start ≤ 498 * blocks f
+ready-within f first last {known} {t} r e l = let z = r.before t.start t.reached.place t.reached.count (ap known_of e) in omega arith

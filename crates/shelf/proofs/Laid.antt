@@ -3,10 +3,7 @@
 use Rattle.std.proofs.Common.{◌≡◌, ℕ, zero, suc, ◌+◌, ◌-◌, ◌*◌, ◌%◌, ◌<◌, ◌≤◌, Bool, true, false, cond, eqb, ltb, List, [], length, sym, refl, ap, ◌∙◌, ⊎_elim, arith, ltb-true, le-ltb, lt-ltb, eqb-true}
 use mathlib.Core.Bool.{false≢true}
 use borrow.Author.Tests.{eqb-false}
-use Rattle.shelf.specs.declared.answers.Walk.{Walk}
-use Rattle.shelf.specs.declared.answers.Walk.TheVariants.{Over, To}
-use Rattle.shelf.specs.declared.answers.Stepped.{Stepped}
-use Rattle.shelf.specs.declared.answers.Stepped.TheVariants.{Off, On}
+use Rattle.shelf.specs.Answers.{Walk, Over, To, Stepped, Off, On}
 use Rattle.shelf.specs.Stream.{walk}
 use Rattle.shelf.specs.Judge.{byte_of, blocks, number_at, used_at, first_at, end_at, some_used, rest_zero, first_inside, zero_first, alone, reason, closes, walked, in_step}
 use Rattle.shelf.specs.Salvage.{Turn, Known, Judged, Stretch, Stop, wanted, stepped, taken, judge, ending, stretch, onward, stretches_by, stretches}

@@ -1,6 +1,6 @@
 -- Words added in lanes are the words added: a lane holds the sum of as many bytes as are added, and its byte's weight comes last.
 use Rattle.std.proofs.Common.{◌≡◌, ℕ, ◌+◌, ◌*◌, ◌/◌, ◌%◌, ◌<◌, ◌≤◌, List, get_or, sym, refl, ap, ◌∙◌, add-one, arith}
-use native.Mathlib.Nat.{add-mod, mod-add-mod, add-mul-mod_self_right}
+use native.Mathlib.Nat.{mod-add-mod, add-mul-mod_self_right}
 use Rattle.buffers.specs.Bytes.{word, word_from}
 use Rattle.shelf.specs.Block.{sum_to}
 use Rattle.shelf.specs.Sums.{Little, apart, together}
@@ -30,10 +30,6 @@ module _ (a b c d w : ℕ) (i : a < 256) (j : b < 256) (k : c < 256) (l : d < 25
 
   odds-of : apart (w / 256) ≡ b + 65536 * d
   odds-of = omega arith
-
--- what is added by wrapping additions
-pub wrapped : (x y : ℕ) {u l r : ℕ} → u ≡ x % 4294967296 → l ≡ y % 4294967296 → r ≡ (u + l) % 4294967296 → r ≡ (x + y) % 4294967296
-wrapped x y e f g = g ∙ rw (e, f) (sym (add-mod x y 4294967296))
 
 pub lanes-more : {s : List ℕ} {from k even odd w e o : ℕ} → Lanes s from k even odd → Little s (from + 4 * k) w → e ≡ apart w → o ≡ apart (w / 256) → Lanes s from (k + 1) (even + e) (odd + o)
 unfolding sum_to

@@ -1,12 +1,8 @@
 -- Bytes laid into the blocks of the new file: one more, and what the file's stream then is.
 use Rattle.std.proofs.Common.{◌≡◌, ℕ, zero, suc, ◌+◌, ◌*◌, ◌/◌, ◌%◌, ◌<◌, ◌≤◌, List, length, get_or, set, sym, refl, ap, ◌∙◌, ⊎_elim, add-one, arith, length-set, get_or-set_other, get_or-set_same, eq-eqb, ne_eqb}
-use lib.Seq.{set_out}
 use Rattle.shelf.specs.Judge.{place_of, byte_of, blocks}
 use Rattle.shelf.specs.Rescue.{place_after, laid}
 use Rattle.shelf.proofs.Sides.{less}
-
-pub put-out : (d : List ℕ) (at x : ℕ) → length d ≤ at → d ≡ set d at x
-put-out d at x h = sym (set_out d at x h)
 
 -- the next place
 pub after_last : (place : ℕ) → place % 512 ≡ 505 → place + 15 ≡ place_after place

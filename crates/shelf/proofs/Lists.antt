@@ -1,11 +1,11 @@
 -- Entries listed: one more, those of a stretch, and what the list then is.
-use Rattle.std.proofs.Common.{◌≡◌, ℕ, zero, suc, ◌+◌, ◌-◌, ◌*◌, ◌/◌, ◌<◌, ◌≤◌, min, false, leb, List, [], ◌∷◌, ◌++◌, length, set, sym, refl, ap, ◌∙◌, ⊎_elim, arith, le-ltb, lt-ltb}
+use Rattle.std.proofs.Common.{◌≡◌, ℕ, suc, ◌+◌, ◌-◌, ◌*◌, ◌/◌, ◌<◌, ◌≤◌, min, List, [], ◌∷◌, ◌++◌, length, set, sym, refl, ap, ◌∙◌, ⊎_elim, arith, le-ltb, lt-ltb}
 use lib.Seq.{sets, length-sets}
 use Rattle.buffers.specs.Bytes.{four, spelled, bytes_of}
 use Rattle.shelf.specs.declared.answers.Listed.{Listed}
 use Rattle.shelf.specs.Judge.{used_at, end_at}
-use Rattle.shelf.specs.Salvage.{Entry, dropped_in, good_entry, bad_entry, good_entries, bytes_dropped, entry_words}
-use Rattle.shelf.specs.Rescue.{Listing, told, entered, listing, good_in, has_room, Goods, Few}
+use Rattle.shelf.specs.Salvage.{Entry, dropped_in, good_entry, good_entries, bytes_dropped, entry_words}
+use Rattle.shelf.specs.Rescue.{Listing, entered, listing, good_in, Goods, Few}
 use Rattle.shelf.proofs.Sides.{less}
 use Rattle.shelf.proofs.Stays.{accounts}
 
@@ -32,59 +32,9 @@ module _ (list : List ℕ) (entries block reason bytes : ℕ) where
       ∙ ap (λ (x : ℕ). sets list at (four x ++ (four reason ++ four bytes))) e
       ∙ rw (lt-ltb entries (length list / 12) h)
 
-  pub entered-not : length list / 12 ≤ entries → list ≡ entered list entries (entry block reason bytes)
-  unfolding entered
-  entered-not h = rw (le-ltb entries (length list / 12) h)
-
 -- a good block
 dropped-most : (lo hi start stop : ℕ) → lo ≤ hi → start ≤ stop → dropped_in lo hi start stop ≤ hi - lo
 dropped-most lo hi start stop h g = omega (arith, accounts lo hi start stop h g)
-
-module _ (f : List ℕ) (i start stop : ℕ) {u n : ℕ} (e : u ≡ used_at f i) (g : n ≡ dropped_in (498 * i) (498 * i + u) start stop) where
-  drops : n ≡ dropped_in (498 * i) (end_at f i) start stop
-  drops = g ∙ ap (λ (x : ℕ). dropped_in (498 * i) (498 * i + x) start stop) e
-
-  pub good-not : (x : Listing) → n ≡ 0 → x ≡ listing x (good_entry i (dropped_in (498 * i) (end_at f i) start stop))
-  unfolding good_entry listing
-  good-not x z = rw (sym drops ∙ z)
-
-  pub good-entered : (l : Listed) (list : List ℕ) {list' : List ℕ} → (n ≡ 0 → ⊥) → list' ≡ entered list l.entries (entry i 0 n)
-      → told (record { entries = l.entries + 1; dropped = l.dropped + n }) list' ≡ listing (told l list) (good_entry i (dropped_in (498 * i) (end_at f i) start stop))
-  unfolding good_entry listing
-  good-entered l list {list'} z h = rw (← drops) (by n z h)
-    where
-      by : (n : ℕ) → (n ≡ 0 → ⊥) → list' ≡ entered list l.entries (entry i 0 n)
-          → told (record { entries = l.entries + 1; dropped = l.dropped + n }) list' ≡ listing (told l list) (good_entry i n)
-      by zero z h = absurd (z refl)
-      by (suc m) z h = ap (told (record { entries = l.entries + 1; dropped = l.dropped + suc m })) h
-
-  pub good-few : (l : Listed) → used_at f i ≤ 498 → start ≤ stop → Few i l → Few (i + 1) (record { entries = l.entries + 1; dropped = l.dropped + n })
-  good-few l h k q =
-      let d = dropped-most (498 * i) (498 * i + u) start stop (omega arith) k in
-      let a = q.entries in
-      let b = q.dropped in
-      record { entries = omega arith; dropped = omega arith }
-
-pub few-still : (i : ℕ) (l : Listed) → Few i l → Few (i + 1) l
-few-still i l q = let a = q.entries in let b = q.dropped in record { entries = omega arith; dropped = omega arith }
-
--- a bad one
-module _ (i : ℕ) (l : Listed) (list : List ℕ) where
-  pub bad-not : (reason : ℕ) → reason ≡ 0 → told l list ≡ listing (told l list) (bad_entry i reason)
-  unfolding bad_entry listing
-  bad-not reason z = rw z
-
-  pub bad-entered : (reason : ℕ) {list' : List ℕ} → (reason ≡ 0 → ⊥) → list' ≡ entered list l.entries (entry i reason 0)
-      → told (record { entries = l.entries + 1; dropped = l.dropped }) list' ≡ listing (told l list) (bad_entry i reason)
-  unfolding bad_entry listing
-  bad-entered zero z h = absurd (z refl)
-  bad-entered (suc r) {list'} z h =
-      let e : l.dropped ≡ l.dropped + 0 = omega arith in
-      ap (told (record { entries = l.entries + 1; dropped = l.dropped })) h
-      ∙ ap (λ (x : ℕ). told (record { entries = l.entries + 1; dropped = x }) (entered list l.entries (entry i (suc r) 0))) e
-
-pub bad-few : (i : ℕ) (l : Listed) → Few i l → Few (i + 1) (record { entries = l.entries + 1; dropped = l.dropped })
-bad-few i l q = let a = q.entries in let b = q.dropped in record { entries = omega arith; dropped = omega arith }
 
 -- entries one after another
 pub listing-append : (x : Listing) (es fs : List Entry) → listing x (es ++ fs) ≡ listing (listing x es) fs
@@ -141,17 +91,3 @@ unfolding listing
 listing-long x [] = refl
 listing-long x (e ∷ es) =
     listing-long (record { entries = x.entries + 1; dropped = x.dropped + e.bytes; list = entered x.list x.entries e }) es ∙ entered-long x.list x.entries e
-
--- room or not
-module _ (room list m entries : ℕ) where
-  pub room_small : room / 512 < m → false ≡ has_room room list m entries
-  unfolding has_room
-  room_small h = rw (lt-ltb (room / 512) m h)
-
-  pub room-many : m ≤ room / 512 → 4294967296 < m → false ≡ has_room room list m entries
-  unfolding has_room
-  room-many h g = rw (le-ltb (room / 512) m h, lt-ltb 4294967296 m g)
-
-  pub room-list : m ≤ room / 512 → m ≤ 4294967296 → leb entries (list / 12) ≡ has_room room list m entries
-  unfolding has_room
-  room-list h g = rw (le-ltb (room / 512) m h, le-ltb 4294967296 m g)

@@ -2,8 +2,7 @@
 use Rattle.std.proofs.Common.{◌≡◌, ℕ, ◌+◌, ◌-◌, ◌*◌, ◌/◌, ◌%◌, ◌<◌, ◌≤◌, min, List, ◌++◌, length, get_or, take, drop, sym, refl, ap, ◌∙◌, ⊎_elim, append_assoc, add-one, arith, length-drop, get_or-drop, drop-drop, take_at, get_or-append-add, drop_at, le-ltb, lt-ltb}
 use lib.Seq.{drop-append-le, take-append-le}
 use borrow.Rule.Slice.PartMut.{put_mid, mid_of, Post-is}
-use Rattle.shelf.specs.declared.answers.Walk.{Walk}
-use Rattle.shelf.specs.declared.answers.Walk.TheVariants.{Over, To}
+use Rattle.shelf.specs.Answers.{Walk, Over, To}
 use Rattle.shelf.specs.Stream.{byte_at, walk}
 use Rattle.shelf.specs.Block.{bytes_from, block, used_in, name_after, first_in, block_in, cut, blocks_for}
 use Rattle.shelf.specs.Judge.{place_of, byte_of}

@@ -1,7 +1,6 @@
 -- The room that a salvage needs: an entry at most for each block begun.
 use Rattle.std.proofs.Common.{◌≡◌, ℕ, zero, suc, ◌+◌, ◌-◌, ◌*◌, ◌%◌, ◌<◌, ◌≤◌, Bool, true, false, cond, eqb, ltb, leb, List, [], ◌∷◌, ◌++◌, length, refl, ⊎_elim, arith, length-append, le-ltb, lt-ltb, eqb-true, leb-true}
-use Rattle.shelf.specs.declared.answers.Stepped.{Stepped}
-use Rattle.shelf.specs.declared.answers.Stepped.TheVariants.{Off, On}
+use Rattle.shelf.specs.Answers.{Stepped, Off, On}
 use Rattle.shelf.specs.Stream.{next, walk}
 use Rattle.shelf.specs.Block.{bytes_from}
 use Rattle.shelf.specs.Judge.{byte_of, blocks, number_at, used_at, first_at, end_at, reason, walked, in_step}

@@ -4,15 +4,14 @@ use mathlib.Core.Bool.{false≢true}
 use lib.Seq.{sets-eq}
 use borrow.Rule.Slice.PartMut.{put_mid, mid_of}
 use Rattle.buffers.specs.Bytes.{spelled, bytes_of}
-use Rattle.shelf.specs.declared.answers.Answer.{Answer}
+use Rattle.shelf.specs.Answers.{Answer, Rescued}
 use Rattle.shelf.specs.declared.answers.Tally.{Tally}
-use Rattle.shelf.specs.declared.answers.Rescued.{Rescued}
 use Rattle.shelf.specs.Stream.{byte_at}
 use Rattle.shelf.specs.Block.{cut, blocks_for, file_of}
 use Rattle.shelf.specs.Judge.{byte_of}
 use Rattle.shelf.specs.Shelf.{refuses, filled}
 use Rattle.shelf.specs.Salvage.{Entry, stretches, kept_of, count_of, entries_of, bytes_dropped, entry_words, no_room, salvaged, salvage}
-use Rattle.shelf.specs.Rescue.{Listing, entered, listing, Gathered, held, gathered, nothing, has_room, Saved}
+use Rattle.shelf.specs.Rescue.{Listing, told, entered, listing, Gathered, held, gathered, nothing, has_room, Saved}
 use Rattle.shelf.specs.Calls.{back, area_of, salvage_call}
 use Rattle.shelf.proofs.Sides.{less}
 use Rattle.shelf.proofs.Cutting.{cut-long}
@@ -71,8 +70,8 @@ list-is x (e ∷ es) h =
 pub record Collected (f fresh₀ list₀ : List ℕ) (t : Tally) (fresh list : List ℕ) : Type 0 where
   pub records : t.records ≡ count_of (stretches f)
   pub stream : t.stream ≡ length (kept_of f (stretches f))
-  pub entries : t.entries ≡ length (entries_of f (stretches f))
-  pub dropped : t.dropped ≡ bytes_dropped (entries_of f (stretches f))
+  pub entries : t.listed.entries ≡ length (entries_of f (stretches f))
+  pub dropped : t.listed.dropped ≡ bytes_dropped (entries_of f (stretches f))
   pub bytes : 512 * blocks_for (length (kept_of f (stretches f))) ≤ length fresh₀ → (j : ℕ) → j < length (kept_of f (stretches f)) → byte_of fresh j ≡ byte_at (kept_of f (stretches f)) j
   pub rows : 12 * length (entries_of f (stretches f)) ≤ length list₀ → list ≡ bytes_of (entry_words (entries_of f (stretches f))) ++ drop (12 * length (entries_of f (stretches f))) list₀
 
@@ -83,7 +82,7 @@ collected f fresh₀ list₀ {t} {fresh} {list} e =
     let S = kept_of f ss in
     let es = entries_of f ss in
     let x : Listing = record { entries = 0; dropped = 0; list = list₀ } in
-    let told_is : record { entries = t.entries; dropped = t.dropped; list = list } ≡ listing x es = ap (λ (y : Gathered). y.listing) e ∙ all_listed f g ss in
+    let told_is : told t.listed list ≡ listing x es = ap (λ (y : Gathered). y.listing) e ∙ all_listed f g ss in
     record {
       records = ap (λ (y : Gathered). y.records) e ∙ all-records f g ss ∙ omega arith;
       stream = ap (λ (y : Gathered). y.stream) e ∙ all-stream f g ss ∙ omega arith;
@@ -138,7 +137,7 @@ module _ (f : List ℕ) (room rows : ℕ) where
 
 -- THE ANSWER
 module _ (f fresh₀ list₀ : List ℕ) {t : Tally} {fresh list : List ℕ} (q : held t fresh list ≡ gathered f (held nothing fresh₀ list₀) (stretches f))
-    {m : ℕ} (e : m ≡ blocks_for t.stream) {b : Bool} (g : b ≡ has_room (length fresh) (length list) m t.entries) where
+    {m : ℕ} (e : m ≡ blocks_for t.stream) {b : Bool} (g : b ≡ has_room (length fresh) (length list) m t.listed.entries) where
   abbrev c : Collected f fresh₀ list₀ t fresh list
   c = collected f fresh₀ list₀ q
 
@@ -158,8 +157,8 @@ module _ (f fresh₀ list₀ : List ℕ) {t : Tally} {fresh list : List ℕ} (q 
 
   room-is : b ≡ has_room (length fresh₀) (length list₀) (blocks_for (length S)) (length (entries_of f (stretches f)))
   room-is =
-      g ∙ ap (λ (x : ℕ). has_room x (length list) m t.entries) l₁ ∙ ap (λ (x : ℕ). has_room (length fresh₀) x m t.entries) l₂
-      ∙ ap (λ (x : ℕ). has_room (length fresh₀) (length list₀) x t.entries) blocks-are
+      g ∙ ap (λ (x : ℕ). has_room x (length list) m t.listed.entries) l₁ ∙ ap (λ (x : ℕ). has_room (length fresh₀) x m t.listed.entries) l₂
+      ∙ ap (λ (x : ℕ). has_room (length fresh₀) (length list₀) x t.listed.entries) blocks-are
       ∙ ap (has_room (length fresh₀) (length list₀) (blocks_for (length S))) c.entries
 
   pub saved-none : b ≡ false → {fresh' list' : List ℕ} {a : Answer} → a ≡ (refuses 21 0).answer → fresh' ≡ replicate (length fresh) 0 → list' ≡ replicate (length list) 0
@@ -184,20 +183,20 @@ module _ (f fresh₀ list₀ : List ℕ) {t : Tally} {fresh list : List ℕ} (q 
     pub saved-within : (made : List ℕ) → made ≡ cut (byte_of fresh) t.stream m ++ drop (512 * m) fresh → 512 * m ≤ length made
     saved-within made k = rw (ap length k) (simp (length-append, length-drop) (omega (arith, cut-long (byte_of fresh) t.stream m)))
 
-    pub saved_rows : 12 * t.entries ≤ length list
+    pub saved_rows : 12 * t.listed.entries ≤ length list
     saved_rows = omega (arith, c.entries, roomy.entries, l₂)
 
-    pub saved-list : length list₀ < 18446744073709551616 → 12 * t.entries < 18446744073709551616
+    pub saved-list : length list₀ < 18446744073709551616 → 12 * t.listed.entries < 18446744073709551616
     saved-list k = let z = saved_rows in let y = l₂ in omega arith
 
     pub saved-done : (made made' z list' y : List ℕ) → made ≡ cut (byte_of fresh) t.stream m ++ drop (512 * m) fresh
         → made' ≡ put_mid (512 * m) (length made - 512 * m) made z → z ≡ replicate (length (mid_of (512 * m) (length made - 512 * m) made)) 0
-        → list' ≡ put_mid (12 * t.entries) (length list - 12 * t.entries) list y → y ≡ replicate (length (mid_of (12 * t.entries) (length list - 12 * t.entries) list)) 0
+        → list' ≡ put_mid (12 * t.listed.entries) (length list - 12 * t.listed.entries) list y → y ≡ replicate (length (mid_of (12 * t.listed.entries) (length list - 12 * t.listed.entries) list)) 0
         → Saved (salvage f (length fresh₀) (length list₀)) (length fresh₀) (length list₀)
         (record {
           answer = record { number = 0; place = 0; records = t.records; stream = t.stream; file = 512 * m };
-          entries = t.entries;
-          dropped = t.dropped;
+          entries = t.listed.entries;
+          dropped = t.listed.dropped;
         })
         made' list'
     saved-done made made' z list' y p o r u v =
@@ -205,7 +204,7 @@ module _ (f fresh₀ list₀ : List ℕ) {t : Tally} {fresh list : List ℕ} (q 
         let es = entries_of f (stretches f) in
         let W = bytes_of (entry_words es) in
         let C = cut (byte_of fresh) n m in
-        let count = 12 * t.entries in
+        let count = 12 * t.listed.entries in
         let long : length W ≡ count = words_long es ∙ omega (arith, c.entries) in
         let same : C ≡ file_of (byte_at S) (length S) =
         ap (λ (x : ℕ). cut (byte_of fresh) n x) blocks-are ∙ ap (λ (x : ℕ). cut (byte_of fresh) x (blocks_for (length S))) c.stream

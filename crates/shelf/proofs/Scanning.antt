@@ -1,11 +1,17 @@
 -- Block by block: what each turn of `scan` and of `gather` comes to.
-use Rattle.std.proofs.Common.{◌≡◌, ℕ, suc, ◌+◌, ◌-◌, ◌*◌, ◌%◌, ◌<◌, ◌≤◌, Bool, true, false, cond, eqb, ltb, List, ◌++◌, length, get_or, take, drop, sym, refl, ap, ◌∙◌, arith, length-append, length-drop, drop-drop, take_at, drop_at, eq-eqb, ne_eqb, eqb-true, leb-true}
+use Rattle.std.proofs.Common.{◌≡◌, ℕ, suc, ◌+◌, ◌-◌, ◌*◌, ◌%◌, ◌<◌, ◌≤◌, Bool, true, false, cond, eqb, ltb, List, ◌++◌, length, get_or, take, drop, sym, refl, ap, ◌∙◌, arith, drop-drop, take_at, drop_at, eq-eqb, ne_eqb, eqb-true, leb-true}
 use mathlib.Core.Bool.{false≢true}
-use Rattle.shelf.specs.declared.answers.Walk.{Walk}
-use Rattle.shelf.specs.declared.answers.Walk.TheVariants.{Over, To}
-use Rattle.shelf.specs.declared.answers.Stepped.{Stepped}
-use Rattle.shelf.specs.declared.answers.Stepped.TheVariants.{Off, On}
-use Rattle.shelf.specs.declared.answers.Scan.TheVariants.{Refused, Whole}
+use Rattle.std.specs.Prelude.{Option, Some, None, Result, Ok, Err, is_ok, IsErrAnd, MatchResult}
+use Rattle.std.specs.Option.{ok_or}
+use Rattle.std.specs.Result.{result_ok}
+use Rattle.std.proofs.lemmas.Result.{err_from_is_err_and}
+use Rattle.numbers.specs.Refused.{number_of, answered}
+use Rattle.numbers.specs.declared.refusal.Fault.{Fault}
+use Rattle.numbers.proofs.Refusals.{number-some}
+use Rattle.numbers.specs.declared.refusal.Refusal.{Refusal}
+use Rattle.numbers.specs.declared.refusal.Refusal.TheVariants as refusal
+use Rattle.shelf.specs.declared.answers.Reached as code
+use Rattle.shelf.specs.Answers.{Walk, Over, To, Stepped, Off, On, stepped_of, Refused, Whole}
 use Rattle.shelf.specs.Stream.{byte_at, walk, first_from}
 use Rattle.shelf.specs.Block.{bytes_from, sum_to}
 use Rattle.shelf.specs.Judge.{byte_of, blocks, last, number_at, used_at, first_at, sum_at, end_at, some_used, rest_zero, first_inside, zero_first, alone, reason, closes, walked, in_step}
@@ -85,22 +91,40 @@ steps f i p c q d e = by (eqb (first_at f i) (first_from (byte_of f) (498 * i) (
         let m : On r s ≡ On q d = rw l at e in
         record { first = eqb-true _ _ g; walk = h ∙ on-to m; closed = λ x. absurd (false≢true (sym l ∙ x)) }
 
--- the next block
-module _ (f : List ℕ) (i p c q d : ℕ) {r : ℕ} {s : Stepped} (e : r ≡ reason f i i) (z : r ≡ 0) (g : s ≡ in_step f i p c) (k : s ≡ On q d) where
-  abbrev reached-next : Reached (end_at f i) p c q d
-  reached-next = reached (walked-so (steps f i p c q d (sym g ∙ k)).walk)
+-- a reason that is none, and one told at its block
+kept-none : (a : Result (Unit {0}) Refusal) → is_ok a ≡ true → answered a ≡ 0
+kept-none (Ok u) e = refl
+kept-none (Err x) e = absurd (false≢true e)
 
-  pub next-fewer : c ≤ p → d ≤ q
+pub fine-kept : (f : List ℕ) (i : ℕ) (a : Result (Unit {0}) Refusal) {b : Result (Unit {0}) (Fault ℕ)} {u : Unit {0}} → is_ok b ≡ is_ok a → answered a ≡ reason f i i → b ≡ Ok u → reason f i i ≡ 0
+fine-kept f i a v g k = sym g ∙ kept-none a (sym v ∙ ap is_ok k)
+
+pub told-at : (f : List ℕ) (i : ℕ) (Q : Refusal → Fault ℕ → Type 0) → ((e : Refusal) (x : Fault ℕ) → Q e x → x ≡ record { why = e; at = i }) → (a : Result (Unit {0}) Refusal) {b : Result (Unit {0}) (Fault ℕ)} {x : Fault ℕ}
+    → MatchResult a (λ u. b ≡ Ok u) (λ e. IsErrAnd b (Q e)) → answered a ≡ reason f i i → b ≡ Err x → (number_of x.why ≡ reason f i i) × (x.at ≡ i)
+told-at f i Q h (Ok u) m g k = let o : ◌≡◌ {A = ℕ} 0 1 = cc in absurd (omega arith)
+told-at f i Q h (Err e) {b} {x} m g k =
+    let p = err_from_is_err_and b m in
+    let y : ◌≡◌ {A = Result (Unit {0}) (Fault ℕ)} (Err x) (Err p.0) = sym k ∙ p.1 in
+    let z : x ≡ p.0 = cc in
+    let q : x ≡ record { why = e; at = i } = z ∙ h e p.0 p.2 in
+    (ap (λ (j : Fault ℕ). number_of j.why) q ∙ g, ap (λ (j : Fault ℕ). j.at) q)
+
+-- the next block
+module _ (f : List ℕ) (i p c : ℕ) (s : Option code.Reached) (r : code.Reached) (z : reason f i i ≡ 0) (g : stepped_of s ≡ in_step f i p c) (k : s ≡ Some r) where
+  abbrev reached-next : Reached (end_at f i) p c r.place r.count
+  reached-next = reached (walked-so (steps f i p c r.place r.count (sym g ∙ ap stepped_of k)).walk)
+
+  pub next-fewer : c ≤ p → r.count ≤ r.place
   next-fewer = reached-next.fewer
 
-  pub next_past : i + 1 < blocks f → 498 * (i + 1) ≤ q + 1
-  next_past h = omega (arith, reached-next.past, full-before f i (some-so f i (fine f i i (sym e ∙ z)).alone) h)
+  pub next_past : i + 1 < blocks f → 498 * (i + 1) ≤ r.place + 1
+  next_past h = omega (arith, reached-next.past, full-before f i (some-so f i (fine f i i z).alone) h)
 
-pub used-none-so : (f : List ℕ) (i : ℕ) {r : ℕ} → r ≡ reason f i i → r ≡ 0 → 0 < used_at f i
-used-none-so f i e g = (used-so f i (some-so f i (fine f i i (sym e ∙ g)).alone)).some
+pub used-none-so : (f : List ℕ) (i : ℕ) → reason f i i ≡ 0 → 0 < used_at f i
+used-none-so f i g = (used-so f i (some-so f i (fine f i i g).alone)).some
 
-pub used-most-so : (f : List ℕ) (i : ℕ) {r : ℕ} → r ≡ reason f i i → r ≡ 0 → used_at f i ≤ 498
-used-most-so f i e g = (used-so f i (some-so f i (fine f i i (sym e ∙ g)).alone)).most
+pub used-most-so : (f : List ℕ) (i : ℕ) → reason f i i ≡ 0 → used_at f i ≤ 498
+used-most-so f i g = (used-so f i (some-so f i (fine f i i g).alone)).most
 
 -- one turn of `scan`
 pub scan-start : (f : List ℕ) → scan f ≡ scan_by (blocks f - 0) f 0 0 0
@@ -119,26 +143,30 @@ module _ (f : List ℕ) (i p c : ℕ) (e : scan f ≡ scan_by (blocks f - i) f i
       let k : i ≡ blocks f = omega arith in
       sym (e ∙ rw z (simp (ne_eqb (length f % 512) 0 g)) ∙ ap (Refused 33) k)
 
-  module _ (h : i < blocks f) {r : ℕ} (g : r ≡ reason f i i) where
+  module _ (h : i < blocks f) where
     left : blocks f - i ≡ suc (blocks f - (i + 1))
     left = omega arith
 
-    pub scan-refuse : (r ≡ 0 → ⊥) → Refused r i ≡ scan f
+    pub scan-refuse : (x : Fault ℕ) → (number_of x.why ≡ reason f i i) × (x.at ≡ i) → Refused (number_of x.why) x.at ≡ scan f
     unfolding scan_by
-    scan-refuse n = sym (e ∙ rw left (simp (ne_eqb (reason f i i) 0 (λ q. n (g ∙ q)))) ∙ ap (λ (x : ℕ). Refused x i) (sym g))
+    scan-refuse x (g, a) = sym (e ∙ rw left (simp (ne_eqb (reason f i i) 0 (λ q. number-some x.why (g ∙ q)))) ∙ ap (λ (y : ℕ). Refused y i) (sym g) ∙ ap (Refused (number_of x.why)) (sym a))
 
-    module _ (z : r ≡ 0) {s : Stepped} (k : s ≡ in_step f i p c) where
-      onto : scan f ≡ onward i s (scan_by (blocks f - (i + 1)) f (i + 1))
+    module _ (z : reason f i i ≡ 0) (s : Option code.Reached) (k : stepped_of s ≡ in_step f i p c) where
+      onto : scan f ≡ onward i (stepped_of s) (scan_by (blocks f - (i + 1)) f (i + 1))
       unfolding scan_by
-      onto = e ∙ rw left (simp (eq-eqb (reason f i i) 0 (sym g ∙ z))) ∙ ap (λ (x : Stepped). onward i x (scan_by (blocks f - (i + 1)) f (i + 1))) (sym k)
+      onto = e ∙ rw left (simp (eq-eqb (reason f i i) 0 z)) ∙ ap (λ (x : Stepped). onward i x (scan_by (blocks f - (i + 1)) f (i + 1))) (sym k)
 
-      pub scan-off : s ≡ Off → Refused 33 i ≡ scan f
+      pub scan-off : (x : Fault ℕ) {r : Result code.Reached (Fault ℕ)} → r ≡ ok_or s (record { why = refusal.BlockLayout; at = i }) → s ≡ result_ok r → r ≡ Err x → Refused (number_of x.why) x.at ≡ scan f
       unfolding onward
-      scan-off o = sym (onto ∙ rw o)
+      scan-off x v o w =
+          let n : s ≡ None = o ∙ ap result_ok w in
+          let y : ◌≡◌ {A = Result code.Reached (Fault ℕ)} (Err x) (Err (record { why = refusal.BlockLayout; at = i })) = sym w ∙ v ∙ ap (λ (z : Option code.Reached). ok_or z (record { why = refusal.BlockLayout; at = i })) n in
+          let q : x ≡ record { why = refusal.BlockLayout; at = i } = cc in
+          rw q (sym (onto ∙ rw n))
 
-      pub scan-on : {q d : ℕ} → s ≡ On q d → scan f ≡ scan_by (blocks f - (i + 1)) f (i + 1) q d
+      pub scan-on : (r : code.Reached) → s ≡ Some r → scan f ≡ scan_by (blocks f - (i + 1)) f (i + 1) r.place r.count
       unfolding onward
-      scan-on o = onto ∙ rw o
+      scan-on r o = onto ∙ rw o
 
 -- bytes of one more block gathered
 pub gathered-more : (f r₀ r r' : List ℕ) (i at k : ℕ) → at ≡ 498 * i → k ≤ 498 → at + k ≤ length r₀ → r ≡ bytes_from (byte_of f) 0 at ++ drop at r₀
@@ -154,6 +182,3 @@ gathered-more f r₀ r r' i at k a h l e g =
     ∙ ap (λ (x : List ℕ). F ++ x ++ drop (at + k) (F ++ drop at r₀)) same
     ∙ ap (λ (x : List ℕ). F ++ bytes_from (byte_of f) (0 + at) k ++ x) (sym (drop-drop k at (F ++ drop at r₀)) ∙ ap (drop k) (drop_at F (drop at r₀) at n) ∙ drop-drop k at r₀)
     ∙ ap (λ (x : List ℕ). x ++ drop (at + k) r₀) (sym (bytes-more (byte_of f) 0 at k))
-
-pub gathered-long : (b : ℕ → ℕ) (r₀ r : List ℕ) (k : ℕ) → k ≤ length r₀ → r ≡ bytes_from b 0 k ++ drop k r₀ → length r ≡ length r₀
-gathered-long b r₀ r k h e = ap length e ∙ simp (length-append, length-drop) (omega (arith, bytes-long b 0 k))

@@ -1,9 +1,9 @@
 -- A file that is read to its end: its blocks one after another, each fine and in step.
-use Rattle.std.proofs.Common.{◌≡◌, ℕ, zero, suc, ◌+◌, ◌-◌, ◌*◌, ◌%◌, ◌≤◌, Bool, true, false, cond, eqb, List, length, sym, refl, ◌∙◌, ⊎_elim, arith, le-ltb, lt-ltb, eqb-true, le-leb}
-use Rattle.shelf.specs.declared.answers.Stepped.{Stepped}
-use Rattle.shelf.specs.declared.answers.Stepped.TheVariants.{Off, On}
-use Rattle.shelf.specs.declared.answers.Scan.{Scan}
-use Rattle.shelf.specs.declared.answers.Scan.TheVariants.{Refused, Whole}
+use Rattle.std.proofs.Common.{◌≡◌, ℕ, zero, suc, ◌+◌, ◌-◌, ◌*◌, ◌%◌, ◌≤◌, Bool, true, false, cond, eqb, List, length, sym, refl, ap, ◌∙◌, ⊎_elim, arith, le-ltb, lt-ltb, eqb-true, le-leb}
+use Rattle.std.specs.Prelude.{Result, Ok}
+use Rattle.numbers.specs.declared.refusal.Fault.{Fault}
+use Rattle.shelf.specs.declared.answers.Reached.{Reached}
+use Rattle.shelf.specs.Answers.{Stepped, Off, On, Refused, Whole, scan_of}
 use Rattle.shelf.specs.Judge.{blocks, used_at, end_at, reason, closes, in_step}
 use Rattle.shelf.specs.Shelf.{onward, scan_by, scan}
 use Rattle.shelf.proofs.Sides.{less}
@@ -58,6 +58,9 @@ within_by : (f : List ℕ) (n d k : ℕ) → blocks f ≡ k → Scans f n d k 0 
 within_by f n d zero e (Scans.done h) = omega arith
 within_by f n d (suc k) e r = let u = last-used f n d k 0 0 0 r (omega arith) in omega (arith, total f n d k 0 0 0 r (omega arith), u.most)
 
-pub scan-within : (f : List ℕ) {s : Scan} {n d : ℕ} → s ≡ scan f → s ≡ Whole n d → n ≤ 498 * blocks f
+pub scan-within : (f : List ℕ) {n d : ℕ} → scan f ≡ Whole n d → n ≤ 498 * blocks f
 unfolding scan
-scan-within f {s} {n} {d} e g = within_by f n d (blocks f) refl (scanned f n d (blocks f) 0 0 0 (sym e ∙ g))
+scan-within f {n} {d} e = within_by f n d (blocks f) refl (scanned f n d (blocks f) 0 0 0 e)
+
+pub read-within : (f : List ℕ) {s : Result Reached (Fault ℕ)} {r : Reached} → scan_of s ≡ scan f → s ≡ Ok r → r.place ≤ 498 * blocks f
+read-within f e g = scan-within f (sym e ∙ ap scan_of g)

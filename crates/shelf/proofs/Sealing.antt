@@ -3,20 +3,10 @@ use Rattle.std.proofs.Common.{◌≡◌, ℕ, zero, suc, ◌+◌, ◌-◌, ◌*�
 use lib.ListN.{length-replicate, get_or-append}
 use lib.Seq.{sets, sets-eq, take-append-add}
 use borrow.Rule.Slice.PartMut.{put_mid, mid_of, Post-is, mid_len}
-use Rattle.buffers.specs.Bytes.{four, two, word_from}
+use Rattle.buffers.specs.Bytes.{four, word_from}
 use Rattle.shelf.specs.Stream.{byte_at}
 use Rattle.shelf.specs.Block.{bytes_from, sum_to, head_of, body_of, block}
 use Rattle.shelf.proofs.Bytes.{bytes-long, bytes-part, byte-of, bytes-alike}
-
--- the head
-pub head-put : (n u f : ℕ) (b b₁ b₂ b₃ : List ℕ) → length b ≡ 512 → b₁ ≡ sets b 0 (four n) → b₂ ≡ sets b₁ 4 (two u) → b₃ ≡ sets b₂ 6 (two f)
-    → b₃ ≡ head_of n u f ++ drop 8 b
-head-put n u f b b₁ b₂ b₃ l e₁ e₂ e₃ =
-    let p₁ : b₁ ≡ four n ++ drop 4 b = e₁ ∙ sets-eq (four n) b 0 (omega arith) in
-    let l₁ : 6 ≤ length (four n ++ drop 4 b) = simp (length-append, length-drop) (omega arith) in
-    let p₂ : b₂ ≡ four n ++ two u ++ drop 6 b = e₂ ∙ ap (λ (x : List ℕ). sets x 4 (two u)) p₁ ∙ sets-eq (two u) (four n ++ drop 4 b) 4 l₁ ∙ ap (λ (x : List ℕ). four n ++ two u ++ x) (drop-drop 2 4 b) in
-    let l₂ : 8 ≤ length (four n ++ two u ++ drop 6 b) = simp (length-append, length-drop) (omega arith) in
-    e₃ ∙ ap (λ (x : List ℕ). sets x 6 (two f)) p₂ ∙ sets-eq (two f) (four n ++ two u ++ drop 6 b) 6 l₂ ∙ ap (λ (x : List ℕ). four n ++ two u ++ two f ++ x) (drop-drop 2 6 b)
 
 -- the sum of words at the front of a list
 pub word-front : (s t : List ℕ) (at : ℕ) → at + 3 < length s → word_from (s ++ t) at ≡ word_from s at

@@ -1,6 +1,6 @@
 -- The records of a list in their stream: where one begins that is the first from a place on, and which end by a place.
 use Rattle.std.proofs.Common.{◌≡◌, ℕ, zero, suc, ◌+◌, ◌-◌, ◌*◌, ◌/◌, ◌%◌, ◌<◌, ◌≤◌, Bool, true, false, cond, List, [], ◌∷◌, ◌++◌, length, get_or, take, drop, sym, refl, ap, ◌∙◌, ⊎_elim, append_assoc, arith, length-append, take_at, get_or-append-add, drop_at, le-ltb, lt-ltb}
-use Rattle.shelf.specs.declared.answers.Walk.TheVariants.{To}
+use Rattle.shelf.specs.Answers.{To}
 use Rattle.shelf.specs.Stream.{byte_at, length_at, next, walk, named, first_from}
 use Rattle.shelf.specs.Block.{bytes_from}
 use Rattle.shelf.specs.Theorems.{entry_bytes, stream_of, Right, AllRight}

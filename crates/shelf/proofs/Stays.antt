@@ -1,11 +1,7 @@
 -- A file that the reader accepts is salvaged as it is, and nothing is dropped. Of each block's used bytes every one is kept or accounted for.
 use Rattle.std.proofs.Common.{◌≡◌, ℕ, zero, suc, ◌+◌, ◌-◌, ◌*◌, ◌/◌, ◌%◌, ◌<◌, ◌≤◌, min, max, Bool, true, false, cond, eqb, ltb, leb, ◌⊎◌, List, [], ◌∷◌, length, sym, refl, ap, ◌∙◌, inl, inr, ⊎_elim, append-nil, arith, le-ltb, lt-ltb, eq-eqb, eqb-true, le-leb}
 use Rattle.buffers.specs.Bytes.{spelled}
-use Rattle.shelf.specs.declared.answers.Walk.{Walk}
-use Rattle.shelf.specs.declared.answers.Walk.TheVariants.{To}
-use Rattle.shelf.specs.declared.answers.Stepped.{Stepped}
-use Rattle.shelf.specs.declared.answers.Stepped.TheVariants.{Off, On}
-use Rattle.shelf.specs.declared.answers.Scan.TheVariants.{Refused, Whole}
+use Rattle.shelf.specs.Answers.{Walk, To, Stepped, Off, On, Refused, Whole}
 use Rattle.shelf.specs.Stream.{next, walk, first_from}
 use Rattle.shelf.specs.Block.{bytes_from, blocks_for}
 use Rattle.shelf.specs.Judge.{byte_of, blocks, number_at, first_at, end_at, reason, walked, in_step}

@@ -1,10 +1,6 @@
 -- The theorems of the shelf.
 use Rattle.std.proofs.Common.{◌≡◌, ℕ, zero, suc, ◌+◌, ◌*◌, ◌/◌, ◌%◌, ◌<◌, ◌≤◌, Bool, true, false, cond, ltb, List, [], ◌∷◌, ◌++◌, length, get_or, take, drop, sym, refl, ap, ◌∙◌, ⊎_elim, append_assoc, arith, length-append, take_at, get_or-append-add, drop_at, le-ltb, lt-ltb, eq-eqb}
-use Rattle.shelf.specs.declared.answers.Walk.{Walk}
-use Rattle.shelf.specs.declared.answers.Walk.TheVariants.{Over, To}
-use Rattle.shelf.specs.declared.answers.Soundness.TheVariants.{Sound}
-use Rattle.shelf.specs.declared.answers.Scan.{Scan}
-use Rattle.shelf.specs.declared.answers.Scan.TheVariants.{Refused, Whole}
+use Rattle.shelf.specs.Answers.{Walk, Over, To, Sound, Scan, Refused, Whole}
 use Rattle.shelf.specs.Stream.{byte_at, next, length_at, walk, judged, fault, named, first_from}
 use Rattle.shelf.specs.Block.{bytes_from, block, used_in, name_after, first_in, block_in, cut, blocks_for, file_of}
 use Rattle.shelf.specs.Judge.{byte_of, blocks}

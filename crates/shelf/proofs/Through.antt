@@ -1,8 +1,7 @@
 -- What is kept, read from its beginning: the whole records of each stretch, one after another; and so the new file reads back.
 use Rattle.std.proofs.Common.{◌≡◌, ℕ, zero, suc, ◌+◌, ◌-◌, ◌*◌, ◌/◌, ◌<◌, ◌≤◌, Bool, true, false, cond, ltb, List, [], ◌∷◌, ◌++◌, length, get_or, sym, refl, ap, ◌∙◌, ⊎_elim, append_assoc, append-nil, arith, length-append, get_or-append-add, eq-eqb, ne_eqb}
 use lib.ListN.{get_or-append}
-use Rattle.shelf.specs.declared.answers.Walk.TheVariants.{To}
-use Rattle.shelf.specs.declared.answers.Soundness.TheVariants.{Sound}
+use Rattle.shelf.specs.Answers.{To, Sound}
 use Rattle.shelf.specs.Stream.{byte_at, walk, judged, fault}
 use Rattle.shelf.specs.Block.{bytes_from, blocks_for}
 use Rattle.shelf.specs.Judge.{place_of, byte_of, used_at, first_at, end_at}

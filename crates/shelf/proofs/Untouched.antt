@@ -1,7 +1,6 @@
 -- A writer's file of which some blocks are replaced by bytes whose sum is wrong: every other block is good, and what is kept are the untouched records.
 use Rattle.std.proofs.Common.{◌≡◌, ℕ, zero, suc, ◌+◌, ◌-◌, ◌*◌, ◌/◌, ◌%◌, ◌<◌, ◌≤◌, min, Bool, true, false, cond, eqb, ◌⊎◌, List, [], ◌∷◌, ◌++◌, length, sym, refl, ap, ◌∙◌, inl, inr, ⊎_elim, append_assoc, append-nil, arith, length-append, le-ltb, lt-ltb, eq-eqb, ne_eqb}
-use Rattle.shelf.specs.declared.answers.Walk.TheVariants.{To}
-use Rattle.shelf.specs.declared.answers.Stepped.TheVariants.{On}
+use Rattle.shelf.specs.Answers.{To, On}
 use Rattle.shelf.specs.Stream.{byte_at, length_at, next, walk, named, first_from}
 use Rattle.shelf.specs.Block.{bytes_from, sum_to, used_in, blocks_for, file_of}
 use Rattle.shelf.specs.Judge.{byte_of, blocks, number_at, first_at, sum_at, end_at, reason, walked, in_step}

@@ -1,8 +1,7 @@
 -- Following records: the steps of a walk as a relation, by which every law of it is an induction; walks one after another; walks over bytes that agree.
 use Rattle.std.proofs.Common.{◌≡◌, ℕ, zero, suc, ◌+◌, ◌<◌, ◌≤◌, cond, ltb, sym, refl, ap, ◌∙◌, ⊎_elim, arith, le-ltb, lt-ltb}
 use Rattle.shelf.proofs.Sides.{less}
-use Rattle.shelf.specs.declared.answers.Walk.{Walk}
-use Rattle.shelf.specs.declared.answers.Walk.TheVariants.{Over, To}
+use Rattle.shelf.specs.Answers.{Walk, Over, To}
 use Rattle.shelf.specs.Stream.{length_at, next, walk_by, walk}
 
 -- more steps than enough change nothing

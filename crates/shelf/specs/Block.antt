@@ -2,8 +2,7 @@
 use Rattle.std.specs.Prelude.{ℕ, zero, suc, ◌+◌, ◌-◌, ◌*◌, ◌/◌, ◌%◌, cond, List, [], ◌∷◌, ◌++◌, length, replicate, nat_lt}
 use Rattle.numbers.specs.Limit.{block_data, block_words, no_start}
 use Rattle.buffers.specs.Bytes.{four, two, word_from}
-use Rattle.shelf.specs.declared.answers.Walk.{Walk}
-use Rattle.shelf.specs.declared.answers.Walk.TheVariants.{Over, To}
+use Rattle.shelf.specs.Answers.{Walk, Over, To}
 use Rattle.shelf.specs.Stream.{walk, first_from}
 
 -- k bytes from a place on

@@ -4,7 +4,8 @@ use Rattle.numbers.specs.Refusal.{area_size}
 use Rattle.numbers.specs.Limit.{most_word, shelf_area}
 pub use Rattle.buffers.specs.Back.{Back, back, zeros}
 use Rattle.buffers.specs.Bytes.{bytes_of}
-use Rattle.shelf.specs.declared.answers.Answer.{Answer}
+use Rattle.shelf.specs.declared.answers.Sizes.{Sizes}
+use Rattle.shelf.specs.Answers.{Answer}
 use Rattle.shelf.specs.Shelf.{Outcome, filled, shelf_write, shelf_read}
 use Rattle.shelf.specs.Salvage.{salvage}
 
@@ -23,6 +24,9 @@ area_words a entries dropped =
 
 unfoldable pub area_of : Answer → (entries dropped : ℕ) → List ℕ
 area_of a entries dropped = bytes_of (area_words a entries dropped)
+
+abbrev pub at_place : ℕ → Sizes → Answer
+at_place place s = record { number = 0; place = place; records = s.records; stream = s.stream; file = s.file }
 
 -- the area's size first: an area of another size, and the output buffer, are zero throughout
 unfoldable pub called : (area room : ℕ) → Outcome → Back

@@ -3,10 +3,7 @@ use Rattle.std.specs.Prelude.{ℕ, zero, suc, ◌+◌, ◌-◌, ◌*◌, ◌/◌
 use Rattle.numbers.specs.Limit.{block_bytes, block_head, block_body, block_data, block_words, no_start}
 use Rattle.numbers.specs.Refusal.{accepted, block_check, block_turn, block_layout}
 use Rattle.buffers.specs.Bytes.{word_from, half_from}
-use Rattle.shelf.specs.declared.answers.Walk.{Walk}
-use Rattle.shelf.specs.declared.answers.Walk.TheVariants.{Over, To}
-use Rattle.shelf.specs.declared.answers.Stepped.{Stepped}
-use Rattle.shelf.specs.declared.answers.Stepped.TheVariants.{Off, On}
+use Rattle.shelf.specs.Answers.{Walk, Over, To, Stepped, Off, On}
 use Rattle.shelf.specs.Stream.{walk, first_from}
 use Rattle.shelf.specs.Block.{sum_to}
 

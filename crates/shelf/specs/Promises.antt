@@ -1,8 +1,7 @@
 -- What the functions that make blocks of a stream ask and answer, whether it lies in a stream or in a file.
 use Rattle.std.specs.Prelude.{◌≡◌, ℕ, ◌+◌, ◌*◌, ◌≤◌}
 use Rattle.numbers.specs.Limit.{block_data}
-use Rattle.shelf.specs.declared.answers.Walk.{Walk}
-use Rattle.shelf.specs.declared.answers.Walk.TheVariants.{Over, To}
+use Rattle.shelf.specs.Answers.{Walk, Over, To}
 use Rattle.shelf.specs.Stream.{walk}
 
 -- one walk after another

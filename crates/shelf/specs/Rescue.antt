@@ -1,35 +1,33 @@
 -- What the functions that salvage answer and ask, over the definition of a salvage.
-use Rattle.std.specs.Prelude.{◌≡◌, ℕ, zero, suc, ◌+◌, ◌-◌, ◌*◌, ◌/◌, ◌%◌, ◌<◌, ◌≤◌, Bool, false, cond, List, [], ◌∷◌, ◌++◌, length, ◌==◌, nat_le, nat_lt, slice_set}
+use Rattle.std.specs.Prelude.{◌≡◌, ℕ, zero, suc, ◌+◌, ◌-◌, ◌*◌, ◌/◌, ◌%◌, ◌<◌, ◌≤◌, Bool, false, cond, Option, Some, None, Result, Ok, Err, List, [], ◌∷◌, ◌++◌, length, ◌==◌, nat_le, nat_lt, slice_set}
 use Rattle.std.proofs.lemmas.List.Edits.{sets}
 use Rattle.numbers.specs.Limit.{block_bytes, block_data, most_blocks, dropped}
 use Rattle.numbers.specs.Refusal.{block_layout}
+use Rattle.numbers.specs.Refused.{number_of}
+use Rattle.numbers.specs.declared.refusal.Refusal.{Refusal}
 use Rattle.buffers.specs.Bytes.{bytes_of}
-use Rattle.shelf.specs.declared.answers.Known.{Known}
-use Rattle.shelf.specs.declared.answers.Known.TheVariants.{Lost, From}
-use Rattle.shelf.specs.declared.answers.Judged.{Judged}
-use Rattle.shelf.specs.declared.answers.Judged.TheVariants.{Bad, Good}
+use Rattle.shelf.specs.declared.answers.Trail.{Trail}
 use Rattle.shelf.specs.declared.answers.Kept.{Kept}
 use Rattle.shelf.specs.declared.answers.Listed.{Listed}
 use Rattle.shelf.specs.declared.answers.Tally.{Tally}
 use Rattle.shelf.specs.declared.answers.Stand.{Stand}
-use Rattle.shelf.specs.declared.answers.Rescued.{Rescued}
+use Rattle.shelf.specs.Answers.{Rescued}
 use Rattle.shelf.specs.Judge.{place_of, byte_of, blocks, number_at, used_at}
 use Rattle.shelf.specs.Shelf.{filled}
-use Rattle.shelf.specs.Salvage as salvage
-use Rattle.shelf.specs.Salvage.{Turn, Stretch, Entry, Salvaged, kept_by, good_entries, bad_entry, entry_words}
+use Rattle.shelf.specs.Salvage.{Turn, any, only, Known, lost, from, Judged, bad, good, Stretch, Entry, Salvaged, kept_by, stretch, stretches_by, good_entries, bad_entry, entry_words}
 
 -- what the code knows, as the definition has it
-unfoldable pub known_of : Known → salvage.Known
-known_of Lost = salvage.Known.lost
-known_of (From start p c) = salvage.Known.from start p c
+abbrev pub known_of : Option Trail → Known
+known_of None = lost
+known_of (Some t) = from t.start t.reached.place t.reached.count
 
-unfoldable pub judged_of : Judged → salvage.Judged
-judged_of (Bad r) = salvage.Judged.bad r
-judged_of (Good now) = salvage.Judged.good (known_of now)
+abbrev pub judged_of : Result (Option Trail) Refusal → Judged
+judged_of (Err r) = bad (number_of r)
+judged_of (Ok now) = good (known_of now)
 
 -- the turn of block i of the stretch that begins at `first`: behind a good block of it the number that follows, else any
 unfoldable pub turn_at : List ℕ → (first i : ℕ) → Turn
-turn_at f first i = cond (nat_lt first i) (Turn.only (number_at f (i - 1) + 1)) Turn.any
+turn_at f first i = cond (nat_lt first i) (only (number_at f (i - 1) + 1)) any
 
 -- the records kept from a start on, and those of a stretch
 unfoldable pub kept_from : List ℕ → (end start : ℕ) → Kept
@@ -73,7 +71,7 @@ pub record Gathered : Type 0 where
 
 abbrev pub held : Tally → (fresh list : List ℕ) → Gathered
 held t fresh list =
-    record { records = t.records; stream = t.stream; fresh = fresh; listing = record { entries = t.entries; dropped = t.dropped; list = list } }
+    record { records = t.records; stream = t.stream; fresh = fresh; listing = told t.listed list }
 
 unfoldable pub entries_in : List ℕ → Stretch → List Entry
 entries_in f s = good_entries (s.last - s.first) f s s.first ++ bad_entry s.last s.reason
@@ -97,11 +95,11 @@ gathered f g [] = g
 gathered f g (s ∷ ss) = gathered f (gather_one f g s) ss
 
 abbrev pub nothing : Tally
-nothing = record { records = 0; stream = 0; entries = 0; dropped = 0 }
+nothing = record { records = 0; stream = 0; listed = record { entries = 0; dropped = 0 } }
 
 -- the stretches that are still to come from block i on
 unfoldable pub to_come : List ℕ → (i first : ℕ) → Known → List Stretch
-to_come f i first known = salvage.stretches_by (blocks f - i) f i first (turn_at f first i) (known_of known)
+to_come f i first known = stretches_by (blocks f - i) f i first (turn_at f first i) known
 
 -- the reason of what is left behind the blocks
 unfoldable pub left_over : List ℕ → ℕ
@@ -117,18 +115,18 @@ pub record Goods (f : List ℕ) (first i : ℕ) : Type 0 where
 
 -- the next record, where it is known, begins past the blocks before
 pub record Next (f : List ℕ) (i : ℕ) (known : Known) : Type 0 where
-  pub fewer : (start p c : ℕ) → known ≡ From start p c → c ≤ p
-  pub past : (start p c : ℕ) → known ≡ From start p c → i < blocks f → block_data * i ≤ p + 1
+  pub fewer : (start p c : ℕ) → known ≡ from start p c → c ≤ p
+  pub past : (start p c : ℕ) → known ≡ from start p c → i < blocks f → block_data * i ≤ p + 1
 
 -- and the first was named in this stretch
 pub record Ready (f : List ℕ) (first i : ℕ) (known : Known) : Type 0 where
   pub next : Next f i known
-  pub after : (start p c : ℕ) → known ≡ From start p c → block_data * first ≤ start
-  pub before : (start p c : ℕ) → known ≡ From start p c → start ≤ block_data * i
+  pub after : (start p c : ℕ) → known ≡ from start p c → block_data * first ≤ start
+  pub before : (start p c : ℕ) → known ≡ from start p c → start ≤ block_data * i
 
 -- what is kept of a stretch, and that it lies in its blocks
 pub record Keeps (f : List ℕ) (first last : ℕ) (known : Known) (r : Kept) : Type 0 where
-  pub kept : r ≡ kept_in (salvage.stretch f first last (known_of known) 0)
+  pub kept : r ≡ kept_in (stretch f first last known 0)
   pub after : block_data * first ≤ r.start
   pub on : r.start ≤ r.stop
   pub most : r.stop ≤ block_data * last
@@ -142,13 +140,12 @@ pub record Few (n : ℕ) (l : Listed) : Type 0 where
 pub record Within (n : ℕ) (t : Tally) : Type 0 where
   pub records : t.records ≤ t.stream
   pub stream : t.stream ≤ block_data * n
-  pub entries : t.entries ≤ n
-  pub dropped : t.dropped ≤ block_data * n
+  pub listed : Few n t.listed
 
 pub record Stands (f : List ℕ) (i : ℕ) (s : Stand) : Type 0 where
   pub begun : s.first ≤ i
   pub goods : Goods f s.first i
-  pub ready : Ready f s.first i s.known
+  pub ready : Ready f s.first i (known_of s.known)
   pub tally : Within s.first s.tally
 
 -- room for m blocks, each with a number, and for the entries

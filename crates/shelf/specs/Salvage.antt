@@ -3,9 +3,7 @@ use Rattle.std.specs.Prelude.{ℕ, zero, suc, ◌+◌, ◌-◌, ◌*◌, ◌/◌
 use Rattle.numbers.specs.Limit.{block_bytes, block_data, no_start, most_word, most_blocks, dropped}
 use Rattle.numbers.specs.Refusal.{block_layout, payload_room}
 use Rattle.buffers.specs.Bytes.{bytes_of}
-use Rattle.shelf.specs.declared.answers.Stepped.{Stepped}
-use Rattle.shelf.specs.declared.answers.Stepped.TheVariants.{Off, On}
-use Rattle.shelf.specs.declared.answers.Answer.{Answer}
+use Rattle.shelf.specs.Answers.{Stepped, Off, On, Answer}
 use Rattle.shelf.specs.Stream.{byte_at, next, walk}
 use Rattle.shelf.specs.Block.{bytes_from, blocks_for, file_of}
 use Rattle.shelf.specs.Judge.{byte_of, blocks, number_at, first_at, end_at, reason, walked, in_step}

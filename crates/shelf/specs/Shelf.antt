@@ -2,13 +2,7 @@
 use Rattle.std.specs.Prelude.{◌≡◌, ℕ, zero, suc, ◌+◌, ◌-◌, ◌*◌, ◌/◌, ◌%◌, cond, List, [], ◌++◌, length, replicate, ◌==◌, nat_lt}
 use Rattle.numbers.specs.Limit.{block_bytes, most_blocks}
 use Rattle.numbers.specs.Refusal.{block_layout, payload_room}
-use Rattle.shelf.specs.declared.answers.Soundness.{Soundness}
-use Rattle.shelf.specs.declared.answers.Soundness.TheVariants.{Sound, Faulty}
-use Rattle.shelf.specs.declared.answers.Stepped.{Stepped}
-use Rattle.shelf.specs.declared.answers.Stepped.TheVariants.{Off, On}
-use Rattle.shelf.specs.declared.answers.Scan.{Scan}
-use Rattle.shelf.specs.declared.answers.Scan.TheVariants.{Refused, Whole}
-use Rattle.shelf.specs.declared.answers.Answer.{Answer}
+use Rattle.shelf.specs.Answers.{Soundness, Sound, Faulty, Stepped, Off, On, Scan, Refused, Whole, Answer}
 use Rattle.shelf.specs.Stream.{byte_at, fault}
 use Rattle.shelf.specs.Block.{bytes_from, blocks_for, file_of}
 use Rattle.shelf.specs.Judge.{byte_of, blocks, reason, in_step}

@@ -1,10 +1,7 @@
 -- A stream of records, by the byte at each place: a record is length, root name and root type, two bytes each, then `length` bytes.
 use Rattle.std.specs.Prelude.{ℕ, zero, suc, ◌+◌, ◌-◌, ◌*◌, ◌/◌, cond, List, ◌==◌, nat_lt, slice_index}
 use Rattle.numbers.specs.Limit.{most_payload, record_head, block_data, no_start}
-use Rattle.shelf.specs.declared.answers.Walk.{Walk}
-use Rattle.shelf.specs.declared.answers.Walk.TheVariants.{Over, To}
-use Rattle.shelf.specs.declared.answers.Soundness.{Soundness}
-use Rattle.shelf.specs.declared.answers.Soundness.TheVariants.{Sound, Faulty}
+use Rattle.shelf.specs.Answers.{Walk, Over, To, Soundness, Sound, Faulty}
 
 -- a list of bytes by place
 abbrev pub byte_at : List ℕ → ℕ → ℕ

@@ -3,10 +3,7 @@ use Rattle.std.specs.Prelude.{◌≡◌, ℕ, ◌/◌, ◌<◌, ◌≤◌, List,
 use Rattle.numbers.specs.Limit.{most_payload, block_bytes, most_blocks}
 use Rattle.numbers.specs.Refusal.{block_layout}
 use Rattle.buffers.specs.Bytes.{two}
-use Rattle.shelf.specs.declared.answers.Soundness.{Soundness}
-use Rattle.shelf.specs.declared.answers.Soundness.TheVariants.{Sound, Faulty}
-use Rattle.shelf.specs.declared.answers.Scan.{Scan}
-use Rattle.shelf.specs.declared.answers.Scan.TheVariants.{Refused, Whole}
+use Rattle.shelf.specs.Answers.{Soundness, Sound, Faulty, Scan, Refused, Whole}
 use Rattle.shelf.specs.Stream.{byte_at, fault}
 use Rattle.shelf.specs.Block.{blocks_for, file_of}
 use Rattle.shelf.specs.Shelf.{refuses, gives, shelf_write, shelf_read}

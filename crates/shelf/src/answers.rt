@@ -1,57 +1,48 @@
 // What the functions on streams and files answer.
+use numbers::refusal::{Fault, Refusal};
 
-// How far records could be followed: where one begins whose length is too great; or where the next begins, and how many were passed.
+// Where the next record of a stream begins, and how many were passed.
 #[derive(Clone, Copy)]
-pub enum Walk {
-    Over(usize),
-    To(usize, usize),
-}
-
-// Whether a stream is whole records, and how many; or the block at fault.
-#[derive(Clone, Copy)]
-pub enum Soundness {
-    Sound(usize),
-    Faulty(usize),
-}
-
-// Whether a block is in step with the stream before it, and then as Walk::To.
-#[derive(Clone, Copy)]
-pub enum Stepped {
-    Off,
-    On(usize, usize),
-}
-
-// What became of the blocks of a file: number and block of a refusal; or the bytes and the records of the stream.
-#[derive(Clone, Copy)]
-pub enum Scan {
-    Refused(u32, usize),
-    Whole(usize, usize),
-}
-
-// What writing or reading answers: the number, the block at fault; how many records, bytes of the stream, bytes of the file.
-#[derive(Clone, Copy)]
-pub struct Answer {
-    pub number: u32,
+pub struct Reached {
     pub place: usize,
+    pub count: usize,
+}
+
+// How far records could be followed; or where one begins whose length is too great.
+pub type Walk = Result<Reached, usize>;
+
+// How many records a stream is; or the block at fault, where it is no whole records.
+pub type Soundness = Result<usize, usize>;
+
+// Where the stream has come to behind a block that is in step with it.
+pub type Stepped = Option<Reached>;
+
+// The bytes and the records of a file's stream; or what is refused, and the block.
+pub type Scan = Result<Reached, Fault<usize>>;
+
+// How many records, bytes of the stream, bytes of the file.
+#[derive(Clone, Copy)]
+pub struct Sizes {
     pub records: usize,
     pub stream: usize,
     pub file: usize,
 }
 
-// What is known before a block of a damaged file: no record's start; or where the first one that was named begins, where the next begins, and how many
-// were passed.
+// What writing or reading answers; what is refused is so at a block.
+pub type Answer = Result<Sizes, Fault<usize>>;
+
+// Where the first record begins that was named in a stretch of good blocks, and how far the records are followed from it.
 #[derive(Clone, Copy)]
-pub enum Known {
-    Lost,
-    From(usize, usize, usize),
+pub struct Trail {
+    pub start: usize,
+    pub reached: Reached,
 }
 
-// A block judged with what stands before it: why it is bad; or what is known behind it.
-#[derive(Clone, Copy)]
-pub enum Judged {
-    Bad(u32),
-    Good(Known),
-}
+// What is known before a block of a damaged file; of no record's start, nothing.
+pub type Known = Option<Trail>;
+
+// A block judged with what stands before it: what is known behind it; or why it is bad.
+pub type Judged = Result<Known, Refusal>;
 
 // The records that are kept of a stretch of good blocks: where the first begins, where the last ends, and how many they are.
 #[derive(Clone, Copy)]
@@ -73,8 +64,7 @@ pub struct Listed {
 pub struct Tally {
     pub records: usize,
     pub stream: usize,
-    pub entries: usize,
-    pub dropped: usize,
+    pub listed: Listed,
 }
 
 // Before a block: where its stretch begins, what is known, and what was salvaged of the stretches before.
@@ -85,10 +75,12 @@ pub struct Stand {
     pub tally: Tally,
 }
 
-// What a salvage answers: as writing does, then the entries of the list and the bytes that they tell of.
+// What a salvage gives: the new file's sizes, and the list of what is dropped.
 #[derive(Clone, Copy)]
-pub struct Rescued {
-    pub answer: Answer,
-    pub entries: usize,
-    pub dropped: usize,
+pub struct Saved {
+    pub sizes: Sizes,
+    pub listed: Listed,
 }
+
+// What a salvage answers.
+pub type Rescued = Result<Saved, Fault<usize>>;

@@ -1,10 +1,11 @@
 // Making the blocks of a file.
 ghost use Rattle.std.specs.Prelude.{◌≡◌, ◌+◌, ◌*◌, ◌<◌, ◌≤◌, ◌++◌, length, take, drop};
 ghost use Rattle.numbers.specs.Limit.{block_bytes, block_data, most_blocks};
+ghost use Rattle.shelf.specs.Answers.{walk_of};
 ghost use Rattle.shelf.specs.Block.{bytes_from, head_of, block, used_in, blocks_for, block_in, cut};
 ghost use Rattle.shelf.specs.Stream.{byte_at, walk};
 
-use crate::answers::Walk;
+use crate::answers::{Reached, Walk};
 use crate::stream::{name_after, walk_on};
 use crate::sums::sum_words;
 use buffers::{clear, put_half, put_word};
@@ -16,11 +17,7 @@ pub fn copy_bytes(s: &[u8], from: usize, d: &mut [u8], to: usize, k: usize)
     ensures { d.new
         ≡ take to d.old ++ bytes_from (byte_at s.now) from k ++ drop (to + k) d.old }
 {
-    let mut i = 0;
-    while i < k {
-        d[to + i] = s[from + i];
-        i += 1;
-    }
+    d[to..to + k].copy_from_slice(&s[from..from + k]);
 }
 
 // A block's head.
@@ -60,10 +57,7 @@ pub fn used_in(n: usize, i: usize) -> usize
     ensures { (result ≡ used_in n i) × (0 < result) × (result ≤ block_data) × (block_data * i + result ≤ n) }
 {
     let left = n - limit::BLOCK_DATA * i;
-    if left < limit::BLOCK_DATA {
-        return left;
-    }
-    limit::BLOCK_DATA
+    left.min(limit::BLOCK_DATA)
 }
 
 // Makes block i, where following the records up to it came to w, and follows them to its end.
@@ -71,9 +65,9 @@ fn cut_block(s: &[u8], b: &mut [u8], i: usize, w: Walk) -> Walk
     requires whole { length b.old ≡ block_bytes }
     requires begun { block_data * i < length s.now }
     requires count { i < most_blocks }
-    requires walked { w ≡ walk (byte_at s.now) (block_data * i) 0 0 }
+    requires walked { walk_of w ≡ walk (byte_at s.now) (block_data * i) 0 0 }
     ensures made { b.new ≡ block_in (byte_at s.now) (length s.now) i }
-    ensures followed { result ≡ walk (byte_at s.now) (block_data * i + used_in (length s.now) i) 0 0 }
+    ensures followed { walk_of result ≡ walk (byte_at s.now) (block_data * i + used_in (length s.now) i) 0 0 }
 {
     let lo = limit::BLOCK_DATA * i;
     let used = used_in(s.len(), i);
@@ -88,15 +82,13 @@ pub fn cut_blocks(s: &[u8], file: &mut [u8], m: usize) -> Walk
     requires { (m ≡ blocks_for (length s.now)) × (m ≤ most_blocks) × (block_bytes * m ≤ length file.old) }
     ensures made { file.new
         ≡ cut (byte_at s.now) (length s.now) m ++ drop (block_bytes * m) file.old }
-    ensures followed { result ≡ walk (byte_at s.now) (length s.now) 0 0 }
+    ensures followed { walk_of result ≡ walk (byte_at s.now) (length s.now) 0 0 }
 {
-    let mut w = Walk::To(0, 0);
-    let mut i = 0;
-    while i < m {
+    let mut w = Ok(Reached { place: 0, count: 0 });
+    for i in 0..m {
         let from = limit::BLOCK_BYTES * i;
         let to = from + limit::BLOCK_BYTES;
         w = cut_block(s, &mut file[from..to], i, w);
-        i += 1;
     }
     w
 }

@@ -1,13 +1,27 @@
 // The calls for a C host: the area's size first, then the answer told in it. Crate bim exports them.
 ghost use Rattle.std.specs.Prelude.{◌≡◌, ◌/◌, ◌%◌, [], ◌∷◌, length};
 ghost use Rattle.numbers.specs.Limit.{shelf_area};
-ghost use Rattle.shelf.specs.Calls.{back, area_of, write_call, read_call, salvage_call};
+ghost use Rattle.shelf.specs.Answers.{answer_of};
+ghost use Rattle.shelf.specs.Calls.{back, area_of, at_place, write_call, read_call, salvage_call};
 
-use crate::answers::Answer;
+use crate::answers::{Answer, Listed, Sizes};
 use crate::rescue::place_word;
 use crate::{read, salvage, write};
 use buffers::{clear, store};
+use numbers::refusal::Refusal;
 use numbers::{limit, refusal};
+
+// What is told of a refusal.
+const NO_SIZES: Sizes = Sizes {
+    records: 0,
+    stream: 0,
+    file: 0,
+};
+
+const NOTHING_LISTED: Listed = Listed {
+    entries: 0,
+    dropped: 0,
+};
 
 // The two words of a number of 8 bytes.
 fn high(x: usize) -> u32
@@ -22,26 +36,43 @@ fn low(x: usize) -> u32
     (x % 4294967296) as u32
 }
 
-// Tells an answer in the area, and gives its number back.
-pub fn tell(area: &mut [u8], a: Answer, entries: usize, dropped: usize) -> u32
+// Puts the place, the sizes and what was listed into the area.
+fn lay(area: &mut [u8], place: usize, sizes: Sizes, listed: Listed)
     requires { length area.old ≡ shelf_area }
-    ensures { (result ≡ a.number) × (area.new ≡ area_of a entries dropped) }
+    ensures { area.new ≡ area_of (at_place place sizes) listed.entries listed.dropped }
 {
     let words = [
-        place_word(a.place),
-        high(a.records),
-        low(a.records),
-        high(a.stream),
-        low(a.stream),
-        high(a.file),
-        low(a.file),
-        high(entries),
-        low(entries),
-        high(dropped),
-        low(dropped),
+        place_word(place),
+        high(sizes.records),
+        low(sizes.records),
+        high(sizes.stream),
+        low(sizes.stream),
+        high(sizes.file),
+        low(sizes.file),
+        high(listed.entries),
+        low(listed.entries),
+        high(listed.dropped),
+        low(listed.dropped),
     ];
     store(&words, area);
-    a.number
+}
+
+// Tells an answer in the area, and gives its number back.
+pub fn tell(area: &mut [u8], a: Answer, listed: Listed) -> u32
+    requires { length area.old ≡ shelf_area }
+    ensures { (result ≡ (answer_of a).number)
+        × (area.new ≡ area_of (answer_of a) listed.entries listed.dropped) }
+{
+    match a {
+        Ok(sizes) => {
+            lay(area, 0, sizes, listed);
+            refusal::ACCEPTED
+        }
+        Err(fault) => {
+            lay(area, fault.at, NO_SIZES, listed);
+            fault.why.number()
+        }
+    }
 }
 
 // Writes a stream as a shelf file.
@@ -52,10 +83,10 @@ pub fn call_write(records: &[u8], file: &mut [u8], area: &mut [u8]) -> u32
     if area.len() != limit::SHELF_AREA {
         clear(file);
         clear(area);
-        return refusal::AREA_SIZE;
+        return Refusal::AreaSize.number();
     }
     let a = write(records, file);
-    tell(area, a, 0, 0)
+    tell(area, a, NOTHING_LISTED)
 }
 
 // Reads a shelf file into the stream of its records.
@@ -66,10 +97,10 @@ pub fn call_read(file: &[u8], records: &mut [u8], area: &mut [u8]) -> u32
     if area.len() != limit::SHELF_AREA {
         clear(records);
         clear(area);
-        return refusal::AREA_SIZE;
+        return Refusal::AreaSize.number();
     }
     let a = read(file, records);
-    tell(area, a, 0, 0)
+    tell(area, a, NOTHING_LISTED)
 }
 
 // Salvages a damaged shelf file: what is whole of it as a new file, and the list of what is dropped.
@@ -82,9 +113,10 @@ pub fn call_salvage(file: &[u8], fresh: &mut [u8], dropped: &mut [u8], area: &mu
         clear(fresh);
         clear(dropped);
         clear(area);
-        return refusal::AREA_SIZE;
+        return Refusal::AreaSize.number();
     }
-    let r = salvage(file, fresh, dropped);
-    let a = r.answer;
-    tell(area, a, r.entries, r.dropped)
+    match salvage(file, fresh, dropped) {
+        Ok(saved) => tell(area, Ok(saved.sizes), saved.listed),
+        Err(fault) => tell(area, Err(fault), NOTHING_LISTED),
+    }
 }

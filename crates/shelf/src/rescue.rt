@@ -1,14 +1,17 @@
 // Salvaging a damaged file: its blocks judged one by one, what is kept laid into the new file, what is dropped listed.
-ghost use Rattle.std.specs.Prelude.{◌≡◌, ◌+◌, ◌-◌, ◌*◌, ◌/◌, ◌<◌, ◌≤◌, min, max, slice_set};
+ghost use Rattle.std.specs.Prelude.{◌≡◌, ◌+◌, ◌-◌, ◌*◌, ◌/◌, ◌<◌, ◌≤◌, min, slice_set};
 ghost use Rattle.numbers.specs.Limit.{block_bytes, block_data, most_word};
+ghost use Rattle.shelf.specs.Answers.{stepped_of, reason_of};
 ghost use Rattle.shelf.specs.Judge.{place_of, byte_of, blocks, used_at, end_at};
 ghost use Rattle.shelf.specs.Salvage as meaning;
 ghost use Rattle.shelf.specs.Salvage.{dropped_in, good_entry, bad_entry, stretch, stretches};
 ghost use Rattle.shelf.specs.Rescue.{known_of, judged_of, turn_at, kept_from, place_after, laid, told, entered, listing, held, gather_one, gathered, nothing, to_come, left_over, good_in, many_blocks, Goods, Next, Ready, Keeps, Few, Within, Stands};
 
-use crate::answers::{Judged, Kept, Known, Listed, Stand, Stepped, Tally};
-use crate::judge::{first_at, in_step, length_at, reason, used_at, walk_file, walked};
-use buffers::{put_word, word};
+use crate::answers::{Judged, Kept, Known, Listed, Reached, Stand, Stepped, Tally, Trail};
+use crate::judge::{File, first_at, in_step, number_at, place_of, reason, used_at, walked};
+use crate::stream::{Stream, walk};
+use buffers::put_word;
+use numbers::refusal::Refusal;
 use numbers::{limit, refusal};
 
 const MOST_PLACE: usize = limit::MOST_WORD as usize;
@@ -25,64 +28,70 @@ pub fn place_word(place: usize) -> u32
 }
 
 // The number that block i must have: the one that follows its neighbour's, where that is good; else any, so its own.
+#[tactic(auto, unfolding(crate::specs::Salvage::wanted, crate::specs::Rescue::turn_at))]
 fn wanted(f: &[u8], first: usize, i: usize) -> usize
     requires { (first ≤ i) × (i < blocks f.now) }
     ensures { result ≡ meaning.wanted f.now i (turn_at f.now first i) }
 {
     if first < i {
-        let before = word(f, limit::BLOCK_BYTES * (i - 1)) as usize;
-        return before + 1;
+        return number_at(f, i - 1) + 1;
     }
-    word(f, limit::BLOCK_BYTES * i) as usize
+    number_at(f, i)
 }
 
 // A block in step is good, and the next record is known behind it.
+#[tactic(auto, unfolding(crate::specs::Salvage::stepped))]
 fn stepped(start: usize, s: Stepped) -> Judged
-    ensures { judged_of result ≡ meaning.stepped start s }
+    ensures { judged_of result ≡ meaning.stepped start (stepped_of s) }
 {
-    let Stepped::On(p, c) = s else {
-        return Judged::Bad(refusal::BLOCK_LAYOUT);
+    let Some(reached) = s else {
+        return Err(Refusal::BlockLayout);
     };
-    Judged::Good(Known::From(start, p, c))
+    Ok(Some(Trail { start, reached }))
 }
 
 // Lost, the first record that the block names is taken at its word.
+#[tactic(auto, unfolding(crate::specs::Salvage::taken))]
 fn take_up(f: &[u8], i: usize) -> Judged
     requires { (i < blocks f.now) × (0 < used_at f.now i) × (used_at f.now i ≤ block_data) }
     ensures { judged_of result ≡ meaning.taken f.now i meaning.Known.lost }
 {
     let first = first_at(f, i);
     if first == limit::NO_START {
-        return Judged::Good(Known::Lost);
+        return Ok(None);
     }
     let lo = limit::BLOCK_DATA * i;
     let start = lo + first as usize;
     let end = lo + used_at(f, i);
-    let w = walk_file(f, end, start, 0);
-    stepped(start, walked(f, i, w))
+    let named = Reached {
+        place: start,
+        count: 0,
+    };
+    stepped(start, walked(f, i, walk(File(f), end, named)))
 }
 
 // What the stream says of a block that is fine alone.
+#[tactic(auto, unfolding(crate::specs::Salvage::taken))]
 fn taken(f: &[u8], i: usize, known: Known) -> Judged
-    requires { (i < blocks f.now) × (0 < used_at f.now i) × (used_at f.now i ≤ block_data) × Next f.now i known }
+    requires { (i < blocks f.now)
+        × (0 < used_at f.now i)
+        × (used_at f.now i ≤ block_data)
+        × Next f.now i (known_of known) }
     ensures { judged_of result ≡ meaning.taken f.now i (known_of known) }
 {
-    let Known::From(start, next, count) = known else {
+    let Some(trail) = known else {
         return take_up(f, i);
     };
-    stepped(start, in_step(f, i, next, count))
+    stepped(trail.start, in_step(f, i, trail.reached))
 }
 
 // Judges block i of the stretch that begins at `first`.
 fn judge_block(f: &[u8], first: usize, i: usize, known: Known) -> Judged
-    requires { (first ≤ i) × (i < blocks f.now) × Ready f.now first i known }
+    requires { (first ≤ i) × (i < blocks f.now) × Ready f.now first i (known_of known) }
     ensures { judged_of result ≡ meaning.judge f.now i (turn_at f.now first i) (known_of known) }
 {
-    let number = reason(f, i, wanted(f, first, i));
-    if number == refusal::ACCEPTED {
-        return taken(f, i, known);
-    }
-    Judged::Bad(number)
+    reason(f, i, wanted(f, first, i))?;
+    taken(f, i, known)
 }
 
 // The records from a start on that end by `end`.
@@ -92,8 +101,9 @@ fn kept_by(f: &[u8], end: usize, start: usize) -> Kept
 {
     let mut next = start;
     let mut count = 0;
+    // The next place hangs on the bytes read, so that no iterator gives it.
     while next + 1 < end {
-        let after = next + limit::RECORD_HEAD + length_at(f, next);
+        let after = next + limit::RECORD_HEAD + File(f).length_at(next);
         if end < after {
             return Kept {
                 start,
@@ -112,6 +122,7 @@ fn kept_by(f: &[u8], end: usize, start: usize) -> Kept
 }
 
 // Where the bytes of the good blocks from `first` up to `last` end.
+#[tactic(auto, unfolding(crate::specs::Salvage::ending))]
 fn ending(f: &[u8], first: usize, last: usize) -> usize
     requires { (first ≤ last) × (last ≤ blocks f.now) }
     ensures { result ≡ meaning.ending f.now first last }
@@ -125,28 +136,25 @@ fn ending(f: &[u8], first: usize, last: usize) -> usize
 
 // The records that are kept of those blocks.
 fn keep(f: &[u8], first: usize, last: usize, known: Known) -> Kept
-    requires { (first ≤ last) × (last ≤ blocks f.now) × Goods f.now first last × Ready f.now first last known }
-    ensures { Keeps f.now first last known result }
+    requires { (first ≤ last)
+        × (last ≤ blocks f.now)
+        × Goods f.now first last
+        × Ready f.now first last (known_of known) }
+    ensures { Keeps f.now first last (known_of known) result }
 {
     let end = ending(f, first, last);
-    let Known::From(start, _, _) = known else {
+    let Some(trail) = known else {
         return Kept {
             start: end,
             stop: end,
             count: 0,
         };
     };
-    kept_by(f, end, start)
+    kept_by(f, end, trail.start)
 }
 
-// Where byte k of a stream lies in its file, and where the byte behind one lies.
-fn place_of(k: usize) -> usize
-    requires { k / block_data < many_blocks }
-    ensures { result ≡ place_of k }
-{
-    limit::BLOCK_BYTES * (k / limit::BLOCK_DATA) + limit::BLOCK_HEAD + k % limit::BLOCK_DATA
-}
-
+// Where the byte behind the one at a place lies.
+#[tactic(auto, unfolding(crate::specs::Rescue::place_after))]
 fn place_after(place: usize) -> usize
     requires { place / block_bytes + 1 < many_blocks }
     ensures { result ≡ place_after place }
@@ -173,54 +181,29 @@ fn lay(f: &[u8], start: usize, k: usize, fresh: &mut [u8], at: usize)
 {
     let mut from = place_of(start);
     let mut to = place_of(at);
-    let mut i = 0;
-    while i < k {
+    for _i in 0..k {
         put(fresh, to, f[from]);
         from = place_after(from);
         to = place_after(to);
-        i += 1;
     }
 }
 
 // An entry put behind the others, where the list has room for it.
-fn enter(list: &mut [u8], entries: usize, block: usize, reason: u32, bytes: u32)
+#[tactic(auto, unfolding(crate::specs::Rescue::entered))]
+fn enter(list: &mut [u8], entries: usize, block: usize, reason: Option<Refusal>, bytes: u32)
     ensures { list.new
-        ≡ entered list.old entries (record { block = block; reason = reason; bytes = bytes }) }
+        ≡ entered list.old entries (record { block = block; reason = reason_of reason; bytes = bytes }) }
 {
+    let number = match reason {
+        Some(why) => why.number(),
+        None => refusal::ACCEPTED,
+    };
     if entries < list.len() / limit::DROPPED {
         let at = limit::DROPPED * entries;
         put_word(list, at, place_word(block));
-        put_word(list, at + 4, reason);
+        put_word(list, at + 4, number);
         put_word(list, at + 8, bytes);
     }
-}
-
-// How many bytes lie from a up to b.
-fn between(a: usize, b: usize) -> usize
-    ensures { result ≡ b - a }
-{
-    if a < b {
-        return b - a;
-    }
-    0
-}
-
-fn least(a: usize, b: usize) -> usize
-    ensures { result ≡ min a b }
-{
-    if a < b {
-        return a;
-    }
-    b
-}
-
-fn most(a: usize, b: usize) -> usize
-    ensures { result ≡ max a b }
-{
-    if a < b {
-        return b;
-    }
-    a
 }
 
 // Of the bytes from lo up to hi, those before the first kept record and those behind the last.
@@ -228,24 +211,25 @@ fn dropped_in(lo: usize, hi: usize, start: usize, stop: usize) -> usize
     requires { hi ≤ lo + 65535 }
     ensures { result ≡ dropped_in lo hi start stop }
 {
-    between(lo, least(hi, start)) + between(most(lo, stop), hi)
+    hi.min(start).saturating_sub(lo) + hi.saturating_sub(lo.max(stop))
 }
 
 // Lists a good block that has bytes in no kept record.
-fn list_good(f: &[u8], i: usize, start: usize, stop: usize, list: &mut [u8], l: Listed) -> Listed
-    requires { (i < blocks f.now) × (used_at f.now i ≤ block_data) × (start ≤ stop) × Few i l }
+#[tactic(auto, unfolding(crate::specs::Salvage::good_entry, crate::specs::Rescue::listing))]
+fn list_good(f: &[u8], i: usize, kept: Kept, list: &mut [u8], l: Listed) -> Listed
+    requires { (i < blocks f.now) × (used_at f.now i ≤ block_data) × (kept.start ≤ kept.stop) × Few i l }
     ensures listed { told result list.new
         ≡ listing (told l list.old)
-        (good_entry i (dropped_in (block_data * i) (end_at f.now i) start stop)) }
+        (good_entry i (dropped_in (block_data * i) (end_at f.now i) kept.start kept.stop)) }
     ensures few { Few (i + 1) result }
 {
     let lo = limit::BLOCK_DATA * i;
     let hi = lo + used_at(f, i);
-    let n = dropped_in(lo, hi, start, stop);
+    let n = dropped_in(lo, hi, kept.start, kept.stop);
     if n == 0 {
         return l;
     }
-    enter(list, l.entries, i, refusal::ACCEPTED, n as u32);
+    enter(list, l.entries, i, None, n as u32);
     Listed {
         entries: l.entries + 1,
         dropped: l.dropped + n,
@@ -257,32 +241,35 @@ fn list_stretch(
     f: &[u8],
     first: usize,
     last: usize,
-    start: usize,
-    stop: usize,
+    kept: Kept,
     list: &mut [u8],
     l: Listed,
 ) -> Listed
-    requires { (first ≤ last) × (last ≤ blocks f.now) × (start ≤ stop) × Goods f.now first last × Few first l }
+    requires { (first ≤ last)
+        × (last ≤ blocks f.now)
+        × (kept.start ≤ kept.stop)
+        × Goods f.now first last
+        × Few first l }
     ensures listed { told result list.new
-        ≡ listing (told l list.old) (good_in f.now first last start stop) }
+        ≡ listing (told l list.old) (good_in f.now first last kept.start kept.stop) }
     ensures few { Few last result }
 {
     let mut now = l;
-    let mut i = first;
-    while i < last {
-        now = list_good(f, i, start, stop, list, now);
-        i += 1;
+    for i in first..last {
+        now = list_good(f, i, kept, list, now);
     }
     now
 }
 
 // Lists a bad block.
-fn list_bad(list: &mut [u8], i: usize, reason: u32, l: Listed) -> Listed
+#[tactic(auto, unfolding(crate::specs::Salvage::bad_entry, crate::specs::Rescue::listing))]
+fn list_bad(list: &mut [u8], i: usize, reason: Option<Refusal>, l: Listed) -> Listed
     requires { (i < many_blocks) × Few i l }
-    ensures listed { told result list.new ≡ listing (told l list.old) (bad_entry i reason) }
+    ensures listed { told result list.new
+        ≡ listing (told l list.old) (bad_entry i (reason_of reason)) }
     ensures few { Few (i + 1) result }
 {
-    if reason == refusal::ACCEPTED {
+    if reason.is_none() {
         return l;
     }
     enter(list, l.entries, i, reason, 0);
@@ -292,45 +279,30 @@ fn list_bad(list: &mut [u8], i: usize, reason: u32, l: Listed) -> Listed
     }
 }
 
-// A stretch ends: what it keeps is laid into the new file, its blocks and the bad one behind it are listed.
+// A stretch ends before block `last`: what it keeps is laid into the new file, its blocks and the bad one behind it are listed.
 fn end_stretch(
     f: &[u8],
-    first: usize,
     last: usize,
-    known: Known,
-    reason: u32,
+    s: Stand,
+    reason: Option<Refusal>,
     fresh: &mut [u8],
     list: &mut [u8],
-    t: Tally,
 ) -> Tally
-    requires { (first ≤ last)
-        × (last ≤ blocks f.now)
-        × Goods f.now first last
-        × Ready f.now first last known
-        × Within first t }
+    requires { (last ≤ blocks f.now) × Stands f.now last s }
     ensures gathered { held result fresh.new list.new
-        ≡ gather_one f.now (held t fresh.old list.old)
-        (stretch f.now first last (known_of known) reason) }
+        ≡ gather_one f.now (held s.tally fresh.old list.old)
+        (stretch f.now s.first last (known_of s.known) (reason_of reason)) }
     ensures within { Within (last + 1) result }
 {
-    let kept = keep(f, first, last, known);
-    let start = kept.start;
-    let stop = kept.stop;
-    let k = stop - start;
-    let records = t.records + kept.count;
-    let stream = t.stream + k;
-    lay(f, start, k, fresh, t.stream);
-    let before = Listed {
-        entries: t.entries,
-        dropped: t.dropped,
-    };
-    let good = list_stretch(f, first, last, start, stop, list, before);
-    let all = list_bad(list, last, reason, good);
+    let kept = keep(f, s.first, last, s.known);
+    let k = kept.stop - kept.start;
+    let tally = s.tally;
+    lay(f, kept.start, k, fresh, tally.stream);
+    let good = list_stretch(f, s.first, last, kept, list, tally.listed);
     Tally {
-        records,
-        stream,
-        entries: all.entries,
-        dropped: all.dropped,
+        records: tally.records + kept.count,
+        stream: tally.stream + k,
+        listed: list_bad(list, last, reason, good),
     }
 }
 
@@ -338,39 +310,34 @@ fn end_stretch(
 fn pass_block(f: &[u8], i: usize, fresh: &mut [u8], list: &mut [u8], s: Stand) -> Stand
     requires { (i < blocks f.now) × Stands f.now i s }
     ensures gathered { gathered f.now (held result.tally fresh.new list.new)
-        (to_come f.now (i + 1) result.first result.known)
+        (to_come f.now (i + 1) result.first (known_of result.known))
         ≡ gathered f.now (held s.tally fresh.old list.old)
-        (to_come f.now i s.first s.known) }
+        (to_come f.now i s.first (known_of s.known)) }
     ensures stands { Stands f.now (i + 1) result }
 {
-    let first = s.first;
-    let known = s.known;
-    let tally = s.tally;
-    match judge_block(f, first, i, known) {
-        Judged::Bad(reason) => {
-            let after = end_stretch(f, first, i, known, reason, fresh, list, tally);
-            Stand {
-                first: i + 1,
-                known: Known::Lost,
-                tally: after,
-            }
-        }
-        Judged::Good(now) => Stand {
-            first,
-            known: now,
-            tally,
+    match judge_block(f, s.first, i, s.known) {
+        Err(reason) => Stand {
+            first: i + 1,
+            known: None,
+            tally: end_stretch(f, i, s, Some(reason), fresh, list),
+        },
+        Ok(known) => Stand {
+            first: s.first,
+            known,
+            tally: s.tally,
         },
     }
 }
 
 // What is left behind the blocks is a bad block.
-fn left_over(f: &[u8]) -> u32
-    ensures { result ≡ left_over f.now }
+#[tactic(auto, unfolding(crate::specs::Rescue::left_over))]
+fn left_over(f: &[u8]) -> Option<Refusal>
+    ensures { reason_of result ≡ left_over f.now }
 {
     if f.len() % limit::BLOCK_BYTES == 0 {
-        return refusal::ACCEPTED;
+        return None;
     }
-    refusal::BLOCK_LAYOUT
+    Some(Refusal::BlockLayout)
 }
 
 // Block by block: lays all that is kept into the new file, and lists all that is dropped.
@@ -382,21 +349,18 @@ pub fn collect(f: &[u8], fresh: &mut [u8], list: &mut [u8]) -> Tally
     let m = f.len() / limit::BLOCK_BYTES;
     let mut s = Stand {
         first: 0,
-        known: Known::Lost,
+        known: None,
         tally: Tally {
             records: 0,
             stream: 0,
-            entries: 0,
-            dropped: 0,
+            listed: Listed {
+                entries: 0,
+                dropped: 0,
+            },
         },
     };
-    let mut i = 0;
-    while i < m {
+    for i in 0..m {
         s = pass_block(f, i, fresh, list, s);
-        i += 1;
     }
-    let first = s.first;
-    let known = s.known;
-    let tally = s.tally;
-    end_stretch(f, first, m, known, left_over(f), fresh, list, tally)
+    end_stretch(f, m, s, left_over(f), fresh, list)
 }

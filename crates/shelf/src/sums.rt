@@ -11,22 +11,12 @@ use numbers::limit;
 // The words that are added in lanes: a multiple of four, and of eight.
 const LANED: usize = 120;
 
-fn wide(x: u8) -> u32
-    ensures { (result ≡ x) × (result < 256) }
-{
-    x as u32
-}
-
 // The word of the four bytes from a place on, the least significant first, which is one load.
 fn little(s: &[u8], at: usize) -> u32
     requires { at + 3 < length s.now }
     ensures { Little s.now at result }
 {
-    let a = wide(s[at]);
-    let b = wide(s[at + 1]);
-    let c = wide(s[at + 2]);
-    let d = wide(s[at + 3]);
-    a + b * 256 + c * 65536 + d * 16777216
+    u32::from_le_bytes([s[at], s[at + 1], s[at + 2], s[at + 3]])
 }
 
 // Every other byte of a word, from the least significant on, each in a lane of its own.
@@ -43,9 +33,9 @@ fn sum_lanes(even: u32, odd: u32) -> u32
     let first = even % 256 * 16777216;
     let second = odd % 65536 * 65536;
     let third = even / 65536 * 256;
-    let upper = std::num::wrapping_add_u32(first, second);
-    let lower = std::num::wrapping_add_u32(third, odd / 65536);
-    std::num::wrapping_add_u32(upper, lower)
+    let upper = first.wrapping_add(second);
+    let lower = third.wrapping_add(odd / 65536);
+    upper.wrapping_add(lower)
 }
 
 // The sum of a block's words but the last, modulo 2^32.
@@ -55,17 +45,14 @@ pub fn sum_words(s: &[u8], from: usize) -> u32
 {
     let mut even = 0;
     let mut odd = 0;
-    let mut i = 0;
-    while i < LANED {
+    for i in 0..LANED {
         let w = little(s, from + 4 * i);
         even += lanes(w);
         odd += lanes(w / 256);
-        i += 1;
     }
     let mut sum = sum_lanes(even, odd);
-    while i < limit::BLOCK_WORDS {
-        sum = std::num::wrapping_add_u32(sum, word(s, from + 4 * i));
-        i += 1;
+    for i in LANED..limit::BLOCK_WORDS {
+        sum = sum.wrapping_add(word(s, from + 4 * i));
     }
     sum
 }

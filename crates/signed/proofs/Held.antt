@@ -1,15 +1,11 @@
--- A number in an i64 local: small ones are held as they are, and those from 0 to 2 ^ 32 - 1 are cast to words.
-use Prim.Native.Nat.{ℕ, zero, suc, ◌+◌, ◌-◌, ◌^◌, ◌<◌, ◌≤◌}
-use mathlib.Core.Path.{◌≡◌, refl, sym, ap, ◌∙◌}
-use mathlib.Core.Bool.{true, false}
+-- A number in an i64 local: small ones are held as they are.
+use Prim.Native.Nat.{ℕ, zero, suc, ◌+◌, ◌^◌, ◌<◌, ◌≤◌}
+use mathlib.Core.Path.{◌≡◌, ap, ◌∙◌}
 use native.Mathlib.Omega.{arith}
-use lib.Dec.{T}
 use lib.IntN.{ℤ, pos, negsuc, neg_ℤ, nat_abs, sub_ℕ, ◌+ℤ◌}
-use lib.Signed.{lt_z, non_neg}
-use borrow.Author.Tests.{ltb-true}
 use mir.Syntax.{w32, w64}
 use mir.Val.{Fits, SFits, to_z, of_z}
-use mir.Facts.{to_z_pos, to_z-of_z, sfits_to_z, sfits_widen}
+use mir.Facts.{to_z-of_z, sfits_to_z, sfits_widen}
 use Rattle.signed.proofs.Laws.{ordered}
 use Rattle.signed.proofs.Numbers.{sub-over, sub-under}
 
@@ -23,10 +19,6 @@ small-fits (negsuc n) h = record { sfits = omega arith }
 
 pub small-held : (z : ℤ) → nat_abs z < 2 ^ 33 → held z ≡ z
 small-held z h = to_z-of_z (small-fits z h)
-
--- a word as a number of 64 bits
-pub widened : (w : ℕ) → Fits w32 w → to_z w64 w ≡ pos w
-widened w f = let h : w < 2 ^ 32 = f.fits in to_z_pos w64 (omega arith)
 
 -- a word's number, as `value` gives it
 pub value-held : (w : ℕ) → Fits w32 w → (x : ℤ) → x ≡ to_z w32 w → held x ≡ to_z w32 w
@@ -50,42 +42,3 @@ sum-small (negsuc a) (negsuc b) = omega arith
 -- so a sum of two numbers of a word's size fits
 pub sum_fits : (x y : ℤ) → nat_abs x < 2 ^ 32 → nat_abs y ≤ 2 ^ 32 → SFits w64 (x +ℤ y)
 sum_fits x y hx hy = small-fits (x +ℤ y) (omega (arith, sum-small x y))
-
--- a test against 0
-pub negative : (z : ℤ) → lt_z z (pos 0) ≡ true → z ≡ negsuc (nat_abs z - 1)
-negative (pos n) e = let h = ltb-true n 0 e in absurd (omega arith)
-negative (negsuc n) e = ap negsuc (omega arith)
-
-pub natural : (z : ℤ) → lt_z z (pos 0) ≡ false → z ≡ pos (nat_abs z)
-natural (pos n) e = refl
-natural (negsuc n) e = let z : ◌≡◌ {A = ℕ} 0 1 = cc in absurd (omega arith)
-
--- a number that a word is
-pub record Narrow (z : ℤ) : Type 0 where
-  pub itself : z ≡ pos (nat_abs z)
-  pub small : nat_abs z < 2 ^ 32
-
-pub narrow-pos : (z : ℤ) (k : ℕ) → z ≡ pos k → k < 2 ^ 32 → Narrow z
-narrow-pos z k e h = rw e (record { itself = refl; small = h })
-
-pub narrow-tested : (z : ℤ) → nat_abs z < 2 ^ 32 → lt_z (held z) (pos 0) ≡ false → Narrow z
-narrow-tested z h e =
-    record {
-      itself = natural z (sym (ap (λ y. lt_z y (pos 0)) (small-held z (omega arith))) ∙ e);
-      small = h;
-    }
-
-module _ (z : ℤ) (n : Narrow z) where
-  pub narrow-held : held z ≡ z
-  narrow-held = small-held z (omega (arith, n.small))
-
-  pub narrow-fits : SFits w64 z
-  narrow-fits = small-fits z (omega (arith, n.small))
-
-  pub narrow-sign : T (non_neg (held z))
-  narrow-sign = rw (narrow-held ∙ n.itself) tt
-
-  pub narrow-cast : Fits w32 (nat_abs (held z))
-  narrow-cast = rw narrow-held (record { fits = n.small })
-
-pub ruleset narrow-ways = (narrow-fits, narrow-sign, narrow-cast)

@@ -6,8 +6,7 @@ use mathlib.Core.Logic.{◌⊎◌, inl, inr}
 use native.Mathlib.Omega.{arith}
 use lib.Dec.{ltb}
 use borrow.Author.Tests.{lt-ltb, le-ltb, ltb-true, ltb-false}
-use Rattle.signed.specs.declared.answers.Gap as code
-use Rattle.signed.specs.declared.answers.Gap.TheVariants.{Under, By}
+use Rattle.std.specs.Prelude.{Option, Some, None}
 use Rattle.signed.specs.Words.{rank, under, by, gap_of, down, sign_of, magnitude_of, word_of}
 use Rattle.signed.specs.Views.{gap_is, bit, Parts}
 
@@ -48,11 +47,11 @@ module _ (b v : ℕ) (hb : b < 2 ^ 32) (hv : v < 2 ^ 32) (k : ℕ) (e : gap_of b
   gap_down = omega (arith, over-gap b v k e)
 
 -- what a match on the code's answer tells
-module _ (b c : ℕ) (r : code.Gap) (e : gap_is r ≡ gap_of b c) where
-  pub met_by : (k : ℕ) → r ≡ By k → gap_of b c ≡ by k
+module _ (b c : ℕ) (r : Option ℕ) (e : gap_is r ≡ gap_of b c) where
+  pub met_by : (k : ℕ) → r ≡ Some k → gap_of b c ≡ by k
   met_by k w = sym e ∙ ap gap_is w
 
-  pub met-under : r ≡ Under → gap_of b c ≡ under
+  pub met-under : r ≡ None → gap_of b c ≡ under
   met-under w = sym e ∙ ap gap_is w
 
 module _ {w : ℕ} {n : Bool} {m : ℕ} (p : Parts w n m) where

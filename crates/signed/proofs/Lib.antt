@@ -1,5 +1,4 @@
 mod Held
-mod Remainders
 mod Ways
 mod Cases
 pub mod Laws

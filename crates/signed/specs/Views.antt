@@ -1,12 +1,10 @@
 -- What the answers of the code mean.
-use Rattle.std.specs.Prelude.{ℕ, ◌≡◌, Bool, true, false}
-use Rattle.signed.specs.declared.answers.Gap as code
-use Rattle.signed.specs.declared.answers.Gap.TheVariants.{Under, By}
+use Rattle.std.specs.Prelude.{ℕ, ◌≡◌, Bool, true, false, Option, Some, None}
 use Rattle.signed.specs.Words.{Gap, under, by, sign_of, magnitude_of}
 
-abbrev pub gap_is : code.Gap → Gap
-gap_is Under = under
-gap_is (By k) = by k
+abbrev pub gap_is : Option ℕ → Gap
+gap_is None = under
+gap_is (Some k) = by k
 
 -- a sign as the wire has it
 abbrev pub bit : Bool → ℕ

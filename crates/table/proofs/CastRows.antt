@@ -1,5 +1,5 @@
 -- One row behind the rows: its verdict from the words that the code has read.
-use Prim.Native.Nat.{ℕ, ◌+◌, ◌*◌, ◌-◌, ◌≤◌, ◌<◌}
+use Prim.Native.Nat.{ℕ, ◌+◌, ◌-◌, ◌≤◌, ◌<◌}
 use mathlib.Core.Path.{◌≡◌, sym, ◌∙◌}
 use mathlib.Core.List.{List, [], ◌∷◌}
 use mathlib.Core.Bool.{Bool, true, false}
@@ -9,21 +9,19 @@ use borrow.Author.Tests.{lt-ltb, le-ltb, le-leb, lt-leb, eq-eqb, ne_eqb}
 use lib.Dec.{leb, eqb}
 use lib.ListN.{get_or, replicate, length-replicate, get_or-replicate, get_or-eq_default}
 use Rattle.signed.proofs.Laws.{ordered}
-use mir.Syntax.{w32, w64}
-use mir.Val.{Fits}
+use Rattle.std.specs.Prelude.{IfErr}
 use Rattle.numbers.specs.Limit.{most_types, most_name}
 use Rattle.numbers.specs.Particle as particle
 use Rattle.table.specs.Words.{particle_at, derived_at, substitute_at, type_pair_at, row_pair_at, word_at}
 use Rattle.table.specs.Stamps.{Stamped, Under}
-use Rattle.table.specs.First.{Verdict, first}
+use Rattle.table.specs.First.{Verdict, first, moved}
 use Rattle.table.specs.First.Verdict.{right, wrong}
 use Rattle.table.specs.Valid.{once, words_from, derived_words, substitute_words, type_pair, row_pair, derived_row, substitute_row, type_pair_row, row_pair_row}
-use Rattle.table.specs.Views.{verdict_is}
-use Rattle.table.specs.declared.answers.Verdict as code
-use Rattle.table.specs.declared.answers.Verdict.TheVariants.{Right, Wrong}
+use Rattle.table.specs.Views.{Checked, verdict_is}
 use Rattle.table.proofs.Tests.{none_left, fails, holds, sum-within, sum_over}
 use Rattle.table.proofs.Lines.{row-pair-length}
-use Rattle.table.proofs.OneRow.{place-below, row-right, row-wrong}
+use Rattle.table.specs.Runs.{RunAt}
+use Rattle.table.proofs.OneRow.{place-small, row-is, read}
 
 -- a derived entry
 module _ (l : List ℕ) (T B i place t : ℕ) (at : place ≡ derived_at B i) (is : t ≡ word_at l place) where
@@ -130,25 +128,15 @@ module _ (i S kind start count : ℕ) (v : Verdict) where
 
 pub ruleset row-words-ways = (pair-of-element, pair-of-other)
 
--- a particle row's pair, behind those of the types
-module _ (l : List ℕ) (T A B D S p pairs base row start count kind : ℕ) (behind : pairs ≡ type_pair_at B D S T) (at : base ≡ pairs + 2 * p)
-    (is : start ≡ word_at l base) (of : count ≡ word_at l (base + 1)) (which : row ≡ particle_at T A p) (says : kind ≡ word_at l row)
-    (r : code.Verdict) (f : verdict_is r ≡ first 0 (row_pair S kind start count)) where
-  stands : base ≡ row_pair_at B D S T p
-  stands = omega arith
-
-  row_words : row_pair S kind start count ≡ row_pair_row (word_at l) T A B D S p
+-- a particle row's pair, and its row's kind
+module _ (l : List ℕ) (T A B D S p base row kind : ℕ) (w : List ℕ) (at : base ≡ row_pair_at B D S T p) (words : RunAt l base 2 w)
+    (which : row ≡ particle_at T A p) (says : kind ≡ word_at l row) (r : Checked) (f : verdict_is r ≡ first 0 (row_pair S kind (word_at w 0) (word_at w 1))) where
+  row_words : row_pair S kind (word_at w 0) (word_at w 1) ≡ row_pair_row (word_at l) T A B D S p
   unfolding row_pair_row
-  row_words = rw (is, of, says, which, stands)
+  row_words = rw (read words 0 base (omega arith) (omega arith), read words 1 (base + 1) (omega arith) (omega arith), says, which, at)
 
-  pub row-pair-right : r ≡ Right → right ≡ first (row_pair_at B D S T p) (row_pair_row (word_at l) T A B D S p)
-  row-pair-right u = row-right (row_pair_at B D S T p) _ _ row_words r f u
+  pub row-pair-small : IfErr r (λ e. e.0 < 8)
+  row-pair-small = place-small _ (omega (arith, row-pair-length S kind (word_at w 0) (word_at w 1))) r f
 
-  pub row-pair-wrong : (k : ℕ) → r ≡ Wrong k → wrong (base + k) ≡ first (row_pair_at B D S T p) (row_pair_row (word_at l) T A B D S p)
-  row-pair-wrong k u = rw stands (row-wrong (row_pair_at B D S T p) _ _ row_words r f k u)
-
--- the place that it names fits a usize
-pub row-pair-fits : (T B D S p pairs base kind start count : ℕ) (r : code.Verdict) (k : ℕ) → B < 1099511627776 → Fits w32 D → Fits w32 S → Fits w32 T → Fits w32 p
-    → pairs ≡ type_pair_at B D S T → base ≡ pairs + 2 * p → verdict_is r ≡ first 0 (row_pair S kind start count) → r ≡ Wrong k → Fits w64 (base + k)
-row-pair-fits T B D S p pairs base kind start count r k low d s t f behind at e u =
-    omega (arith, place-below 0 (row_pair S kind start count) r k e u, row-pair-length S kind start count)
+  pub row-pair-is : (v : Verdict) → v ≡ moved base (verdict_is r) → v ≡ first (row_pair_at B D S T p) (row_pair_row (word_at l) T A B D S p)
+  row-pair-is v g = g ∙ rw at (row-is (row_pair_at B D S T p) _ _ row_words _ f)

@@ -5,7 +5,9 @@ use mathlib.Core.List.{List}
 use mathlib.Core.Bool.{true, false}
 use native.Mathlib.Omega.{arith}
 use lib.ListN.{length, get_or}
-use Rattle.table.specs.Words.{word_at, derived_at, substitute_at, type_pair_at, types_in, rows_end, derivations_in}
+use Rattle.table.specs.Runs.{RunAt}
+use Rattle.table.proofs.OneRow.{read}
+use Rattle.table.specs.Words.{word_at, derived_at, substitute_at, type_pair_at, row_pair_at, types_in, rows_end, derivations_in, substitutes_in}
 use Rattle.table.specs.Rows.{substitutes_from, substitutes_of, derived_from, derived_of, table_of}
 use Rattle.table.specs.Views.{Listed, listed_at}
 use Rattle.table.specs.declared.answers.TypeList as code·types
@@ -34,27 +36,31 @@ module _ (l : List ℕ) where
   substitutes-each (suc n) i (suc k) h = let e : i + 1 + k ≡ i + suc k = omega arith in rw e at (substitutes-each n (i + 1) k (omega arith))
 
   -- lists as the code finds them, behind the rows' end
-  module _ (end entries swaps start count first : ℕ) (e : end ≡ rows_end l) (d : entries ≡ word_at l end) (s : swaps ≡ word_at l (end + 1)) where
-    pub derived-listed : (t pair : ℕ) → pair ≡ type_pair_at end entries swaps t → start ≡ word_at l pair → count ≡ word_at l (pair + 1)
-        → first ≡ end + 2 + start → Listed l ((table_of l).derived t) (record { first = first; paired = false; count = count })
+  module _ (end entries swaps : ℕ) (e : end ≡ rows_end l) (d : entries ≡ derivations_in l) (s : swaps ≡ substitutes_in l) (pair : ℕ) (w : List ℕ) (words : RunAt l pair 2 w) where
+    start : word_at w 0 ≡ word_at l pair
+    start = read words 0 pair (omega arith) (omega arith)
+
+    count : word_at w 1 ≡ word_at l (pair + 1)
+    count = read words 1 (pair + 1) (omega arith) (omega arith)
+
+    pub derived-listed : (t first : ℕ) → pair ≡ type_pair_at end entries swaps t → first ≡ derived_at end (word_at w 0)
+        → Listed l ((table_of l).derived t) (record { first = first; paired = false; count = word_at w 1 })
     unfolding table_of derived_of listed_at
-    derived-listed t pair p a c f =
-        let is : derived_of l t ≡ derived_from l count start = cc (e, d, s, p, a, c) in
+    derived-listed t first p f =
+        let is : derived_of l t ≡ derived_from l (word_at w 1) (word_at w 0) = cc (e, d, s, p, start, count) in
         rw is (record {
-          count-is = sym (derived-length count start);
-          each = λ k h. let q : first + k ≡ derived_at (rows_end l) (start + k) = omega (arith, e) in rw q (sym (derived-each count start k h));
+          count-is = sym (derived-length (word_at w 1) (word_at w 0));
+          each = λ k h. let q : first + k ≡ derived_at (rows_end l) (word_at w 0 + k) = omega (arith, e) in rw q (sym (derived-each (word_at w 1) (word_at w 0) k h));
         })
 
-    pub substitutes-listed : (T row pair pairs : ℕ) → T ≡ types_in l → pairs ≡ type_pair_at end entries swaps T → pair ≡ pairs + 2 * row
-        → start ≡ word_at l pair → count ≡ word_at l (pair + 1)
-        → first ≡ end + 2 + entries + 2 * start + 1 → Listed l ((table_of l).substitutes row) (record { first = first; paired = true; count = count })
+    pub substitutes-listed : (T row first : ℕ) → T ≡ types_in l → pair ≡ row_pair_at end entries swaps T row → first ≡ substitute_at end entries (word_at w 0) + 1
+        → Listed l ((table_of l).substitutes row) (record { first = first; paired = true; count = word_at w 1 })
     unfolding table_of substitutes_of listed_at
-    substitutes-listed T row pair pairs t b p a c f =
-        let is : substitutes_of l row ≡ substitutes_from l count start = cc (e, d, s, t, b, p, a, c) in
-        let g : entries ≡ derivations_in l = cc (e, d) in
+    substitutes-listed T row first t p f =
+        let is : substitutes_of l row ≡ substitutes_from l (word_at w 1) (word_at w 0) = cc (e, d, s, t, p, start, count) in
         rw is (record {
-          count-is = sym (substitutes-length count start);
-          each = λ k h. let q : first + 2 * k ≡ substitute_at (rows_end l) (derivations_in l) (start + k) + 1 = omega (arith, e, g) in rw q (sym (substitutes-each count start k h));
+          count-is = sym (substitutes-length (word_at w 1) (word_at w 0));
+          each = λ k h. let q : first + 2 * k ≡ substitute_at (rows_end l) (derivations_in l) (word_at w 0 + k) + 1 = omega (arith, e, d) in rw q (sym (substitutes-each (word_at w 1) (word_at w 0) k h));
         })
 
   pub one-paired : (r : code·types.TypeList) (k x : ℕ) → r.paired ≡ true → x ≡ word_at l (r.first + 2 * k) → x ≡ word_at l (listed_at r k)

@@ -8,8 +8,7 @@ use borrow.Author.Tests.{le-leb, lt-leb, eq-eqb, ne_eqb}
 use Rattle.signed.specs.Words.{gap_of}
 use Rattle.signed.specs.Views.{gap_is}
 use Rattle.signed.proofs.Laws.{over-gap, under-gap}
-use Rattle.signed.specs.declared.answers.Gap as signed
-use Rattle.signed.specs.declared.answers.Gap.TheVariants.{Under, By}
+use Rattle.std.specs.Prelude.{Option, None, Some}
 use Rattle.table.specs.First.{Verdict, first}
 use Rattle.table.specs.First.Verdict.{right, wrong}
 use Rattle.numbers.specs.Simple.{ranged, enumeration}
@@ -33,12 +32,12 @@ module _ (i kind b c : ℕ) (v : Verdict) where
 pub ruleset kind-ways = (kind-ranged, kind-enumeration, kind-plain)
 
 -- a range's ends
-module _ (b c : ℕ) (r : signed.Gap) (e : gap_is r ≡ gap_of b c) where
-  pub ends-over : r ≡ Under → wrong 6 ≡ first 5 (range_words b c)
+module _ (b c : ℕ) (r : Option ℕ) (e : gap_is r ≡ gap_of b c) where
+  pub ends-over : r ≡ None → wrong 6 ≡ first 5 (range_words b c)
   unfolding range_words
   ends-over u = holds 5 true _ _ refl (fails 6 _ [] (lt-leb _ _ (under-gap b c (sym e ∙ ap gap_is u))))
 
-  pub ends-right : (k : ℕ) → r ≡ By k → right ≡ first 5 (range_words b c)
+  pub ends-right : (k : ℕ) → r ≡ Some k → right ≡ first 5 (range_words b c)
   unfolding range_words
   ends-right k u = holds 5 true _ _ refl (holds 6 _ [] _ (le-leb _ _ (over-gap b c k (sym e ∙ ap gap_is u)).0) (none_left 7))
 

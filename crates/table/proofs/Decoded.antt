@@ -1,12 +1,14 @@
 -- A row decoded from the words that the code has read.
 use Prim.Native.Nat.{ℕ, suc, ◌+◌, ◌-◌}
-use mathlib.Core.Path.{◌≡◌, sym}
+use mathlib.Core.Path.{◌≡◌, sym, ◌∙◌}
 use mathlib.Core.List.{List}
 use native.Mathlib.Omega.{arith}
 use lib.Dec.{eqb}
 use Rattle.numbers.specs.Content as content
 use Rattle.numbers.specs.Particle as particle
 use Rattle.table.specs.Words.{type_at, attribute_at, particle_at, word_at, types_in}
+use Rattle.table.specs.Runs.{RunAt}
+use Rattle.table.proofs.OneRow.{read}
 use Rattle.table.specs.Rows.{Row, content_from, row_from, content_of, row_at, attribute_of}
 use Rattle.table.specs.Rows.Row.{element, sequence, choice, occurs}
 use Rattle.table.specs.Rows.Content.{empty, simple, particles}
@@ -49,15 +51,26 @@ module _ (n kind x y z : ℕ) where
 pub ruleset row-ways = (row-element, row-sequence, row-choice, row-occurs)
 
 -- and where they stand, from i on
-pub row_read : (l : List ℕ) (T A n i kind x y z : ℕ) (r : Row) → i ≡ particle_at T A n → kind ≡ word_at l i → x ≡ word_at l (i + 1) → y ≡ word_at l (i + 2) → z ≡ word_at l (i + 3)
-    → r ≡ row_from n kind x y z → r ≡ row_at l T A n
+pub row_read : (l : List ℕ) (T A n i : ℕ) (w : List ℕ) (r : Row) → i ≡ particle_at T A n → RunAt l i 4 w
+    → r ≡ row_from n (word_at w 0) (word_at w 1) (word_at w 2) (word_at w 3) → r ≡ row_at l T A n
 unfolding row_at
-row_read l T A n i kind x y z r at e p q f h = rw (← at, ← e, ← p, ← q, ← f) h
+row_read l T A n i w r at words h =
+    h ∙ rw (
+      read words 0 (particle_at T A n) (omega arith) (omega arith),
+      read words 1 (particle_at T A n + 1) (omega arith) (omega arith),
+      read words 2 (particle_at T A n + 2) (omega arith) (omega arith),
+      read words 3 (particle_at T A n + 3) (omega arith) (omega arith),
+    )
 
--- an attribute, behind T type rows, whose row begins at j and its type's at m
-pub read-attribute : (l : List ℕ) (i T j m name must t kind b c : ℕ) → T ≡ types_in l → j ≡ attribute_at T i → m ≡ type_at t
-    → name ≡ word_at l j → must ≡ word_at l (j + 1) → t ≡ word_at l (j + 2)
-    → kind ≡ word_at l (m + 4) → b ≡ word_at l (m + 5) → c ≡ word_at l (m + 6)
-    → record { name = name; must = eqb must 1; simple = kind; b = b; c = c } ≡ attribute_of l i
+-- an attribute, behind T type rows, whose row begins at j; the simple kind and the parameters stand four words behind the place of its type's
+pub read-attribute : (l : List ℕ) (i T j m k : ℕ) (w v : List ℕ) → T ≡ types_in l → j ≡ attribute_at T i → RunAt l j 3 w → m ≡ type_at (word_at w 2) → k ≡ m + 4 → RunAt l k 3 v
+    → record { name = word_at w 0; must = eqb (word_at w 1) 1; simple = word_at v 0; b = word_at v 1; c = word_at v 2 } ≡ attribute_of l i
 unfolding attribute_of
-read-attribute l i T j m name must t kind b c e at at' e₁ e₂ e₃ e₄ e₅ e₆ = cc
+read-attribute l i T j m k w v e at words at' on words' =
+    let e₀ = read words 0 j (omega arith) (omega arith) in
+    let e₁ = read words 1 (j + 1) (omega arith) (omega arith) in
+    let e₂ = read words 2 (j + 2) (omega arith) (omega arith) in
+    let e₃ = read words' 0 (m + 4) (omega arith) (omega arith) in
+    let e₄ = read words' 1 (m + 5) (omega arith) (omega arith) in
+    let e₅ = read words' 2 (m + 6) (omega arith) (omega arith) in
+    cc

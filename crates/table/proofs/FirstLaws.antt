@@ -5,7 +5,10 @@ use mathlib.Core.List.{List, [], ◌∷◌, ◌++◌}
 use mathlib.Core.Bool.{Bool, true, false, ◌&&◌, true≢false}
 use native.Mathlib.Omega.{arith}
 use lib.ListN.{length, get_or}
-use Rattle.table.specs.First.{Verdict, first, judge, ◌then◌}
+use Rattle.std.specs.Prelude.{Ok, Err, IsErrAnd}
+use Rattle.table.specs.Views.{Checked, verdict_is}
+use Rattle.table.specs.declared.answers.Flaw.{Flaw}
+use Rattle.table.specs.First.{Verdict, first, judge, moved, ◌then◌}
 use Rattle.table.specs.First.Verdict.{right, wrong}
 
 -- one list of tests after another
@@ -16,27 +19,14 @@ first-append i (true ∷ xs) ys = first-append (suc i) xs ys ∙ ap (λ (k : ℕ
 first-append i (false ∷ xs) ys = refl
 
 -- the same tests from another place
-moved : ℕ → Verdict → Verdict
-moved b right = right
-moved b (wrong k) = wrong (b + k)
-
 first-moved : (b i : ℕ) (xs : List Bool) → first (b + i) xs ≡ moved b (first i xs)
-unfolding first moved
+unfolding first
 first-moved b i [] = refl
 first-moved b i (true ∷ xs) = ap (λ (k : ℕ). first k xs) (omega arith) ∙ first-moved b (suc i) xs
 first-moved b i (false ∷ xs) = refl
 
-module _ (b : ℕ) (xs : List Bool) where
-  from : first b xs ≡ moved b (first 0 xs)
-  from = ap (λ (k : ℕ). first k xs) (omega arith) ∙ first-moved b 0 xs
-
-  pub moved-right : first 0 xs ≡ right → first b xs ≡ right
-  unfolding moved
-  moved-right e = from ∙ ap (moved b) e
-
-  pub moved-wrong : (k : ℕ) → first 0 xs ≡ wrong k → first b xs ≡ wrong (b + k)
-  unfolding moved
-  moved-wrong k e = from ∙ ap (moved b) e
+pub moved-first : (b : ℕ) (xs : List Bool) → moved b (first 0 xs) ≡ first b xs
+moved-first b xs = sym (ap (λ (k : ℕ). first k xs) (omega arith) ∙ first-moved b 0 xs)
 
 -- the place that is named lies within the tests
 pub first_below : (i : ℕ) (xs : List Bool) (k : ℕ) → first i xs ≡ wrong k → (i ≤ k) × (k < i + length xs)
@@ -61,14 +51,19 @@ pub then-right : (u v : Verdict) → u ≡ right → u then v ≡ v
 unfolding ◌then◌
 then-right u v e = ap (λ (x : Verdict). x then v) e
 
-pub then-wrong : (u v : Verdict) (i : ℕ) → u ≡ wrong i → u then v ≡ u
+pub then-wrong : (u v : Verdict) (i : ℕ) → u ≡ wrong i → u then v ≡ wrong i
 unfolding ◌then◌
-then-wrong u v i e = ap (λ (x : Verdict). x then v) e ∙ sym e
+then-wrong u v i e = ap (λ (x : Verdict). x then v) e
 
 pub both_right : (u v : Verdict) → u then v ≡ right → (u ≡ right) × (v ≡ right)
 unfolding ◌then◌
 both_right right v e = (refl, e)
 both_right (wrong i) v e = let z : ◌≡◌ {A = ℕ} 0 1 = cc in absurd (omega arith)
+
+-- what `?` gives back is the fault that it was given
+pub told : (q : Checked) (k : Flaw) (v : Verdict) → IsErrAnd q (λ j. j ≡ k) → wrong k.0 ≡ v → verdict_is q ≡ v
+told (Ok u) k v h e = absurd h
+told (Err j) k v h e = ap (λ (f : Flaw). wrong f.0) h ∙ e
 
 -- Right: every test holds.
 abbrev pub Every : List Bool → Type 0

@@ -15,11 +15,12 @@ use Rattle.table.specs.First.{first}
 use Rattle.table.specs.First.Verdict.{right}
 use Rattle.table.specs.Judged.{Judged}
 use Rattle.table.specs.Valid.{within, attribute_words, element_words, group_words, occurs_words, particle_words, attribute_row, particle_row}
+use Rattle.std.specs.Prelude.{Ok}
 use Rattle.table.specs.Words.{type_at, attribute_at, particle_at, word_at}
-use Rattle.table.specs.declared.answers.Verdict.TheVariants.{Right}
 use Rattle.table.proofs.Choices.{is-element, is-sequence, is-choice, is-occurs}
 use Rattle.table.proofs.Lines.{Lined, attributes-lined}
-use Rattle.table.proofs.OneRow.{row-right}
+use Rattle.table.proofs.OneRow.{row-is, particle-row-words}
+use Rattle.table.specs.Runs.{RunAt}
 use Rattle.table.proofs.Tests.{none_left, holds, both_hold, left-holds, right-holds}
 use Rattle.table.proofs.Turns.{Left, turn-right}
 
@@ -51,7 +52,7 @@ module _ (l : List ℕ) (T a i j : ℕ) (at : i ≡ attribute_at T a) (at' : j �
         (holds 2 _ _ _ (both_hold _ _ (lt-ltb _ _ known) (both_hold _ _ (eq-eqb _ _ plain) (eq-eqb _ _ bare))) (none_left 3)))
 
     attribute-is-right : right ≡ first (attribute_at T a) (attribute_row (word_at l) T a)
-    attribute-is-right = row-right (attribute_at T a) _ _ attribute-words Right attribute-tests refl
+    attribute-is-right = row-is (attribute_at T a) _ _ attribute-words right attribute-tests
 
   -- a turn of the loop over them
   pub attribute-turn : (A names musts counts : ℕ)
@@ -62,7 +63,7 @@ module _ (l : List ℕ) (T a i j : ℕ) (at : i ≡ attribute_at T a) (at' : j �
   attribute-turn A names musts counts left h n m c =
       turn-right (attribute_at T) _ (attributes-lined (word_at l) T) A a
       (left (omega (arith, joint-left names (word_at l i))) (omega (arith, joint-left musts (word_at l (i + 1)))) (omega (arith, joint-left counts (word_at l (j + 3)))))
-      h Right
+      h (Ok tt)
       (attribute-is-right
       (omega (arith, joint-right names (word_at l i)))
       (omega (arith, joint-right musts (word_at l (i + 1))))
@@ -97,29 +98,25 @@ group-tests P least p x y z some enough few over inside zero =
     (holds 2 _ _ _ (both_hold _ _ (both_hold _ _ (le-leb _ _ enough) (le-leb _ _ few)) (le-leb _ _ inside)) (holds 3 _ _ _ (eq-eqb _ _ zero) (none_left 4)))
 
 -- the words of a particle row that begins at i
-module _ (l : List ℕ) (T A P p i : ℕ) (at : i ≡ particle_at T A p) where
+module _ (l : List ℕ) (T A P p i : ℕ) (w : List ℕ) (at : i ≡ particle_at T A p) (words : RunAt l i 4 w) where
   abbrev kind : ℕ
-  kind = word_at l i
+  kind = word_at w 0
 
   abbrev x : ℕ
-  x = word_at l (i + 1)
+  x = word_at w 1
 
   abbrev y : ℕ
-  y = word_at l (i + 2)
+  y = word_at w 2
 
   abbrev z : ℕ
-  z = word_at l (i + 3)
-
-  particle-words : particle_words T P p kind x y z ≡ particle_row (word_at l) T A P p
-  unfolding particle_row
-  particle-words = rw at
+  z = word_at w 3
 
   particle-is-right : right ≡ first 0 (particle_words T P p kind x y z) → first (particle_at T A p) (particle_row (word_at l) T A P p) ≡ right
-  particle-is-right tests = sym (row-right (particle_at T A p) _ _ particle-words Right tests refl)
+  particle-is-right tests = sym (row-is (particle_at T A p) _ _ (particle-row-words l T A P p i w at words) right tests)
 
   module _ (small zeros : ℕ) where
-    pub element-judged : word_at l i ≡ element → word_at l (i + 2) < T
-        → Judged small zeros (bit_or small (word_at l (i + 1))) (bit_or zeros (word_at l (i + 3))) (first (particle_at T A p) (particle_row (word_at l) T A P p))
+    pub element-judged : word_at w 0 ≡ element → word_at w 2 < T
+        → Judged small zeros (bit_or small (word_at w 1)) (bit_or zeros (word_at w 3)) (first (particle_at T A p) (particle_row (word_at l) T A P p))
     element-judged e known =
         record {
           small_kept = joint-left small x;
@@ -128,9 +125,9 @@ module _ (l : List ℕ) (T A P p i : ℕ) (at : i ≡ particle_at T A p) where
               particle-is-right (is-element T P p kind x y z right e (element-tests T x y z (omega (arith, joint-right small x)) known (omega (arith, joint-right zeros z))));
         }
 
-    module _ (over : p < word_at l (i + 1)) where
-      pub occurs-judged : word_at l i ≡ occurs → word_at l (i + 1) < P → word_at l (i + 2) ≤ word_at l (i + 3) → (word_at l (i + 3) ≡ 0 → ⊥) → word_at l (i + 3) ≤ unbounded
-          → Judged small zeros (bit_or small (word_at l (i + 2))) zeros (first (particle_at T A p) (particle_row (word_at l) T A P p))
+    module _ (over : p < word_at w 1) where
+      pub occurs-judged : word_at w 0 ≡ occurs → word_at w 1 < P → word_at w 2 ≤ word_at w 3 → (word_at w 3 ≡ 0 → ⊥) → word_at w 3 ≤ unbounded
+          → Judged small zeros (bit_or small (word_at w 2)) zeros (first (particle_at T A p) (particle_row (word_at l) T A P p))
       occurs-judged e inside h some few =
           record {
             small_kept = joint-left small y;
@@ -139,9 +136,9 @@ module _ (l : List ℕ) (T A P p i : ℕ) (at : i ≡ particle_at T A p) where
                 particle-is-right (is-occurs T P p kind x y z right e (occurs-tests P p x y z over inside (omega (arith, joint-right small y)) h some few));
           }
 
-      pub group-judged : (word_at l i ≡ element → ⊥) → (word_at l i ≡ occurs → ⊥) → word_at l i ≤ occurs
-          → word_at l i ≤ word_at l (i + 2) → word_at l (i + 2) ≤ most_children → (r : Bool) → r ≡ leb (word_at l (i + 1) + word_at l (i + 2)) P → r ≡ true
-          → Judged small zeros small (bit_or zeros (word_at l (i + 3))) (first (particle_at T A p) (particle_row (word_at l) T A P p))
+      pub group-judged : (word_at w 0 ≡ element → ⊥) → (word_at w 0 ≡ occurs → ⊥) → word_at w 0 ≤ occurs
+          → word_at w 0 ≤ word_at w 2 → word_at w 2 ≤ most_children → (r : Bool) → r ≡ leb (word_at w 1 + word_at w 2) P → r ≡ true
+          → Judged small zeros small (bit_or zeros (word_at w 3)) (first (particle_at T A p) (particle_row (word_at l) T A P p))
       group-judged n m group enough few r is e =
           record {
             small_kept = omega arith;
@@ -165,4 +162,4 @@ pub judged-turn : (place : ℕ → ℕ) (f : ℕ → List Bool) → Lined place 
     → (small ≤ most_name → zeros ≡ 0 → Left place f N i) → i < N → Judged small zeros small' zeros' (first (place i) (f i))
     → small' ≤ most_name → zeros' ≡ 0 → Left place f N (i + 1)
 judged-turn place f lined N i small zeros small' zeros' left h judged s z =
-    turn-right place f lined N i (left (omega (arith, judged.small_kept)) (omega (arith, judged.zeros_kept))) h Right (sym (judged.told s z)) refl
+    turn-right place f lined N i (left (omega (arith, judged.small_kept)) (omega (arith, judged.zeros_kept))) h (Ok tt) (sym (judged.told s z)) refl

@@ -12,12 +12,12 @@ use Rattle.numbers.specs.Limit.{parties, most_held}
 use Rattle.numbers.specs.Refusal as refusal
 use Rattle.table.specs.First.Verdict.{right}
 use Rattle.table.specs.Valid.{verdict}
+use Rattle.std.specs.Prelude.{Ok, Err}
 use Rattle.table.specs.Words.{word_at, type_at, types_in}
 use Rattle.table.specs.Rows.{table_of, held_of}
 use Rattle.table.specs.Setting.{marked, Setting, setting_by, setting, refuses}
-use Rattle.table.specs.Views.{verdict_is}
-use Rattle.table.specs.declared.answers.Verdict as code·verdict
-use Rattle.table.specs.declared.answers.Verdict.TheVariants.{Right, Wrong}
+use Rattle.table.specs.Views.{Checked, verdict_is}
+use Rattle.table.specs.declared.answers.Flaw.{Flaw}
 use Rattle.table.proofs.Bits.{bit-under}
 use Rattle.table.proofs.Laws.{mark-ok, sized, rows-within}
 
@@ -88,15 +88,15 @@ module _ (l : List ℕ) (party t mark known : ℕ) (e : known ≡ (table_of l).t
 pub ruleset set-ways = (set-type, set-party, set-place, set-marks, set-done)
 
 -- by the verdict
-module _ (l : List ℕ) (party t mark : ℕ) (v : code·verdict.Verdict) (e : verdict_is v ≡ verdict l) where
-  pub set-wrong : (i : ℕ) → v ≡ Wrong i → refuses l party t mark refusal.table i ≡ setting l party t mark
+module _ (l : List ℕ) (party t mark : ℕ) (v : Checked) (e : verdict_is v ≡ verdict l) where
+  pub set-wrong : (k : Flaw) → v ≡ Err k → refuses l party t mark refusal.table k.0 ≡ setting l party t mark
   unfolding setting setting_by
-  set-wrong i g = rw (← e, g)
+  set-wrong k g = rw (← e, g)
 
-  pub set-right : v ≡ Right → verdict l ≡ right
+  pub set-right : v ≡ Ok tt → verdict l ≡ right
   set-right g = sym e ∙ rw g
 
-  pub set-checked : v ≡ Right → (r : Setting) → r ≡ setting_by l party t mark right → r ≡ setting l party t mark
+  pub set-checked : v ≡ Ok tt → (r : Setting) → r ≡ setting_by l party t mark right → r ≡ setting l party t mark
   unfolding setting
   set-checked g r f = f ∙ rw (set-right g)
 

@@ -7,13 +7,15 @@ use lib.ListN.{length}
 use Rattle.table.specs.First.Verdict.{right}
 use Rattle.table.specs.Inside.{TypeInside, AttributeInside, ParticleInside}
 use Rattle.table.specs.Rows.{attribute_type, table_of}
+use Rattle.table.specs.Runs.{RunAt}
+use Rattle.table.proofs.OneRow.{read}
 use Rattle.table.specs.Valid.{verdict}
 use Rattle.table.specs.Words.{type_at, attribute_at, word_at, types_in, attributes_in, particles_in}
 use Rattle.table.proofs.Laws.{rows-within, sized, attribute-ok}
 
 -- an attribute's type row, as the code finds it
-pub type-found : (l : List ℕ) (T i j m : ℕ) → T ≡ types_in l → j ≡ attribute_at T i → m ≡ type_at (word_at l (j + 2)) → AttributeInside l i → m + 6 < length l
-type-found l T i j m e at at' h = rw (at', at, e) h.1
+pub type-found : (l : List ℕ) (T i j m : ℕ) (w : List ℕ) → T ≡ types_in l → j ≡ attribute_at T i → RunAt l j 3 w → m ≡ type_at (word_at w 2) → AttributeInside l i → m + 6 < length l
+type-found l T i j m w e at words at' h = rw (at', read words 2 (j + 2) (omega arith) (omega arith), at, e) h.1
 
 module _ (l : List ℕ) (valid : verdict l ≡ right) where
   pub type-inside : (t : ℕ) → t < types_in l → TypeInside l t

@@ -5,14 +5,14 @@ use mathlib.Core.List.{List}
 use mathlib.Core.Bool.{Bool}
 use native.Mathlib.Omega.{arith}
 use native.Mathlib.Numerals.{add-one}
+use Rattle.std.specs.Prelude.{Ok, Err}
 use Rattle.table.specs.First.{first, ◌then◌}
-use Rattle.table.specs.First.Verdict.{right}
+use Rattle.table.specs.First.Verdict.{right, wrong}
 use Rattle.table.proofs.FirstLaws.{then-right, then-wrong}
 use Rattle.table.specs.Valid.{rows}
 use Rattle.table.proofs.Lines.{Lined, rows_step}
-use Rattle.table.specs.Views.{verdict_is}
-use Rattle.table.specs.declared.answers.Verdict as code
-use Rattle.table.specs.declared.answers.Verdict.TheVariants.{Right, Wrong}
+use Rattle.table.specs.Views.{Checked, verdict_is}
+use Rattle.table.specs.declared.answers.Flaw.{Flaw}
 
 -- of N rows the first i are right, so the verdict on those from i on is the verdict on all
 abbrev pub Left : (place : ℕ → ℕ) (f : ℕ → List Bool) (N i : ℕ) → Type 0
@@ -27,12 +27,12 @@ module _ (place : ℕ → ℕ) (f : ℕ → List Bool) (lined : Lined place f) (
     unfolding rows first
     turns-done h = sym (left.1 ∙ (let e : N - i ≡ 0 = omega arith in rw e))
 
-    module _ (h : i < N) (r : code.Verdict) (e : verdict_is r ≡ first (place i) (f i)) where
+    module _ (h : i < N) (r : Checked) (e : verdict_is r ≡ first (place i) (f i)) where
       from : first (place 0) (rows f 0 N) ≡ first (place i) (f i) then first (place (i + 1)) (rows f (i + 1) (N - (i + 1)))
       from = left.1 ∙ (let k : N - i ≡ suc (N - (i + 1)) = omega arith in rw (k, add-one i) (rows_step place f lined i (N - suc i)))
 
-      pub turn-wrong : (k : ℕ) → r ≡ Wrong k → verdict_is r ≡ first (place 0) (rows f 0 N)
-      turn-wrong k w = e ∙ sym (from ∙ then-wrong _ _ k (sym e ∙ ap verdict_is w))
+      pub turn-wrong : (k : Flaw) → r ≡ Err k → wrong k.0 ≡ first (place 0) (rows f 0 N)
+      turn-wrong k w = sym (from ∙ then-wrong _ _ k.0 (sym e ∙ ap verdict_is w))
 
-      pub turn-right : r ≡ Right → Left place f N (i + 1)
+      pub turn-right : r ≡ Ok tt → Left place f N (i + 1)
       turn-right w = (omega arith, from ∙ then-right _ _ (sym e ∙ ap verdict_is w))

@@ -1,5 +1,5 @@
 -- The first that fails of tests made in order, one for each place.
-use Rattle.std.specs.Prelude.{ℕ, suc, List, [], ◌∷◌, Bool, true, false}
+use Rattle.std.specs.Prelude.{ℕ, suc, ◌+◌, List, [], ◌∷◌, Bool, true, false}
 
 -- right, or the place of the first word at fault
 pub data Verdict : Type 0 where
@@ -17,6 +17,11 @@ infixr 30 ◌then◌
 unfoldable pub ◌then◌ : Verdict → Verdict → Verdict
 right then v = v
 wrong i then v = wrong i
+
+-- what is said of tests that begin at 0, said of the same from b on
+abbrev pub moved : (b : ℕ) → Verdict → Verdict
+moved b right = right
+moved b (wrong k) = wrong (b + k)
 
 unfoldable pub judge : ℕ → Bool → Verdict
 judge i true = right

@@ -1,20 +1,13 @@
 -- Words that stand one after another, from place i on.
-use Rattle.std.specs.Prelude.{ℕ, ◌+◌, ◌≡◌, List}
+use Rattle.std.specs.Prelude.{ℕ, ◌+◌, ◌<◌, ◌≡◌, List, ◌++◌, Bool, get_or, length}
+use Rattle.table.specs.Valid.{front_words, content_words}
 use Rattle.table.specs.Words.{word_at}
-use Rattle.table.specs.declared.runs.Four as code·four
-use Rattle.table.specs.declared.runs.Seven as code·seven
 
-pub record FourAt (l : List ℕ) (i : ℕ) (r : code·four.Four) : Type 0 where
-  pub a : r.a ≡ word_at l i
-  pub b : r.b ≡ word_at l (i + 1)
-  pub c : r.c ≡ word_at l (i + 2)
-  pub d : r.d ≡ word_at l (i + 3)
+pub record RunAt (l : List ℕ) (i n : ℕ) (run : List ℕ) : Type 0 where
+  pub long : length run ≡ n
+  pub each : (k : ℕ) → k < n → get_or run k 0 ≡ word_at l (i + k)
 
-pub record SevenAt (l : List ℕ) (i : ℕ) (r : code·seven.Seven) : Type 0 where
-  pub a : r.a ≡ word_at l i
-  pub b : r.b ≡ word_at l (i + 1)
-  pub c : r.c ≡ word_at l (i + 2)
-  pub d : r.d ≡ word_at l (i + 3)
-  pub e : r.e ≡ word_at l (i + 4)
-  pub f : r.f ≡ word_at l (i + 5)
-  pub g : r.g ≡ word_at l (i + 6)
+-- the tests of a type row's words, which are given
+unfoldable pub type_words : (A P : ℕ) → List ℕ → List Bool
+type_words A P w =
+    front_words A (word_at w 0) (word_at w 1) (word_at w 2) (word_at w 3) ++ content_words P (word_at w 1) (word_at w 4) (word_at w 5) (word_at w 6)

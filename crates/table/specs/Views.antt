@@ -1,13 +1,15 @@
 -- What the answers of the code mean.
-use Rattle.std.specs.Prelude.{ℕ, ◌+◌, ◌*◌, ◌<◌, ◌≡◌, List, cond, length, get_or}
+use Rattle.std.specs.Prelude.{ℕ, ◌+◌, ◌*◌, ◌<◌, ◌≡◌, List, cond, length, get_or, Result, Ok, Err}
+use Rattle.numbers.specs.Refusal.{accepted}
+use Rattle.numbers.specs.Refused.{number_of}
+use Rattle.numbers.specs.declared.refusal.Fault.{Fault}
 use Rattle.table.specs.First.{Verdict}
 use Rattle.table.specs.First.Verdict.{right, wrong}
 use Rattle.table.specs.Words.{word_at}
 use Rattle.table.specs.Rows.{Row, Content, Attribute, first_of, count_of}
 use Rattle.table.specs.Rows.Row.{element, sequence, choice, occurs}
 use Rattle.table.specs.Rows.Content.{empty, simple, particles}
-use Rattle.table.specs.declared.answers.Verdict as code
-use Rattle.table.specs.declared.answers.Verdict.TheVariants.{Right, Wrong}
+use Rattle.table.specs.declared.answers.Flaw.{Flaw}
 use Rattle.table.specs.declared.answers.Content as code·content
 use Rattle.table.specs.declared.answers.Content.TheVariants.{Empty, Simple, Particles}
 use Rattle.table.specs.declared.answers.Particle as code·particle
@@ -15,12 +17,18 @@ use Rattle.table.specs.declared.answers.Particle.TheVariants.{Element, Sequence,
 use Rattle.table.specs.declared.answers.Attribute as code·attribute
 use Rattle.table.specs.declared.answers.Span as code·span
 use Rattle.table.specs.declared.answers.TypeList as code·types
-use Rattle.table.specs.declared.answers.Setting as code·setting
 use Rattle.table.specs.Setting.{Setting}
 
-abbrev pub verdict_is : code.Verdict → Verdict
-verdict_is Right = right
-verdict_is (Wrong i) = wrong i
+-- what a check answers, and what a setting
+abbrev pub Checked : Type 0
+Checked = Result Unit Flaw
+
+abbrev pub Set : Type 0
+Set = Result Unit (Fault ℕ)
+
+abbrev pub verdict_is : Checked → Verdict
+verdict_is (Ok u) = right
+verdict_is (Err e) = wrong e.0
 
 abbrev pub content_is : code·content.Content → Content
 content_is Empty = empty
@@ -49,6 +57,14 @@ pub record Listed (l types : List ℕ) (r : code·types.TypeList) : Type 0 where
   pub count-is : r.count ≡ length types
   pub each : (k : ℕ) → k < r.count → word_at l (listed_at r k) ≡ get_or types k 0
 
--- what became of setting a mark, with the words that are left
-abbrev pub setting_is : code·setting.Setting → List ℕ → Setting
-setting_is r words = record { number = r.number; place = r.place; words = words }
+-- what became of setting a mark: its number and place; and with the words that are left
+abbrev pub set_number : Set → ℕ
+set_number (Ok u) = accepted
+set_number (Err e) = number_of e.why
+
+abbrev pub set_place : Set → ℕ
+set_place (Ok u) = 0
+set_place (Err e) = e.at
+
+abbrev pub setting_is : Set → List ℕ → Setting
+setting_is r words = record { number = set_number r; place = set_place r; words = words }

@@ -1,10 +1,21 @@
 // What the functions on a table answer.
+ghost use Rattle.std.specs.Prelude.{◌≡◌, ◌<◌, IfErr};
+ghost use Rattle.table.specs.First.{moved};
+ghost use Rattle.table.specs.Views.{verdict_is};
 
-// Right, or the place of the first word at fault.
+// The place of the first word at fault.
 #[derive(Clone, Copy)]
-pub enum Verdict {
-    Right,
-    Wrong(usize),
+pub struct Flaw(pub usize);
+
+// What is said of a row's words, which count from 0, said of the table's: the row begins at `base`.
+pub fn in_row(base: usize, words: Result<(), Flaw>) -> Result<(), Flaw>
+    requires { (base < 4611686018427387904) × IfErr words (λ e. e.0 < 8) }
+    ensures { verdict_is result ≡ moved base (verdict_is words) }
+{
+    match words {
+        Ok(()) => Ok(()),
+        Err(Flaw(k)) => Err(Flaw(base + k)),
+    }
 }
 
 // What a type's elements hold: nothing, one simple value of a kind with its parameters b and c, or a particle row.
@@ -47,11 +58,4 @@ pub enum Particle {
     Sequence(u32, u32),
     Choice(u32, u32),
     Occurs(u32, u32, u32),
-}
-
-// What became of setting a mark: the number, and the place of the first word at fault.
-#[derive(Clone, Copy)]
-pub struct Setting {
-    pub number: u32,
-    pub place: usize,
 }

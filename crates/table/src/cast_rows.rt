@@ -8,10 +8,11 @@ ghost use Rattle.table.specs.Valid.{once, words_from, row_pair, derived_row, sub
 ghost use Rattle.table.specs.Views.{verdict_is};
 ghost use Rattle.table.specs.Words.{derived_at, substitute_at, type_pair_at, row_pair_at, size_of, word_at};
 
-use crate::answers::Verdict;
+use crate::answers::{Flaw, in_row};
 use crate::header;
-use crate::places::{casts_at, particle_at};
-use crate::rows::word;
+use crate::places::{Casts, particle_at};
+use crate::rows::{casts_of, word};
+use crate::runs::words_from;
 use numbers::{limit, particle};
 
 // A stamp for each type that a table may have.
@@ -21,77 +22,60 @@ const STAMPS: usize = limit::MOST_TYPES as usize;
 pub fn size(table: &[u32], types: u32, attributes: u32, particles: u32) -> usize
     ensures { result ≡ form_size (word_at table.now) types attributes particles }
 {
-    let end = particle_at(types, attributes, particles);
     if word(table, header::FORM) != header::CAST_FORM {
-        return end;
+        return particle_at(types, attributes, particles);
     }
-    let entries = word(table, end);
-    let swaps = word(table, end + 1);
-    casts_at(end, entries, swaps, types) + 2 * (particles as usize)
+    casts_of(table, types, attributes, particles).row_pair_at(types, particles)
 }
 
 // The derived entry i: a type.
-fn entry(table: &[u32], types: u32, end: usize, i: u32) -> Verdict
-    requires { end < 1099511627776 }
-    ensures { verdict_is result ≡ first (derived_at end i) (derived_row (word_at table.now) types end i) }
+fn entry(table: &[u32], types: u32, casts: Casts, i: u32) -> Result<(), Flaw>
+    ensures { verdict_is result ≡ first (derived_at casts.end i) (derived_row (word_at table.now) types casts.end i) }
 {
-    let place = end + 2 + (i as usize);
+    let place = casts.entry_at(i);
     let t = word(table, place);
     if types <= t {
-        return Verdict::Wrong(place);
+        return Err(Flaw(place));
     }
-    Verdict::Right
+    Ok(())
 }
 
 // Every derived entry, up to one at fault.
-fn all_entries(table: &[u32], types: u32, end: usize, entries: u32) -> Verdict
-    requires { end < 1099511627776 }
-    ensures { verdict_is result ≡ derived_verdict table.now types end entries }
+fn all_entries(table: &[u32], types: u32, casts: Casts) -> Result<(), Flaw>
+    ensures { verdict_is result ≡ derived_verdict table.now types casts.end casts.entries }
 {
-    let mut i = 0;
-    while i < entries {
-        let r = entry(table, types, end, i);
-        let Verdict::Right = r else {
-            return r;
-        };
-        i += 1;
+    for i in 0..casts.entries {
+        entry(table, types, casts, i)?;
     }
-    Verdict::Right
+    Ok(())
 }
 
 // The substitute i: a name and a type.
-fn substitute(table: &[u32], types: u32, end: usize, entries: u32, i: u32) -> Verdict
-    requires { end < 1099511627776 }
+fn substitute(table: &[u32], types: u32, casts: Casts, i: u32) -> Result<(), Flaw>
     ensures { verdict_is result
-        ≡ first (substitute_at end entries i) (substitute_row (word_at table.now) types end entries i) }
+        ≡ first (substitute_at casts.end casts.entries i) (substitute_row (word_at table.now) types casts.end casts.entries i) }
 {
-    let place = end + 2 + (entries as usize) + 2 * (i as usize);
+    let place = casts.swap_at(i);
     let later = place + 1;
     let name = word(table, place);
     let t = word(table, later);
     if limit::MOST_NAME < name {
-        return Verdict::Wrong(place);
+        return Err(Flaw(place));
     }
     if types <= t {
-        return Verdict::Wrong(later);
+        return Err(Flaw(later));
     }
-    Verdict::Right
+    Ok(())
 }
 
 // Every substitute, up to one at fault.
-fn all_substitutes(table: &[u32], types: u32, end: usize, entries: u32, swaps: u32) -> Verdict
-    requires { end < 1099511627776 }
-    ensures { verdict_is result ≡ substitutes_verdict table.now types end entries swaps }
+fn all_substitutes(table: &[u32], types: u32, casts: Casts) -> Result<(), Flaw>
+    ensures { verdict_is result ≡ substitutes_verdict table.now types casts.end casts.entries casts.swaps }
 {
-    let mut i = 0;
-    while i < swaps {
-        let r = substitute(table, types, end, entries, i);
-        let Verdict::Right = r else {
-            return r;
-        };
-        i += 1;
+    for i in 0..casts.swaps {
+        substitute(table, types, casts, i)?;
     }
-    Verdict::Right
+    Ok(())
 }
 
 // Whether type t and the types at so many places from `start` on are all different. Each is stamped with a number that no earlier type gave,
@@ -103,118 +87,86 @@ fn each_once(table: &[u32], stamps: &mut [u32; STAMPS], start: usize, count: u32
 {
     let stamp = t + 1;
     stamps[t as usize] = stamp;
-    let mut i = 0;
-    while i < count {
-        let at = start + (i as usize);
-        let x = word(table, at) as usize;
+    // By index and not over a slice: a word past the end of the list is 0.
+    for i in 0..count {
+        let x = word(table, start + (i as usize)) as usize;
         if stamps[x] == stamp {
             return false;
         }
         stamps[x] = stamp;
-        i += 1;
     }
     true
 }
 
 // The pair of type t: its first derived entry, and how many it has, each once and never the type itself.
-fn type_pair(
-    table: &[u32],
-    stamps: &mut [u32; STAMPS],
-    end: usize,
-    entries: u32,
-    swaps: u32,
-    t: u32,
-) -> Verdict
-    requires small { end < 1099511627776 }
+fn type_pair(table: &[u32], stamps: &mut [u32; STAMPS], casts: Casts, t: u32) -> Result<(), Flaw>
     requires known { t < most_types }
-    requires entries { Stamped table.now (derived_at end 0) entries }
+    requires entries { Stamped table.now (derived_at casts.end 0) casts.entries }
     requires stamped { Under t stamps.old }
     ensures verdict { verdict_is result
-        ≡ first (type_pair_at end entries swaps t) (type_pair_row (word_at table.now) end entries swaps t) }
+        ≡ first (type_pair_at casts.end casts.entries casts.swaps t) (type_pair_row (word_at table.now) casts.end casts.entries casts.swaps t) }
     ensures stamped { Under (t + 1) stamps.new }
 {
-    let place = casts_at(end, entries, swaps, t);
+    let place = casts.pair_at(t);
     let later = place + 1;
     let start = word(table, place);
     let count = word(table, later);
-    if entries < start {
-        return Verdict::Wrong(place);
+    if casts.entries < start {
+        return Err(Flaw(place));
     }
-    if entries - start < count {
-        return Verdict::Wrong(later);
+    if casts.entries - start < count {
+        return Err(Flaw(later));
     }
-    let at = end + 2 + (start as usize);
-    if each_once(table, stamps, at, count, t) {
-        return Verdict::Right;
+    if each_once(table, stamps, casts.entry_at(start), count, t) {
+        return Ok(());
     }
-    Verdict::Wrong(later)
+    Err(Flaw(later))
 }
 
 // Every type's pair, up to one at fault.
-fn all_type_pairs(table: &[u32], end: usize, entries: u32, swaps: u32, types: u32) -> Verdict
-    requires { (end < 1099511627776) × (types ≤ most_types) × (Stamped table.now (derived_at end 0) entries) }
-    ensures { verdict_is result ≡ type_pairs_verdict table.now end entries swaps types }
+fn all_type_pairs(table: &[u32], casts: Casts, types: u32) -> Result<(), Flaw>
+    requires { (types ≤ most_types) × (Stamped table.now (derived_at casts.end 0) casts.entries) }
+    ensures { verdict_is result ≡ type_pairs_verdict table.now casts.end casts.entries casts.swaps types }
 {
     let mut stamps = [0; STAMPS];
-    let mut t = 0;
-    while t < types {
-        let r = type_pair(table, &mut stamps, end, entries, swaps, t);
-        let Verdict::Right = r else {
-            return r;
-        };
-        t += 1;
+    for t in 0..types {
+        type_pair(table, &mut stamps, casts, t)?;
     }
-    Verdict::Right
+    Ok(())
 }
 
 // The two words of a particle row's pair: first substitute and how many, none where the row is no element.
-fn row_words(swaps: u32, kind: u32, start: u32, count: u32) -> Verdict
+fn row_words(swaps: u32, kind: u32, start: u32, count: u32) -> Result<(), Flaw>
     ensures { verdict_is result ≡ first 0 (row_pair swaps kind start count) }
 {
     if kind != particle::ELEMENT {
         if start != 0 {
-            return Verdict::Wrong(0);
+            return Err(Flaw(0));
         }
         if count != 0 {
-            return Verdict::Wrong(1);
+            return Err(Flaw(1));
         }
-        return Verdict::Right;
+        return Ok(());
     }
     if swaps < start {
-        return Verdict::Wrong(0);
+        return Err(Flaw(0));
     }
     if swaps - start < count {
-        return Verdict::Wrong(1);
+        return Err(Flaw(1));
     }
-    Verdict::Right
+    Ok(())
 }
 
 // The pair of particle row p.
-fn row_pair(
-    table: &[u32],
-    types: u32,
-    attributes: u32,
-    end: usize,
-    entries: u32,
-    swaps: u32,
-    p: u32,
-) -> Verdict
-    requires { end < 1099511627776 }
+fn row_pair(table: &[u32], types: u32, attributes: u32, casts: Casts, p: u32) -> Result<(), Flaw>
     ensures { verdict_is result
-        ≡ first (row_pair_at end entries swaps types p)
-        (row_pair_row (word_at table.now) types attributes end entries swaps p) }
+        ≡ first (row_pair_at casts.end casts.entries casts.swaps types p)
+        (row_pair_row (word_at table.now) types attributes casts.end casts.entries casts.swaps p) }
 {
-    let base = casts_at(end, entries, swaps, types) + 2 * (p as usize);
-    let start = word(table, base);
-    let count = word(table, base + 1);
+    let base = casts.row_pair_at(types, p);
+    let [start, count] = words_from::<2>(table, base);
     let kind = word(table, particle_at(types, attributes, p));
-    match row_words(swaps, kind, start, count) {
-        Verdict::Right => Verdict::Right,
-        Verdict::Wrong(k) => {
-            let place = base + k;
-            Verdict::Wrong(place)
-        }
-    }
+    in_row(base, row_words(casts.swaps, kind, start, count))
 }
 
 // Every particle row's pair, up to one at fault.
@@ -222,23 +174,15 @@ fn all_row_pairs(
     table: &[u32],
     types: u32,
     attributes: u32,
-    end: usize,
-    entries: u32,
-    swaps: u32,
+    casts: Casts,
     particles: u32,
-) -> Verdict
-    requires { end < 1099511627776 }
-    ensures { verdict_is result ≡ row_pairs_verdict table.now types attributes end entries swaps particles }
+) -> Result<(), Flaw>
+    ensures { verdict_is result ≡ row_pairs_verdict table.now types attributes casts.end casts.entries casts.swaps particles }
 {
-    let mut p = 0;
-    while p < particles {
-        let r = row_pair(table, types, attributes, end, entries, swaps, p);
-        let Verdict::Right = r else {
-            return r;
-        };
-        p += 1;
+    for p in 0..particles {
+        row_pair(table, types, attributes, casts, p)?;
     }
-    Verdict::Right
+    Ok(())
 }
 
 // The words from `end` on, in order.
@@ -247,47 +191,34 @@ fn all_words(
     types: u32,
     attributes: u32,
     particles: u32,
-    end: usize,
-    entries: u32,
-    swaps: u32,
-) -> Verdict
-    requires { (end < 1099511627776) × (types ≤ most_types) }
+    casts: Casts,
+) -> Result<(), Flaw>
+    requires { (types ≤ most_types) }
     ensures { verdict_is result
-        ≡ first end (cast_words (word_at table.now) types attributes particles end entries swaps) }
+        ≡ first casts.end (cast_words (word_at table.now) types attributes particles casts.end casts.entries casts.swaps) }
 {
-    if limit::MOST_DERIVATIONS < entries {
-        return Verdict::Wrong(end);
+    if limit::MOST_DERIVATIONS < casts.entries {
+        return Err(Flaw(casts.end));
     }
-    if limit::MOST_SUBSTITUTES < swaps {
-        return Verdict::Wrong(end + 1);
+    if limit::MOST_SUBSTITUTES < casts.swaps {
+        return Err(Flaw(casts.end + 1));
     }
-    let d = all_entries(table, types, end, entries);
-    let Verdict::Right = d else {
-        return d;
-    };
-    let s = all_substitutes(table, types, end, entries, swaps);
-    let Verdict::Right = s else {
-        return s;
-    };
-    let t = all_type_pairs(table, end, entries, swaps, types);
-    let Verdict::Right = t else {
-        return t;
-    };
-    all_row_pairs(table, types, attributes, end, entries, swaps, particles)
+    all_entries(table, types, casts)?;
+    all_substitutes(table, types, casts)?;
+    all_type_pairs(table, casts, types)?;
+    all_row_pairs(table, types, attributes, casts, particles)
 }
 
 // What stands behind the rows by the form: in form 1 there is nothing.
-pub fn all(table: &[u32], types: u32, attributes: u32, particles: u32) -> Verdict
+pub fn all(table: &[u32], types: u32, attributes: u32, particles: u32) -> Result<(), Flaw>
     requires { types ≤ most_types }
     ensures { verdict_is result
         ≡ first (size_of types attributes particles)
         (form_words (word_at table.now) types attributes particles) }
 {
     if word(table, header::FORM) != header::CAST_FORM {
-        return Verdict::Right;
+        return Ok(());
     }
-    let end = particle_at(types, attributes, particles);
-    let entries = word(table, end);
-    let swaps = word(table, end + 1);
-    all_words(table, types, attributes, particles, end, entries, swaps)
+    let casts = casts_of(table, types, attributes, particles);
+    all_words(table, types, attributes, particles, casts)
 }

@@ -1,4 +1,5 @@
 // What stands in rows that are inside a table, as those of a right table are: no word's place is tested. Each answers as its namesake in `rows`.
+// The two are not one by a trait or a closure for the reading of a word: its two impls, its law and the wrappers are longer than these few lines.
 ghost use Rattle.std.specs.Prelude.{◌≡◌, ◌<◌};
 ghost use Rattle.table.specs.Inside.{TypeInside, AttributeInside, ParticleInside};
 ghost use Rattle.table.specs.Rows.{table_of, held_of, attribute_of};
@@ -8,7 +9,7 @@ use crate::answers::{Attribute, Content, Particle, Span};
 use crate::header;
 use crate::places::{attribute_at, particle_at, type_at};
 use crate::rows::row_of;
-use crate::runs::seven_from;
+use crate::runs::given_from;
 use numbers::content;
 
 // Whether a party holds type t. The party is one of those that a word has bits for.
@@ -58,17 +59,14 @@ pub fn attribute(table: &[u32], i: u32) -> Attribute
 {
     let types = table[header::TYPES];
     let base = attribute_at(types, i);
-    let name = table[base];
-    let must = table[base + 1] == 1;
-    let t = table[base + 2];
-    let row = type_at(t);
-    let w = seven_from(table, row);
+    let [name, must, t] = given_from::<3>(table, base);
+    let [simple, b, c] = given_from::<3>(table, type_at(t) + 4);
     Attribute {
         name,
-        must,
-        simple: w.e,
-        b: w.f,
-        c: w.g,
+        must: must == 1,
+        simple,
+        b,
+        c,
     }
 }
 
@@ -80,9 +78,6 @@ pub fn particle(table: &[u32], i: u32) -> Particle
     let types = table[header::TYPES];
     let attributes = table[header::ATTRIBUTES];
     let base = particle_at(types, attributes, i);
-    let kind = table[base];
-    let x = table[base + 1];
-    let y = table[base + 2];
-    let z = table[base + 3];
+    let [kind, x, y, z] = given_from::<4>(table, base);
     row_of(i, kind, x, y, z)
 }

@@ -20,59 +20,47 @@ ghost use Rattle.table.specs.Valid.{row_words, form_words, verdict};
 ghost use Rattle.table.specs.Views.{verdict_is};
 ghost use Rattle.table.specs.Words.{size_of, word_at};
 
-pub use answers::{Attribute, Content, Particle, Setting, Span, TypeList, Verdict};
+pub use answers::{Attribute, Content, Flaw, Particle, Span, TypeList};
 use numbers::limit;
 use rows::word;
 
 // The rows after the header, in order.
-fn every_row(table: &[u32], types: u32, attributes: u32, particles: u32) -> Verdict
+fn every_row(table: &[u32], types: u32, attributes: u32, particles: u32) -> Result<(), Flaw>
     requires { size_of types attributes particles ≤ length table.now }
     ensures { verdict_is result ≡ first 4 (row_words (word_at table.now) types attributes particles) }
 {
-    let t = type_rows::all(table, types, attributes, particles);
-    let Verdict::Right = t else {
-        return t;
-    };
-    let a = attribute_rows::all(table, types, attributes);
-    let Verdict::Right = a else {
-        return a;
-    };
+    type_rows::all(table, types, attributes, particles)?;
+    attribute_rows::all(table, types, attributes)?;
     particle_rows::all(table, types, attributes, particles)
 }
 
 // The rows, then what stands behind them.
-fn every_word(table: &[u32], types: u32, attributes: u32, particles: u32) -> Verdict
+fn every_word(table: &[u32], types: u32, attributes: u32, particles: u32) -> Result<(), Flaw>
     requires { (types ≤ most_types) × (size_of types attributes particles ≤ length table.now) }
     ensures { verdict_is result
         ≡ first 4
         (row_words (word_at table.now) types attributes particles
         ++ form_words (word_at table.now) types attributes particles) }
 {
-    let r = every_row(table, types, attributes, particles);
-    let Verdict::Right = r else {
-        return r;
-    };
+    every_row(table, types, attributes, particles)?;
     cast_rows::all(table, types, attributes, particles)
 }
 
 // The header words that are given, then the length, then every other word: the first at fault.
-pub fn check(table: &[u32]) -> Verdict
+pub fn check(table: &[u32]) -> Result<(), Flaw>
     ensures { verdict_is result ≡ verdict table.now }
 {
-    let h = header::given(table);
-    let Verdict::Right = h else {
-        return h;
-    };
+    header::given(table)?;
     let types = word(table, header::TYPES);
     let attributes = word(table, header::ATTRIBUTES);
     let particles = word(table, header::PARTICLES);
     let size = cast_rows::size(table, types, attributes, particles);
     let n = table.len();
     if n != size {
-        return Verdict::Wrong(n);
+        return Err(Flaw(n));
     }
     if limit::MOST_TABLE_WORDS < n {
-        return Verdict::Wrong(n);
+        return Err(Flaw(n));
     }
     every_word(table, types, attributes, particles)
 }

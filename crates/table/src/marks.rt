@@ -7,11 +7,12 @@ ghost use Rattle.table.specs.First.Verdict.{right};
 ghost use Rattle.table.specs.Valid.{verdict};
 ghost use Rattle.table.specs.Views.{setting_is};
 
-use crate::answers::{Setting, Verdict};
+use crate::answers::Flaw;
 use crate::check;
 use crate::places::type_at;
 use crate::rows::{types, word};
-use numbers::{limit, refusal};
+use numbers::limit;
+use numbers::refusal::{Fault, Refusal};
 
 // A held word with a party's bit cleared by the mark 0, set by any other.
 fn marked(party: u32, mark: u32, marks: u32) -> u32
@@ -28,42 +29,37 @@ fn marked(party: u32, mark: u32, marks: u32) -> u32
 }
 
 // In a table that is right.
-fn set_checked(table: &mut [u32], party: u32, t: u32, mark: u32) -> Setting
+fn set_checked(table: &mut [u32], party: u32, t: u32, mark: u32) -> Result<(), Fault<usize>>
     requires { verdict table.old ≡ right }
     ensures { setting_is result table.new ≡ setting_by table.old party t mark right }
 {
     let known = types(table);
     if known <= t {
-        return Setting {
-            number: refusal::ROOT,
-            place: 0,
-        };
+        return Err(Fault {
+            why: Refusal::Root,
+            at: 0,
+        });
     }
     if limit::PARTIES <= party {
-        return Setting {
-            number: refusal::PARTY,
-            place: 0,
-        };
+        return Err(Fault {
+            why: Refusal::Party,
+            at: 0,
+        });
     }
     let i = type_at(t);
-    let marks = word(table, i);
-    table[i] = marked(party, mark, marks);
-    Setting {
-        number: refusal::ACCEPTED,
-        place: 0,
-    }
+    table[i] = marked(party, mark, table[i]);
+    Ok(())
 }
 
 // Sets a party's mark of type t, or clears it by the mark 0. It asks nothing of what it is given.
-pub fn set_held(table: &mut [u32], party: u32, t: u32, mark: u32) -> Setting
+pub fn set_held(table: &mut [u32], party: u32, t: u32, mark: u32) -> Result<(), Fault<usize>>
     ensures { setting_is result table.new ≡ setting table.old party t mark }
 {
-    let v = check(table);
-    match v {
-        Verdict::Wrong(i) => Setting {
-            number: refusal::TABLE,
-            place: i,
-        },
-        Verdict::Right => set_checked(table, party, t, mark),
+    match check(table) {
+        Err(Flaw(at)) => Err(Fault {
+            why: Refusal::Table,
+            at,
+        }),
+        Ok(()) => set_checked(table, party, t, mark),
     }
 }

@@ -7,82 +7,90 @@ ghost use Rattle.table.specs.Valid.{element_words, group_words, occurs_words, pa
 ghost use Rattle.table.specs.Views.{verdict_is};
 ghost use Rattle.table.specs.Words.{particle_at};
 
-use crate::answers::Verdict;
+use crate::answers::{Flaw, in_row};
 use crate::places::particle_at;
-use crate::runs::four_from;
+use crate::runs::{given_from, words_from};
 use numbers::{limit, particle};
 
 // An element: name, type, 0.
-fn element(types: u32, name: u32, t: u32, last: u32) -> Verdict
+fn element(types: u32, name: u32, t: u32, last: u32) -> Result<(), Flaw>
     ensures { verdict_is result ≡ first 1 (element_words types name t last) }
 {
     if limit::MOST_NAME < name {
-        return Verdict::Wrong(1);
+        return Err(Flaw(1));
     }
     if types <= t {
-        return Verdict::Wrong(2);
+        return Err(Flaw(2));
     }
     if last != 0 {
-        return Verdict::Wrong(3);
+        return Err(Flaw(3));
     }
-    Verdict::Right
+    Ok(())
 }
 
 // A sequence or a choice: first child, number of children, so many at least, 0.
-fn group(particles: u32, least: u32, p: u32, start: u32, number: u32, last: u32) -> Verdict
+fn group(particles: u32, least: u32, p: u32, start: u32, number: u32, last: u32) -> Result<(), Flaw>
     ensures { verdict_is result ≡ first 1 (group_words particles least p start number last) }
 {
     if start <= p {
-        return Verdict::Wrong(1);
+        return Err(Flaw(1));
     }
     if particles <= start {
-        return Verdict::Wrong(1);
+        return Err(Flaw(1));
     }
     if number < least {
-        return Verdict::Wrong(2);
+        return Err(Flaw(2));
     }
     if limit::MOST_CHILDREN < number {
-        return Verdict::Wrong(2);
+        return Err(Flaw(2));
     }
     if particles - start < number {
-        return Verdict::Wrong(2);
+        return Err(Flaw(2));
     }
     if last != 0 {
-        return Verdict::Wrong(3);
+        return Err(Flaw(3));
     }
-    Verdict::Right
+    Ok(())
 }
 
 // Occurs: child, least, most.
-fn occurs(particles: u32, p: u32, child: u32, least: u32, most: u32) -> Verdict
+fn occurs(particles: u32, p: u32, child: u32, least: u32, most: u32) -> Result<(), Flaw>
     ensures { verdict_is result ≡ first 1 (occurs_words particles p child least most) }
 {
     if child <= p {
-        return Verdict::Wrong(1);
+        return Err(Flaw(1));
     }
     if particles <= child {
-        return Verdict::Wrong(1);
+        return Err(Flaw(1));
     }
     if limit::MOST_TIMES < least {
-        return Verdict::Wrong(2);
+        return Err(Flaw(2));
     }
     if most == limit::UNBOUNDED {
-        return Verdict::Right;
+        return Ok(());
     }
     if most == 0 {
-        return Verdict::Wrong(3);
+        return Err(Flaw(3));
     }
     if limit::MOST_TIMES < most {
-        return Verdict::Wrong(3);
+        return Err(Flaw(3));
     }
     if most < least {
-        return Verdict::Wrong(3);
+        return Err(Flaw(3));
     }
-    Verdict::Right
+    Ok(())
 }
 
 // The four words.
-fn by_kind(types: u32, particles: u32, p: u32, kind: u32, x: u32, y: u32, z: u32) -> Verdict
+fn by_kind(
+    types: u32,
+    particles: u32,
+    p: u32,
+    kind: u32,
+    x: u32,
+    y: u32,
+    z: u32,
+) -> Result<(), Flaw>
     ensures { verdict_is result ≡ first 0 (particle_words types particles p kind x y z) }
 {
     if kind == particle::ELEMENT {
@@ -97,22 +105,16 @@ fn by_kind(types: u32, particles: u32, p: u32, kind: u32, x: u32, y: u32, z: u32
     if kind == particle::OCCURS {
         return occurs(particles, p, x, y, z);
     }
-    Verdict::Wrong(0)
+    Err(Flaw(0))
 }
 
 // The particle row p.
-fn row(table: &[u32], types: u32, attributes: u32, particles: u32, p: u32) -> Verdict
+fn row(table: &[u32], types: u32, attributes: u32, particles: u32, p: u32) -> Result<(), Flaw>
     ensures { verdict_is result ≡ particle_verdict table.now types attributes particles p }
 {
     let base = particle_at(types, attributes, p);
-    let w = four_from(table, base);
-    match by_kind(types, particles, p, w.a, w.b, w.c, w.d) {
-        Verdict::Right => Verdict::Right,
-        Verdict::Wrong(k) => {
-            let place = base + k;
-            Verdict::Wrong(place)
-        }
-    }
+    let [kind, x, y, z] = words_from::<4>(table, base);
+    in_row(base, by_kind(types, particles, p, kind, x, y, z))
 }
 
 // Whether so many rows from `start` on are all there. The sum is wider than its parts, so one test does.
@@ -138,20 +140,17 @@ fn row_right(
         (particle_verdict table.now types attributes particles p) }
 {
     let base = particle_at(types, attributes, p);
-    let kind = table[base];
-    let x = table[base + 1];
-    let y = table[base + 2];
-    let z = table[base + 3];
+    let [kind, x, y, z] = given_from::<4>(table, base);
     if kind == particle::ELEMENT {
-        *small = *small | x;
-        *zeros = *zeros | z;
+        *small |= x;
+        *zeros |= z;
         return y < types;
     }
     if x <= p {
         return false;
     }
     if kind == particle::OCCURS {
-        *small = *small | y;
+        *small |= y;
         if particles <= x {
             return false;
         }
@@ -163,7 +162,7 @@ fn row_right(
         }
         return z <= limit::UNBOUNDED;
     }
-    *zeros = *zeros | z;
+    *zeros |= z;
     if particle::OCCURS < kind {
         return false;
     }
@@ -183,39 +182,26 @@ fn all_right(table: &[u32], types: u32, attributes: u32, particles: u32) -> bool
 {
     let mut small = 0;
     let mut zeros = 0;
-    let mut p = 0;
-    while p < particles {
+    for p in 0..particles {
         if !row_right(
             table, types, attributes, particles, p, &mut small, &mut zeros,
         ) {
             return false;
         }
-        p += 1;
     }
-    if limit::MOST_NAME < small {
-        return false;
-    }
-    if zeros != 0 {
-        return false;
-    }
-    true
+    small <= limit::MOST_NAME && zeros == 0
 }
 
 // Every particle row, up to one at fault: it is looked for only where the rows are not judged right.
-pub fn all(table: &[u32], types: u32, attributes: u32, particles: u32) -> Verdict
+pub fn all(table: &[u32], types: u32, attributes: u32, particles: u32) -> Result<(), Flaw>
     requires { particle_at types attributes particles ≤ length table.now }
     ensures { verdict_is result ≡ particles_verdict table.now types attributes particles }
 {
     if all_right(table, types, attributes, particles) {
-        return Verdict::Right;
+        return Ok(());
     }
-    let mut p = 0;
-    while p < particles {
-        let r = row(table, types, attributes, particles, p);
-        let Verdict::Right = r else {
-            return r;
-        };
-        p += 1;
+    for p in 0..particles {
+        row(table, types, attributes, particles, p)?;
     }
-    Verdict::Right
+    Ok(())
 }

@@ -1,7 +1,7 @@
 // Where the rows of a table begin: behind four header words the type rows, of seven words each, then the attribute rows, of three,
 // then the particle rows, of four. Of the row past the last it is the first word past them.
 ghost use Rattle.std.specs.Prelude.{◌≡◌, ◌<◌};
-ghost use Rattle.table.specs.Words.{type_at, attribute_at, particle_at, type_pair_at};
+ghost use Rattle.table.specs.Words.{type_at, attribute_at, particle_at, derived_at, substitute_at, type_pair_at, row_pair_at};
 
 // The type row t.
 pub fn type_at(t: u32) -> usize
@@ -24,10 +24,41 @@ pub fn particle_at(types: u32, attributes: u32, p: u32) -> usize
     attribute_at(types, attributes) + 4 * (p as usize)
 }
 
-// The pair of type t behind the rows' end, D derived entries and S substitutes.
-pub fn casts_at(end: usize, entries: u32, swaps: u32, t: u32) -> usize
-    requires { end < 1099511627776 }
-    ensures { result ≡ type_pair_at end entries swaps t }
-{
-    end + 2 + (entries as usize) + 2 * (swaps as usize) + 2 * (t as usize)
+// The words behind the rows: where they begin, and how many derived entries and substitutes there are.
+#[derive(Clone, Copy)]
+pub struct Casts {
+    pub end: usize,
+    pub entries: u32,
+    pub swaps: u32,
+    ghost small: { end < 1099511627776 },
+}
+
+impl Casts {
+    // The derived entry i.
+    pub fn entry_at(self, i: u32) -> usize
+        ensures { result ≡ derived_at self.end i }
+    {
+        self.end + 2 + (i as usize)
+    }
+
+    // The substitute i.
+    pub fn swap_at(self, i: u32) -> usize
+        ensures { result ≡ substitute_at self.end self.entries i }
+    {
+        self.entry_at(self.entries) + 2 * (i as usize)
+    }
+
+    // The pair of type t.
+    pub fn pair_at(self, t: u32) -> usize
+        ensures { result ≡ type_pair_at self.end self.entries self.swaps t }
+    {
+        self.swap_at(self.swaps) + 2 * (t as usize)
+    }
+
+    // The pair of particle row p behind so many types' pairs.
+    pub fn row_pair_at(self, types: u32, p: u32) -> usize
+        ensures { result ≡ row_pair_at self.end self.entries self.swaps types p }
+    {
+        self.pair_at(types) + 2 * (p as usize)
+    }
 }

@@ -1,19 +1,20 @@
 // What stands in a table's rows. Each answers on every list: a word past its end is 0.
-ghost use Rattle.std.specs.Prelude.{◌≡◌, ◌<◌};
+ghost use Rattle.std.specs.Prelude.{◌≡◌, ◌+◌, ◌<◌};
 ghost use Rattle.table.specs.Rows.{table_of, held_of, attribute_of, row_from, row_at};
 ghost use Rattle.table.specs.Views.{content_is, row_is, attribute_is, Spans, Listed, listed_at};
-ghost use Rattle.table.specs.Words.{word_at, rows_end, substitutes_in};
+ghost use Rattle.table.specs.Words.{word_at, size_of, rows_end, derivations_in, substitutes_in};
 
 use crate::answers::{Attribute, Content, Particle, Span, TypeList};
 use crate::header;
-use crate::places::{attribute_at, casts_at, particle_at, type_at};
+use crate::places::{Casts, attribute_at, particle_at, type_at};
+use crate::runs::words_from;
 use numbers::{content, particle};
 
 // The word at a place.
 pub fn word(table: &[u32], i: usize) -> u32
     ensures { result ≡ word_at table.now i }
 {
-    if i < table.len() { table[i] } else { 0 }
+    table.get(i).copied().unwrap_or(0)
 }
 
 // The number of types.
@@ -68,16 +69,11 @@ pub fn attribute(table: &[u32], i: u32) -> Attribute
 {
     let types = word(table, header::TYPES);
     let base = attribute_at(types, i);
-    let name = word(table, base);
-    let must = word(table, base + 1) == 1;
-    let t = word(table, base + 2);
-    let row = type_at(t);
-    let simple = word(table, row + 4);
-    let b = word(table, row + 5);
-    let c = word(table, row + 6);
+    let [name, must, t] = words_from::<3>(table, base);
+    let [simple, b, c] = words_from::<3>(table, type_at(t) + 4);
     Attribute {
         name,
-        must,
+        must: must == 1,
         simple,
         b,
         c,
@@ -100,24 +96,12 @@ pub fn row_of(i: u32, kind: u32, x: u32, y: u32, z: u32) -> Particle
     Particle::Occurs(x, y, z)
 }
 
-// The particle row i of a table with so many types and attribute rows. One test does for the four words of a row that is in the table.
+// The particle row i of a table with so many types and attribute rows.
 fn row_at(table: &[u32], types: u32, attributes: u32, i: u32) -> Particle
     ensures { row_is result ≡ row_at table.now types attributes i }
 {
     let base = particle_at(types, attributes, i);
-    if base + 3 < table.len() {
-        return row_of(
-            i,
-            table[base],
-            table[base + 1],
-            table[base + 2],
-            table[base + 3],
-        );
-    }
-    let kind = word(table, base);
-    let x = word(table, base + 1);
-    let y = word(table, base + 2);
-    let z = word(table, base + 3);
+    let [kind, x, y, z] = words_from::<4>(table, base);
     row_of(i, kind, x, y, z)
 }
 
@@ -130,43 +114,54 @@ pub fn particle(table: &[u32], i: u32) -> Particle
     row_at(table, types, attributes, i)
 }
 
-// Where the rows end: there a table of form 2 goes on.
-fn rows_end(table: &[u32]) -> usize
-    ensures { (result ≡ rows_end table.now) × (result < 1099511627776) }
+// What stands behind so many rows.
+pub fn casts_of(table: &[u32], types: u32, attributes: u32, particles: u32) -> Casts
+    ensures end { result.end ≡ size_of types attributes particles }
+    ensures entries { result.entries ≡ word_at table.now result.end }
+    ensures swaps { result.swaps ≡ word_at table.now (result.end + 1) }
+{
+    let end = particle_at(types, attributes, particles);
+    Casts {
+        end,
+        entries: word(table, end),
+        swaps: word(table, end + 1),
+    }
+}
+
+// What stands behind the rows.
+fn casts(table: &[u32]) -> Casts
+    ensures end { result.end ≡ rows_end table.now }
+    ensures entries { result.entries ≡ derivations_in table.now }
+    ensures swaps { result.swaps ≡ substitutes_in table.now }
 {
     let types = word(table, header::TYPES);
     let attributes = word(table, header::ATTRIBUTES);
     let particles = word(table, header::PARTICLES);
-    particle_at(types, attributes, particles)
+    casts_of(table, types, attributes, particles)
 }
 
 // How many derived entries there are in all: type codes are sent only where there are any.
 pub fn derivations(table: &[u32]) -> u32
     ensures { result ≡ (table_of table.now).derivations }
 {
-    word(table, rows_end(table))
+    casts(table).entries
 }
 
 // How many substitutes there are in all.
 pub fn swaps(table: &[u32]) -> u32
     ensures { result ≡ substitutes_in table.now }
 {
-    word(table, rows_end(table) + 1)
+    casts(table).swaps
 }
 
 // The derived types of type t.
 pub fn derived(table: &[u32], t: u32) -> TypeList
     ensures { (Listed table.now ((table_of table.now).derived t) result) × (result.first < 4398046511104) }
 {
-    let end = rows_end(table);
-    let entries = word(table, end);
-    let swaps = word(table, end + 1);
-    let pair = casts_at(end, entries, swaps, t);
-    let start = word(table, pair);
-    let count = word(table, pair + 1);
-    let first = end + 2 + (start as usize);
+    let casts = casts(table);
+    let [start, count] = words_from::<2>(table, casts.pair_at(t));
     TypeList {
-        first,
+        first: casts.entry_at(start),
         paired: false,
         count,
     }
@@ -177,16 +172,10 @@ pub fn substitutes(table: &[u32], row: u32) -> TypeList
     ensures listed { Listed table.now ((table_of table.now).substitutes row) result }
     ensures small { result.first < 4398046511104 }
 {
-    let end = rows_end(table);
-    let types = word(table, header::TYPES);
-    let entries = word(table, end);
-    let swaps = word(table, end + 1);
-    let pair = casts_at(end, entries, swaps, types) + 2 * (row as usize);
-    let start = word(table, pair);
-    let count = word(table, pair + 1);
-    let first = end + 2 + (entries as usize) + 2 * (start as usize) + 1;
+    let casts = casts(table);
+    let [start, count] = words_from::<2>(table, casts.row_pair_at(word(table, header::TYPES), row));
     TypeList {
-        first,
+        first: casts.swap_at(start) + 1,
         paired: true,
         count,
     }

@@ -1,60 +1,27 @@
-// Words that stand one after another: seven that are given, or four read by one test where all of them are. A word past the end is 0, as in `rows`.
-ghost use Rattle.std.specs.Prelude.{◌+◌, ◌<◌, length};
-ghost use Rattle.table.specs.Runs.{FourAt, SevenAt};
+// Words that stand one after another. A word past the end is 0, as in `rows`.
+ghost use Rattle.std.specs.Prelude.{◌+◌, ◌<◌, ◌≤◌, length};
+ghost use Rattle.table.specs.Runs.{RunAt};
 
 use crate::rows::word;
 
-#[derive(Clone, Copy)]
-pub struct Four {
-    pub a: u32,
-    pub b: u32,
-    pub c: u32,
-    pub d: u32,
-}
-
-#[derive(Clone, Copy)]
-pub struct Seven {
-    pub a: u32,
-    pub b: u32,
-    pub c: u32,
-    pub d: u32,
-    pub e: u32,
-    pub f: u32,
-    pub g: u32,
-}
-
-// Four words from a place on.
-pub fn four_from(table: &[u32], i: usize) -> Four
-    requires { i < 4611686018427387904 }
-    ensures { FourAt table.now i result }
+// N words from a place on.
+pub fn words_from<const N: usize>(table: &[u32], i: usize) -> [u32; N]
+    requires { i + N < 4611686018427387904 }
+    ensures { RunAt table.now i N result }
 {
-    if i + 3 < table.len() {
-        return Four {
-            a: table[i],
-            b: table[i + 1],
-            c: table[i + 2],
-            d: table[i + 3],
-        };
+    let mut run = [0; N];
+    for k in 0..N {
+        run[k] = word(table, i + k);
     }
-    let a = word(table, i);
-    let b = word(table, i + 1);
-    let c = word(table, i + 2);
-    let d = word(table, i + 3);
-    Four { a, b, c, d }
+    run
 }
 
-// Seven words from a place on, all of which are given.
-pub fn seven_from(table: &[u32], i: usize) -> Seven
-    requires { i + 6 < length table.now }
-    ensures { SevenAt table.now i result }
+// N words from a place on, all of which are given.
+pub fn given_from<const N: usize>(table: &[u32], i: usize) -> [u32; N]
+    requires { i + N ≤ length table.now }
+    ensures { RunAt table.now i N result }
 {
-    Seven {
-        a: table[i],
-        b: table[i + 1],
-        c: table[i + 2],
-        d: table[i + 3],
-        e: table[i + 4],
-        f: table[i + 5],
-        g: table[i + 6],
-    }
+    let mut run = [0; N];
+    run.copy_from_slice(&table[i..i + N]);
+    run
 }

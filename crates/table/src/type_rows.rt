@@ -2,89 +2,90 @@
 ghost use Rattle.std.specs.Prelude.{◌≡◌, ◌+◌, ◌≤◌, ◌<◌, length};
 ghost use Rattle.table.specs.First.{first};
 ghost use Rattle.table.specs.Valid.{front_words, empty_words, unused_words, range_words, enumeration_words, simple_words, particles_words, content_words, type_verdict, types_verdict};
+ghost use Rattle.table.specs.Runs.{type_words};
 ghost use Rattle.table.specs.Views.{verdict_is};
 ghost use Rattle.table.specs.Words.{type_at};
 
-use crate::answers::Verdict;
+use crate::answers::{Flaw, in_row};
 use crate::places::type_at;
-use crate::runs::seven_from;
+use crate::runs::given_from;
 use numbers::{content, limit, simple};
-use signed::{Gap, gap};
+use signed::gap;
 
 // The first four words: held, content, first attribute row and attribute count.
-fn front(attributes: u32, held: u32, content: u32, start: u32, count: u32) -> Verdict
+fn front(attributes: u32, held: u32, content: u32, start: u32, count: u32) -> Result<(), Flaw>
     ensures { verdict_is result ≡ first 0 (front_words attributes held content start count) }
 {
     if limit::MOST_HELD < held {
-        return Verdict::Wrong(0);
+        return Err(Flaw(0));
     }
     if content::PARTICLES < content {
-        return Verdict::Wrong(1);
+        return Err(Flaw(1));
     }
     if attributes < start {
-        return Verdict::Wrong(2);
+        return Err(Flaw(2));
     }
     if attributes - start < count {
-        return Verdict::Wrong(3);
+        return Err(Flaw(3));
     }
-    Verdict::Right
+    Ok(())
 }
 
 // b and c where they are not used.
-fn unused(b: u32, c: u32) -> Verdict
+fn unused(b: u32, c: u32) -> Result<(), Flaw>
     ensures { verdict_is result ≡ first 5 (unused_words b c) }
 {
     if b != 0 {
-        return Verdict::Wrong(5);
+        return Err(Flaw(5));
     }
     if c != 0 {
-        return Verdict::Wrong(6);
+        return Err(Flaw(6));
     }
-    Verdict::Right
+    Ok(())
 }
 
 // a, b and c of empty content.
-fn empty(a: u32, b: u32, c: u32) -> Verdict
+fn empty(a: u32, b: u32, c: u32) -> Result<(), Flaw>
     ensures { verdict_is result ≡ first 4 (empty_words a b c) }
 {
     if a != 0 {
-        return Verdict::Wrong(4);
+        return Err(Flaw(4));
     }
     unused(b, c)
 }
 
 // b and c, the ends of a range.
-fn ends(b: u32, c: u32) -> Verdict
+fn ends(b: u32, c: u32) -> Result<(), Flaw>
     ensures { verdict_is result ≡ first 5 (range_words b c) }
 {
     match gap(b, c) {
-        Gap::Under => Verdict::Wrong(6),
-        Gap::By(_) => Verdict::Right,
+        None => Err(Flaw(6)),
+        Some(_) => Ok(()),
     }
 }
 
 // b, the number of an enumeration's values, and c.
-fn values(b: u32, c: u32) -> Verdict
+fn values(b: u32, c: u32) -> Result<(), Flaw>
     ensures { verdict_is result ≡ first 5 (enumeration_words b c) }
 {
     if b == 0 {
-        return Verdict::Wrong(5);
+        return Err(Flaw(5));
     }
     if limit::MOST_VALUES < b {
-        return Verdict::Wrong(5);
+        return Err(Flaw(5));
     }
     if c != 0 {
-        return Verdict::Wrong(6);
+        return Err(Flaw(6));
     }
-    Verdict::Right
+    Ok(())
 }
 
 // a, b and c of simple content.
-fn simple(a: u32, b: u32, c: u32) -> Verdict
+fn simple(a: u32, b: u32, c: u32) -> Result<(), Flaw>
     ensures { verdict_is result ≡ first 4 (simple_words a b c) }
 {
     if simple::DATE < a {
-        return Verdict::Wrong(4);
+        return Err(Flaw(4));
     }
     if a == simple::RANGED {
         return ends(b, c);
@@ -96,17 +97,17 @@ fn simple(a: u32, b: u32, c: u32) -> Verdict
 }
 
 // a, b and c of particles.
-fn particle(particles: u32, a: u32, b: u32, c: u32) -> Verdict
+fn particle(particles: u32, a: u32, b: u32, c: u32) -> Result<(), Flaw>
     ensures { verdict_is result ≡ first 4 (particles_words particles a b c) }
 {
     if particles <= a {
-        return Verdict::Wrong(4);
+        return Err(Flaw(4));
     }
     unused(b, c)
 }
 
 // a, b and c by the content.
-fn by_content(particles: u32, content: u32, a: u32, b: u32, c: u32) -> Verdict
+fn by_content(particles: u32, content: u32, a: u32, b: u32, c: u32) -> Result<(), Flaw>
     ensures { verdict_is result ≡ first 4 (content_words particles content a b c) }
 {
     if content == content::EMPTY {
@@ -118,39 +119,31 @@ fn by_content(particles: u32, content: u32, a: u32, b: u32, c: u32) -> Verdict
     particle(particles, a, b, c)
 }
 
+// The seven words.
+fn words(attributes: u32, particles: u32, row: [u32; 7]) -> Result<(), Flaw>
+    ensures { verdict_is result ≡ first 0 (type_words attributes particles row) }
+{
+    let [held, content, start, count, a, b, c] = row;
+    front(attributes, held, content, start, count)?;
+    by_content(particles, content, a, b, c)
+}
+
 // The type row t.
-fn row(table: &[u32], attributes: u32, particles: u32, t: u32) -> Verdict
+fn row(table: &[u32], attributes: u32, particles: u32, t: u32) -> Result<(), Flaw>
     requires { type_at t + 6 < length table.now }
     ensures { verdict_is result ≡ type_verdict table.now attributes particles t }
 {
     let base = type_at(t);
-    let w = seven_from(table, base);
-    let h = front(attributes, w.a, w.b, w.c, w.d);
-    if let Verdict::Wrong(k) = h {
-        let place = base + k;
-        return Verdict::Wrong(place);
-    }
-    match by_content(particles, w.b, w.e, w.f, w.g) {
-        Verdict::Right => Verdict::Right,
-        Verdict::Wrong(k) => {
-            let place = base + k;
-            Verdict::Wrong(place)
-        }
-    }
+    in_row(base, words(attributes, particles, given_from(table, base)))
 }
 
 // Every type row, up to one at fault.
-pub fn all(table: &[u32], types: u32, attributes: u32, particles: u32) -> Verdict
+pub fn all(table: &[u32], types: u32, attributes: u32, particles: u32) -> Result<(), Flaw>
     requires { type_at types ≤ length table.now }
     ensures { verdict_is result ≡ types_verdict table.now attributes particles types }
 {
-    let mut t = 0;
-    while t < types {
-        let r = row(table, attributes, particles, t);
-        let Verdict::Right = r else {
-            return r;
-        };
-        t += 1;
+    for t in 0..types {
+        row(table, attributes, particles, t)?;
     }
-    Verdict::Right
+    Ok(())
 }

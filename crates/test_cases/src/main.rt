@@ -15,12 +15,6 @@ use payload::tell_reading;
 use std::io;
 use std::io::Read;
 
-fn wide(x: u8) -> u32
-    ensures { result < 256 }
-{
-    x as u32
-}
-
 // Nothing more can be told.
 fn cut_off(rt: &impl Print, s: &[u8]) -> io::Result<usize>
     ensures { IfOk result (λ past. past ≡ length s.now) }
@@ -38,7 +32,7 @@ fn code_case(rt: &impl Print, s: &[u8], at: usize) -> io::Result<usize>
     if left < 22 {
         return cut_off(rt, s);
     }
-    let n = wide(s[at + 1]) as usize;
+    let n = usize::from(s[at + 1]);
     if left - 22 < n {
         return cut_off(rt, s);
     }
@@ -76,7 +70,7 @@ fn payload_case(rt: &impl Print, s: &[u8], at: usize) -> io::Result<usize>
         return cut_off(rt, s);
     }
     let end = from + bytes;
-    let party = wide(s[at + 1]);
+    let party = u32::from(s[at + 1]);
     let name = word(s, at + 10);
     let t = word(s, at + 14);
     let events = word(s, at + 18) as usize;

@@ -32,35 +32,27 @@ fn print_path(rt: &impl Print, area: &[u8; limit::AREA]) -> io::Result<()> {
         return Ok(());
     }
     print!(rt; "path")?;
-    let mut i = 0;
-    while i < limit::MOST_NAMES {
-        if i < n {
-            let name = half(area, 24 + 2 * i);
-            print!(rt; " {name}")?;
-        }
-        i += 1;
+    for i in 0..n.min(limit::MOST_NAMES) {
+        let name = half(area, 24 + 2 * i);
+        print!(rt; " {name}")?;
     }
     println!(rt; "")
 }
 
-fn print_event(rt: &impl Print, events: &[u8], at: usize) -> io::Result<()>
-    requires { at + 16 ≤ length events.now }
+fn print_event(rt: &impl Print, event: &[u8]) -> io::Result<()>
+    requires { 16 ≤ length event.now }
 {
     print!(rt; "event")?;
-    print_word(rt, events, at)?;
-    print_word(rt, events, at + 4)?;
-    print_word(rt, events, at + 8)?;
-    print_word(rt, events, at + 12)?;
+    print_word(rt, event, 0)?;
+    print_word(rt, event, 4)?;
+    print_word(rt, event, 8)?;
+    print_word(rt, event, 12)?;
     println!(rt; "")
 }
 
 fn print_events(rt: &impl Print, events: &[u8], n: usize) -> io::Result<()> {
-    let mut i = 0;
-    while i < events.len() / limit::EVENT {
-        if i < n {
-            print_event(rt, events, limit::EVENT * i)?;
-        }
-        i += 1;
+    for event in events.chunks_exact(limit::EVENT).take(n) {
+        print_event(rt, event)?;
     }
     Ok(())
 }
@@ -70,35 +62,15 @@ fn print_texts(rt: &impl Print, texts: &[u8], n: usize) -> io::Result<()> {
         return println!(rt; "texts -");
     }
     print!(rt; "texts ")?;
-    let mut i = 0;
-    while i < texts.len() {
-        if i < n {
-            let byte = texts[i];
-            print!(rt; "{byte:02x}")?;
-        }
-        i += 1;
+    for byte in texts.iter().take(n) {
+        print!(rt; "{byte:02x}")?;
     }
     println!(rt; "")
 }
 
 // How many bytes from a place on are not 0.
-fn left(s: &[u8], from: usize) -> u64 {
-    let mut n: u64 = 0;
-    let mut i = from;
-    while i < s.len() {
-        if s[i] != 0 {
-            n = more(n);
-        }
-        i += 1;
-    }
-    n
-}
-
-const MOST: u64 = limit::MOST_WORD as u64;
-
-// A count that stops where a word ends.
-fn more(n: u64) -> u64 {
-    if n < MOST { n + 1 } else { n }
+fn left(s: &[u8], from: usize) -> usize {
+    s.iter().skip(from).filter(|byte| **byte != 0).count()
 }
 
 fn tell(

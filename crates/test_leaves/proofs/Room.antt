@@ -6,15 +6,14 @@ use native.Mathlib.Omega.{arith}
 use lib.ListN.{length}
 use Rattle.model.specs.Write.{Out}
 use Rattle.writer_parts.specs.declared.Spot.{Spot}
-use Rattle.writer_parts.specs.declared.Judgement.{Judgement}
-use Rattle.writer_parts.specs.declared.Judgement.TheVariants.{Go}
+use Rattle.std.specs.Prelude.{Ok}
 use Rattle.writer_parts.specs.Notes.{spells}
-use Rattle.writer_parts.specs.Walk.{Walked, Went}
+use Rattle.writer_parts.specs.Walk.{Judgement, Walked, Went}
 
 abbrev origin : Spot
 origin = record { event = 0; used = 0; bits = 0 }
 
-module _ (L X : List ℕ) (o : Out) (N : List ℕ) (r : Judgement) (M : List ℕ) (w : Walked L X o origin N r M) (e : Spot) (g : r ≡ Go e) where
+module _ (L X : List ℕ) (o : Out) (N : List ℕ) (r : Judgement) (M : List ℕ) (w : Walked L X o origin N r M) (e : Spot) (g : r ≡ Ok e) where
   went : Went L X o origin N e M
   went = rw g at w.is
 

@@ -12,6 +12,7 @@ pub mod writing; // writing.rt: codes and texts into a lent buffer
 
 ghost use Rattle.std.specs.Prelude.{◌*◌, ◌≤◌};
 
+use numbers::refusal::Refusal;
 use numbers::{limit, refusal};
 use wire::{Number, Read};
 
@@ -30,31 +31,25 @@ fn reach(bytes: usize) -> u32
 }
 
 fn refused(number: u32, out: &mut [u32; 4]) -> u32 {
-    out[0] = 0;
-    out[1] = 0;
-    out[2] = 0;
-    out[3] = 0;
+    *out = [0; 4];
     number
 }
 
 fn accepted(value: u32, place: u32, more: u32, out: &mut [u32; 4]) -> u32 {
-    out[0] = value;
-    out[1] = place;
-    out[2] = more;
-    out[3] = 0;
+    *out = [value, place, more, 0];
     refusal::ACCEPTED
 }
 
 fn told(r: Read, out: &mut [u32; 4]) -> u32 {
     match r {
-        Read::Refuse(e) => refused(e, out),
-        Read::Value(v, p) => accepted(v, p.0, 0, out),
+        Err(why) => refused(why.number(), out),
+        Ok((value, next)) => accepted(value, next.0, 0, out),
     }
 }
 
-fn told_number(n: Number, out: &mut [u32; 4]) -> u32 {
+fn told_number(n: Result<Number, Refusal>, out: &mut [u32; 4]) -> u32 {
     match n {
-        Number::Refuse(e) => refused(e, out),
-        Number::Value(v, p, short) => accepted(v, p.0, short as u32, out),
+        Err(why) => refused(why.number(), out),
+        Ok(n) => accepted(n.value, n.next.0, u32::from(n.short), out),
     }
 }

@@ -9,7 +9,7 @@ use value::Code;
 use wire::Bits;
 use writer_parts::pen::put_notes;
 use writer_parts::values::note_number;
-use writer_parts::{Judgement, Spelling, Spot};
+use writer_parts::{Spelling, Spot};
 
 // What a walk over one event noted, put down by the pen where its bits have room.
 pub fn put_noted(
@@ -46,7 +46,7 @@ pub fn put_spelt(buf: &mut [u8], at: u32, c: Code, v: u32, s: Spelling, out: &mu
     };
     let mut notes = [0u64; 1];
     match note_number(&list, b"", &mut notes, start, 3, v, 0, c, v, s) {
-        Judgement::Refuse(e, _) => refused(e, out),
-        Judgement::Go(end) => put_noted(buf, at, v, &notes, end, out),
+        Err(fault) => refused(fault.why.number(), out),
+        Ok(end) => put_noted(buf, at, v, &notes, end, out),
     }
 }

@@ -1,9 +1,11 @@
 // Codes and texts of a payload, below a wall.
 ghost use Rattle.std.specs.Prelude.{◌≡◌};
+ghost use Rattle.numbers.specs.Refused.{answered};
 ghost use Rattle.utf8.specs.Text.{text_fault};
 
 use super::{OUTSIDE, accepted, reach, refused, told, told_number};
 use numbers::refusal;
+use numbers::refusal::Refusal;
 use value::Value;
 use value::forms::{range, simple, times};
 use wire::{Bits, Bytes};
@@ -100,9 +102,9 @@ pub fn probe_simple(
         return refused(OUTSIDE, out);
     }
     match value::reading::simple(s, Bits(end), Bits(at), simple(kind, b, c)) {
-        Value::Refuse(e) => refused(e, out),
-        Value::Read { word, text, next } => accepted(word, next.0, text.0, out),
-        Value::Dated { p, q, next } => {
+        Err(why) => refused(why.number(), out),
+        Ok(Value::Read { word, text, next }) => accepted(word, next.0, text.0, out),
+        Ok(Value::Dated { p, q, next }) => {
             accepted(p, next.0, 0, out);
             out[3] = q;
             refusal::ACCEPTED
@@ -118,7 +120,7 @@ pub fn probe_byte(s: &[u8], at: u32, out: &mut [u32; 4]) -> u32 {
     if most - at < 8 {
         return refused(OUTSIDE, out);
     }
-    accepted(value::reading::byte(s, Bits(at)) as u32, 0, 0, out)
+    accepted(u32::from(value::reading::byte(s, Bits(at))), 0, 0, out)
 }
 
 // What is wrong with n bytes from a place, aligned or not.
@@ -130,11 +132,24 @@ pub fn probe_text_fault(s: &[u8], at: u32, n: u32, out: &mut [u32; 4]) -> u32 {
     if (most - at) / 8 < n {
         return refused(OUTSIDE, out);
     }
-    refused(value::reading::text_fault(s, Bits(at), Bytes(n)), out)
+    refused(
+        judged(value::reading::text_fault(s, Bits(at), Bytes(n))),
+        out,
+    )
 }
 
 pub fn probe_utf8(text: &[u8]) -> u32
     ensures { result ≡ text_fault text.now }
 {
-    utf8::check(text)
+    judged(utf8::check(text))
+}
+
+// The number of what is wrong, 0 for nothing.
+fn judged(r: Result<(), Refusal>) -> u32
+    ensures { result ≡ answered r }
+{
+    match r {
+        Ok(()) => refusal::ACCEPTED,
+        Err(why) => why.number(),
+    }
 }

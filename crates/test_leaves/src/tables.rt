@@ -3,19 +3,20 @@ ghost use Rattle.std.specs.Prelude.{◌≡◌};
 ghost use Rattle.table.specs.Words.{word_at};
 
 use super::accepted;
+use numbers::refusal::Refusal;
 use numbers::{content, particle, refusal};
-use table::{Content, Particle, Verdict};
+use table::{Content, Flaw, Particle};
 
 // 0 where the table is right; 1, and the place of the first word at fault.
 pub fn probe_table(words: &[u32], place: &mut usize) -> u32 {
     match table::check(words) {
-        Verdict::Right => {
+        Ok(()) => {
             *place = 0;
             refusal::ACCEPTED
         }
-        Verdict::Wrong(i) => {
-            *place = i;
-            refusal::TABLE
+        Err(Flaw(word)) => {
+            *place = word;
+            Refusal::Table.number()
         }
     }
 }

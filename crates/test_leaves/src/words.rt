@@ -7,8 +7,6 @@ ghost use Rattle.wire.specs.Width as meaning;
 ghost use Rattle.signed.specs.Words.{up, down, word_of};
 ghost use Rattle.signed.specs.Views.{bit};
 
-use signed::Gap;
-
 pub fn probe_width(n: u32) -> u32
     ensures { result ≡ meaning.width n }
 {
@@ -34,11 +32,11 @@ pub fn probe_word(v: i64) -> u32 {
 // 1 where c lies under b, and else how far it lies over b.
 pub fn probe_gap(b: u32, c: u32, by: &mut u32) -> u32 {
     match signed::gap(b, c) {
-        Gap::Under => {
+        None => {
             *by = 0;
             1
         }
-        Gap::By(k) => {
+        Some(k) => {
             *by = k;
             0
         }

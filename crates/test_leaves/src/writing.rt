@@ -7,11 +7,11 @@ use super::{OUTSIDE, accepted, reach, refused, told};
 use numbers::limit;
 use value::forms::{range, simple, times};
 use value::writing::size;
-use value::{Code, Form, Inner, Size};
+use value::{Code, Form, Inner};
 use wire::Bits;
+use writer_parts::Spot;
 use writer_parts::notes::{count, number};
 use writer_parts::values::note_date;
-use writer_parts::{Judgement, Spot};
 
 pub fn probe_put(buf: &mut [u8], at: u32, w: u32, v: u32, out: &mut [u32; 4]) -> u32 {
     let most = reach(buf.len());
@@ -68,8 +68,8 @@ fn number_of(kind: u32, b: u32, c: u32) -> Code {
 // How many bits a value takes; or 20.
 fn sized(c: Code, v: u32, out: &mut [u32; 4]) -> u32 {
     match size(c, v) {
-        Size::Refuse(e) => refused(e, out),
-        Size::Takes(n) => accepted(n.0, 0, 0, out),
+        Err(why) => refused(why.number(), out),
+        Ok(n) => accepted(n.0, 0, 0, out),
     }
 }
 
@@ -107,8 +107,8 @@ pub fn probe_put_date(
     let mut notes = [0u64; 1];
     let clocked = kind == numbers::simple::DATE_TIME;
     match note_date(&list, b"", &mut notes, start, clocked, p, q) {
-        Judgement::Refuse(e, _) => refused(e, out),
-        Judgement::Go(end) => put_noted(buf, at, end.bits, &notes, end, out),
+        Err(fault) => refused(fault.why.number(), out),
+        Ok(end) => put_noted(buf, at, end.bits, &notes, end, out),
     }
 }
 

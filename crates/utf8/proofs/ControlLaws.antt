@@ -1,6 +1,6 @@
 -- Control characters: one octet's test by its value, and the test of a list by its parts and by Controls.antt.
 use Prim.Native.Nat.{ℕ, ◌<◌, ◌≤◌}
-use mathlib.Core.Bool.{Bool, true, false, cond}
+use mathlib.Core.Bool.{Bool, true, false, cond, ◌||◌}
 use mathlib.Core.Path.{◌≡◌, refl, sym, subst}
 use mathlib.Core.List.{List, [], ◌∷◌, ◌++◌}
 use borrow.Author.Tests.{lt-ltb, le-ltb, ne_eqb, ltb-false, eqb-true}
@@ -47,18 +47,13 @@ pub cond-none : (b : Bool) → cond b true false ≡ b
 cond-none true = refl
 cond-none false = refl
 
-pub cond-some : (b : Bool) → cond b true true ≡ true
-cond-some true = refl
-cond-some false = refl
+or-cond : (b c : Bool) → (b || c) ≡ cond b true c
+or-cond true c = refl
+or-cond false c = refl
 
-module _ (l : List ℕ) (found : Bool) (so_far : found ≡ has_control l) (x : ℕ) where
-  pub control-more : is_control x ≡ true → true ≡ has_control (l ++ (x ∷ []))
-  unfolding has_control
-  control-more e = rw (control-append, e, cond-some)
-
-  pub control-same : is_control x ≡ false → found ≡ has_control (l ++ (x ∷ []))
-  unfolding has_control
-  control-same e = rw (control-append, e, cond-none) so_far
+pub control-more : (l : List ℕ) (found : Bool) → found ≡ has_control l → (x : ℕ) (c : Bool) → c ≡ is_control x → (found || c) ≡ has_control (l ++ (x ∷ []))
+unfolding has_control
+control-more l found so_far x c h = rw (control-append, ← so_far, ← h, cond-none) (or-cond found c)
 
 -- none, exactly where each octet is allowed
 allowed-none : {x : ℕ} → Allowed x → is_control x ≡ false

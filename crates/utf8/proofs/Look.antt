@@ -52,4 +52,4 @@ pub look_none : (x : ℕ) → Wrong ≡ look [] x
 unfolding look
 look_none x = refl
 
-pub ruleset look-ways = (look-here, look-past, look-under, look_none)
+pub ruleset look_ways = (look-here, look-past, look-under, look_none)

@@ -1,18 +1,18 @@
 -- Laws of octets at a bit of each byte: what a loop over them keeps, which of their bits tell that they are printable, and that those passed leave a text
 -- between two characters.
 use Prim.Native.Nat.{ℕ, zero, suc, ◌+◌, ◌-◌, ◌*◌, ◌/◌, ◌%◌, ◌^◌, ◌<◌, ◌≤◌, min}
-use mathlib.Core.Bool.{Bool, true, false, not}
+use mathlib.Core.Bool.{Bool, true, false, not, ◌||◌}
 use mathlib.Core.Logic.{inl, inr, ⊎_elim}
 use mathlib.Core.Path.{◌≡◌, refl, sym, ap, ◌∙◌}
 use mathlib.Core.List.{List, [], ◌∷◌, ◌++◌}
-use borrow.Author.Tests.{leb-true, eqb-false, not-true, not-false}
+use borrow.Author.Tests.{eqb-false, not-true, not-false}
 use native.Mathlib.Nat.{add-zero}
 use native.Mathlib.Numerals.{add-one}
 use native.Mathlib.Omega.{arith}
 use native.Mathlib.Decide.{dec_lt}
 use mir.Val.{Fits}
 use mir.Syntax.{w8}
-use lib.Dec.{leb, eqb}
+use lib.Dec.{eqb}
 use lib.ListN.{length, get_or, take, drop}
 use lib.Seq.{drop-cons, take_all}
 use Rattle.utf8.specs.Rfc.{In}
@@ -21,7 +21,7 @@ use Rattle.utf8.specs.Steps.{next, rows, run, number_of}
 use Rattle.utf8.proofs.Look.{refuted, look-here}
 use Rattle.utf8.proofs.Rows.{among, start-among}
 use Rattle.utf8.proofs.Run.{run-nil, run-cons, run-append, run_more, run-fault}
-use Rattle.utf8.proofs.ControlLaws.{control-past, control-append, cond-none, control-more, control-same}
+use Rattle.utf8.proofs.ControlLaws.{control-past, control-append, cond-none, control-more}
 use Rattle.utf8.specs.Slanted.{octet_at, octets_at, Printable, Passed, Whole, Went, Skipped}
 use Rattle.utf8.specs.declared.State.{State}
 use Rattle.utf8.specs.declared.State.TheVariants.{Start, OneLeft}
@@ -76,8 +76,8 @@ unfolding octets_at octet_at
 octets-plain s i zero h = refl
 octets-plain s i (suc n) h = rw (drop-cons s i 0 (omega arith)) (ap (λ (l : List ℕ). get_or s i 0 ∷ l) (octets-plain s (suc i) n (omega arith)))
 
-pub octets-all : (s : List ℕ) (n : ℕ) → n ≡ text_fault (octets_at s 0 0 (length s - 0)) → n ≡ text_fault s
-octets-all s n e =
+pub octets_all : (s : List ℕ) (n : ℕ) → n ≡ text_fault (octets_at s 0 0 (length s - 0)) → n ≡ text_fault s
+octets_all s n e =
     let z : length s - 0 ≡ length s = omega arith in
     let l : octets_at s 0 0 (length s) ≡ s = octets-plain s 0 (length s) (omega arith) ∙ take_all (length s) s (omega arith) in
     rw (z, l) at e
@@ -230,10 +230,9 @@ module _ (s : List ℕ) (k : ℕ) where
         let e : i + (r - i) ≡ r = omega arith in
         went-both (record { from_r = a; r_to = q.r_to; whole = rw e at (whole-printable (r - i) i (rw e q.printable)) })
 
-  pub went-pair : (i to y : ℕ) → 2 ≤ to - i → In 0xC2 0xDF (octet_at s k i) → y ≡ octet_at s k (i + 1) → 0x80 ≤ y → leb y 0xBF ≡ true → Went s k i to (i + 2)
+  pub went-pair : (i to y : ℕ) → 2 ≤ to - i → In 0xC2 0xDF (octet_at s k i) → y ≡ octet_at s k (i + 1) → In 0x80 0xBF y → Went s k i to (i + 2)
   unfolding rows next has_control
-  went-pair i to y h a g l t =
-      let m = leb-true y 0xBF t in
+  went-pair i to y h a g m =
       let e = start-among {lo = 0xC2} {hi = 0xDF} {s = OneLeft} (search among depth 12) a in
       let f = look-here 0x80 0xBF (octet_at s k (i + 1)) Start [] (omega arith) (omega arith) in
       record {
@@ -275,11 +274,8 @@ module _ (s : List ℕ) (k : ℕ) where
       turn : octets_at s k from (i + 1 - from) ≡ octets_at s k from (i - from) ++ (x ∷ [])
       turn = rw (octets-parts from i (i + 1) l (omega arith), octets-one, f)
 
-      pub judged-found : (then : Bool) → c ≡ true → then ≡ true → Judged (i + 1) r then
-      judged-found then z t = rw (turn, t) (run_more (octets_at s k from (i - from)) state e.0 x r g, control-more (octets_at s k from (i - from)) found e.1 x (sym h ∙ z))
-
-      pub judged-free : (then : Bool) → c ≡ false → then ≡ found → Judged (i + 1) r then
-      judged-free then z t = rw (turn, t) (run_more (octets_at s k from (i - from)) state e.0 x r g, control-same (octets_at s k from (i - from)) found e.1 x (sym h ∙ z))
+      pub judged-more : Judged (i + 1) r (found || c)
+      judged-more = rw turn (run_more (octets_at s k from (i - from)) state e.0 x r g, control-more (octets_at s k from (i - from)) found e.1 x c h)
 
     -- at the end
     pub judged-all : (to i n : ℕ) (state : State) (found : Bool) → Judged i state found → i ≤ to → to ≤ i → n ≡ number_of state found → n ≡ text_fault (octets_at s k from (to - from))

@@ -1,14 +1,15 @@
-// What is wrong with a text, as a number: ACCEPTED, NOT_UTF8 (RFC 3629), or CONTROL.
+// What is wrong with a text: nothing, NotUtf8 (RFC 3629), or Control.
 #![tactic(auto)]
 
 mod ascii; // ascii.rt: octets that are printable ASCII, passed 16 at a time
 pub mod slanted; // slanted.rt: a text whose octets begin at any bit of a byte
 
 ghost use Rattle.std.specs.Prelude.{◌≡◌, [], ◌∷◌};
+ghost use Rattle.numbers.specs.Refused.{answered};
 ghost use Rattle.utf8.specs.Text.{◌to◌, is_control, text_fault};
 ghost use Rattle.utf8.specs.Steps.{◌leads◌, look, next, number_of};
 
-use numbers::refusal;
+use numbers::refusal::Refusal;
 use slanted::text_fault;
 
 // What may come next in a text. It starts in Start, between two characters, and may end there alone.
@@ -47,19 +48,19 @@ fn first(octet: u8) -> State
 }
 
 // The state after an octet that must be from least to most.
+#[tactic(auto, using(crate::proofs::Look::look_ways))]
 fn later(octet: u8, least: u8, most: u8, then: State) -> State
     ensures { result ≡ look ((least to most leads then) ∷ []) octet }
 {
-    if octet < least {
-        return State::Wrong;
+    // Two tests and no `contains`: of a range that is no literal its clause goes through partial_cmp, and did not close.
+    if least <= octet && octet <= most {
+        return then;
     }
-    if most < octet {
-        return State::Wrong;
-    }
-    then
+    State::Wrong
 }
 
 // The state after one octet more.
+#[tactic(auto, using(crate::proofs::Look::look_none), unfolding(crate::specs::Steps::next, crate::specs::Steps::rows))]
 pub fn step(state: State, octet: u8) -> State
     ensures { result ≡ next state octet }
 {
@@ -77,46 +78,32 @@ pub fn step(state: State, octet: u8) -> State
 }
 
 // Whether an octet is a control character, which no text may have.
+#[tactic(auto, unfolding(crate::specs::Text::is_control))]
 pub fn control(octet: u8) -> bool
     ensures { result ≡ is_control octet }
 {
-    if 0x1F < octet {
-        return false;
-    }
-    match octet {
-        0x09 => false,
-        0x0A => false,
-        0x0D => false,
-        _ => true,
-    }
+    octet < 0x20 && !matches!(octet, 0x09 | 0x0A | 0x0D)
 }
 
 // What is wrong with a text that ends in this state, in which a control character was found or not.
-pub fn fault(state: State, found: bool) -> u32
-    ensures { result ≡ number_of state found }
+pub fn fault(state: State, found: bool) -> Result<(), Refusal>
+    ensures { answered result ≡ number_of state found }
 {
     match state {
         State::Start => {
             if found {
-                return refusal::CONTROL;
+                return Err(Refusal::Control);
             }
-            refusal::ACCEPTED
+            Ok(())
         }
-        State::OneLeft => refusal::NOT_UTF8,
-        State::TwoLeft => refusal::NOT_UTF8,
-        State::ThreeLeft => refusal::NOT_UTF8,
-        State::AfterE0 => refusal::NOT_UTF8,
-        State::AfterED => refusal::NOT_UTF8,
-        State::AfterF0 => refusal::NOT_UTF8,
-        State::AfterF4 => refusal::NOT_UTF8,
-        State::Wrong => refusal::NOT_UTF8,
+        _ => Err(Refusal::NotUtf8),
     }
 }
 
 // What is wrong with a text.
-pub fn check(text: &[u8]) -> u32
-    ensures { result ≡ text_fault text.now }
+#[tactic(auto, using(crate::proofs::SlantedLaws::octets_all))]
+pub fn check(text: &[u8]) -> Result<(), Refusal>
+    ensures { answered result ≡ text_fault text.now }
 {
-    let n = text.len();
-    text_fault(text, 0, n, 0)
+    text_fault(text, 0, text.len(), 0)
 }

@@ -1,10 +1,13 @@
 // A text whose octets begin at a bit of each byte, as texts stand in a payload; its highest bit is bit 0.
+// Bytes and bit are passed apart and not as a struct: docs/PROMISES.md names `octet` and `text_fault` with the bounds that they ask for.
 ghost use Rattle.std.specs.Prelude.{◌≡◌, true, ◌+◌, ◌-◌, ◌≤◌, ◌<◌};
+ghost use Rattle.numbers.specs.Refused.{answered};
 ghost use Rattle.utf8.specs.Text.{text_fault};
 ghost use Rattle.utf8.specs.Slanted.{octet_at, octets_at, Within, Went, Skipped};
 
 use super::ascii::past;
 use super::{State, control, fault, step};
+use numbers::refusal::Refusal;
 
 // The octet from bit k of byte i on.
 pub fn octet(s: &[u8], k: u32, i: usize) -> u8
@@ -27,21 +30,13 @@ fn pair(s: &[u8], k: u32, i: usize, to: usize) -> bool
     if to - i < 2 {
         return false;
     }
-    let x = octet(s, k, i);
-    if x < 0xC2 {
-        return false;
+    match octet(s, k, i) {
+        0xC2..=0xDF => matches!(octet(s, k, i + 1), 0x80..=0xBF),
+        _ => false,
     }
-    if 0xDF < x {
-        return false;
-    }
-    let y = octet(s, k, i + 1);
-    if y < 0x80 {
-        return false;
-    }
-    y <= 0xBF
 }
 
-// Past characters of one octet and of two.
+// Past characters of one octet and of two. A loop and no `for`: `past` says where each turn begins.
 fn characters(s: &[u8], k: u32, from: usize, to: usize) -> usize
     requires { (from ≤ to) × (k < 8) × Within s.now k to }
     ensures { Went s.now k from to result }
@@ -67,10 +62,10 @@ fn skip(state: State, s: &[u8], k: u32, i: usize, to: usize) -> usize
     }
 }
 
-// What is wrong with the text from bit k of byte from on, up to bit k of byte to.
-pub fn text_fault(s: &[u8], from: usize, to: usize, k: u32) -> u32
+// What is wrong with the text from bit k of byte from on, up to bit k of byte to. A `while` and no `for`: `skip` says which octet comes next.
+pub fn text_fault(s: &[u8], from: usize, to: usize, k: u32) -> Result<(), Refusal>
     requires { (from ≤ to) × (k < 8) × Within s.now k to }
-    ensures { result ≡ text_fault (octets_at s.now k from (to - from)) }
+    ensures { answered result ≡ text_fault (octets_at s.now k from (to - from)) }
 {
     let mut state = State::Start;
     let mut found = false;
@@ -79,9 +74,7 @@ pub fn text_fault(s: &[u8], from: usize, to: usize, k: u32) -> u32
         i = skip(state, s, k, i, to);
         if i < to {
             let x = octet(s, k, i);
-            if control(x) {
-                found = true;
-            }
+            found |= control(x);
             state = step(state, x);
             i += 1;
         }

@@ -15,8 +15,7 @@ use Rattle.wire.specs.At.{At}
 use Rattle.wire.proofs.BitLaws.{length_digits, at_none, at_both, at_left, at_right}
 use Rattle.wire.specs.Lawful.{Binary, Stands}
 use Rattle.wire.proofs.Lawful.{fixed-lawful, fixed-below, bind-same}
-use Rattle.calendar.specs.declared.Day.{Day}
-use Rattle.calendar.specs.declared.Day.TheVariants.{Number, Nothing}
+use Rattle.std.specs.Prelude.{Option, Some, None}
 use Rattle.calendar.specs.Plain.{date_of}
 use Rattle.calendar.specs.Formulas.{date_by}
 use Rattle.calendar.proofs.Laws.{date-by, date-small, day-back, day-date}
@@ -51,7 +50,7 @@ module _ (n ms : ℕ) (h : n < 2 ^ 32) (k : ms < day_milliseconds) where
   pub stamp-second : second_of (stamp_of (date_of n) ms) ≡ day_word (date_of n) ms
   stamp-second = (joined-parts (month_word (date_of n)) (day_word (date_of n) ms) small).1
 
-  pub stamp-day : day_in (stamp_of (date_of n) ms) ≡ Number n
+  pub stamp-day : day_in (stamp_of (date_of n) ms) ≡ Some n
   unfolding day_in
   stamp-day =
       let y = by-sixteen (date_of n).year (date_of n).month (date-small n h).1 in
@@ -78,15 +77,15 @@ pub fits-stamp : (clock : Bool) (v : ℕ) → day_fits clock (day_in v) (clock_i
 unfolding day_in day_fits
 fits-stamp clock v h = go (day_in v) refl h
   where
-    go : (d : Day) → day_in v ≡ d → day_fits clock d (clock_in v) ≡ true → Stamped clock v
-    go (Number n) e f =
+    go : (d : Option ℕ) → day_in v ≡ d → day_fits clock d (clock_in v) ≡ true → Stamped clock v
+    go (Some n) e f =
         let F : ℕ = first_of v in
         let S : ℕ = second_of v in
         let g = day-date (F / 16) (F % 16) (S / 2 ^ 27) n e in
         let a : 16 * (F / 16) + F % 16 ≡ F = omega arith in
         let b : 2 ^ 27 * (S / 2 ^ 27) + S % 2 ^ 27 ≡ S = omega arith in
         record { days = n; ms = clock_in v; a_word = g.0; in_day = ltb-true (clock_in v) (clock_end clock) f; is = rw (g.1, a, b) (sym (parts-joined v)) }
-    go Nothing e f = absurd (let z : ◌≡◌ {A = ℕ} 0 1 = cc in omega arith)
+    go None e f = absurd (let z : ◌≡◌ {A = ℕ} 0 1 = cc in omega arith)
 
 pub stamp-length : (clock : Bool) (days ms : ℕ) → length (stamp_bits clock days ms) ≡ cond clock 64 32
 unfolding stamp_bits

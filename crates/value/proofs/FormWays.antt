@@ -10,8 +10,7 @@ use Rattle.numbers.specs.Limit.{most_fixed, most_times, most_word, unbounded}
 use Rattle.signed.specs.Words.{gap_of}
 use Rattle.signed.specs.Views.{gap_is}
 use Rattle.signed.proofs.Laws.{met_by, met-under}
-use Rattle.signed.specs.declared.answers.Gap as gap_t
-use Rattle.signed.specs.declared.answers.Gap.TheVariants.{Under, By}
+use Rattle.std.specs.Prelude.{Option, Some, None}
 use Rattle.value.specs.Simple.{span_code, range_code, unbounded_code, bounded_code, times_code, simple_of}
 use Rattle.value.specs.Answer.{inner_is, code_is, form_is}
 use Rattle.value.specs.declared.Inner.TheVariants as iv
@@ -19,12 +18,12 @@ use Rattle.value.specs.declared.Code as code_t
 use Rattle.value.specs.declared.Code.TheVariants as cv
 use Rattle.value.specs.declared.Form.TheVariants as fv
 
-module _ (b c : ℕ) (r : gap_t.Gap) (e : gap_is r ≡ gap_of b c) where
-  pub range-under : r ≡ Under → code_is (cv.Plain (iv.Choice 0)) ≡ range_code b c
+module _ (b c : ℕ) (r : Option ℕ) (e : gap_is r ≡ gap_of b c) where
+  pub range-under : r ≡ None → code_is (cv.Plain (iv.Choice 0)) ≡ range_code b c
   unfolding range_code span_code code_is inner_is
   range-under w = sym (rw (met-under b c r e w))
 
-  module _ (k : ℕ) (w : r ≡ By k) where
+  module _ (k : ℕ) (w : r ≡ Some k) where
     pub range-near : k ≤ most_fixed → code_is (cv.Shifted b (iv.Choice (k + 1))) ≡ range_code b c
     unfolding range_code span_code code_is inner_is
     range-near h = sym (rw (met_by b c r e k w, le-leb _ _ h))
@@ -33,7 +32,7 @@ module _ (b c : ℕ) (r : gap_t.Gap) (e : gap_is r ≡ gap_of b c) where
     unfolding range_code span_code code_is inner_is
     range-far h = sym (rw (met_by b c r e k w, lt-leb _ _ h))
 
-pub ruleset range-ways = (range-under, range-near, range-far)
+pub ruleset range_ways = (range-under, range-near, range-far)
 
 pub open_none : (least : ℕ) → least ≡ 0 → code_is (cv.Some (iv.Five most_times)) ≡ unbounded_code least
 unfolding unbounded_code code_is inner_is
@@ -44,7 +43,7 @@ unfolding unbounded_code code_is inner_is
 open-some zero k z e = absurd (z refl)
 open-some (suc n) k z e = rw e
 
-pub ruleset open-ways = (open_none, open-some)
+pub ruleset open_ways = (open_none, open-some)
 
 module _ (least most : ℕ) where
   pub bound-flag : least ≡ 0 → most ≤ 1 → code_is (cv.Plain (iv.Choice (most + 1))) ≡ bounded_code least most
@@ -60,7 +59,7 @@ unfolding bounded_code code_is inner_is
 bound-from zero most k z e = absurd (z refl)
 bound-from (suc n) most k z e = rw e
 
-pub ruleset bound-ways = (bound-flag, bound_some, bound-from)
+pub ruleset bound_ways = (bound-flag, bound_some, bound-from)
 
 module _ (least most : ℕ) where
   pub times-crossed : most < least → code_is (cv.Plain (iv.Choice 0)) ≡ times_code least most
@@ -88,7 +87,7 @@ module _ (least most : ℕ) where
       unfolding times_code
       times-bounded r z e = e ∙ sym (rw (least-in, le-ltb _ _ k, ne_eqb _ _ z))
 
-pub ruleset times-ways = (times-crossed, times-from, times-over, times-open, times-bounded)
+pub ruleset times_ways = (times-crossed, times-from, times-over, times-open, times-bounded)
 
 -- a kind as the tests tell it
 module _ (kind b c : ℕ) where
@@ -142,4 +141,4 @@ simple-none (suc (suc (suc (suc (suc (suc (suc zero))))))) b c n₀ n₁ n₂ n�
 simple-none (suc (suc (suc (suc (suc (suc (suc (suc zero)))))))) b c n₀ n₁ n₂ n₃ n₄ n₅ n₆ n₇ n₈ = absurd (n₈ refl)
 simple-none (suc (suc (suc (suc (suc (suc (suc (suc (suc k))))))))) b c n₀ n₁ n₂ n₃ n₄ n₅ n₆ n₇ n₈ = refl
 
-pub ruleset simple-ways = (simple-boolean, simple-ranged, simple-unsigned, simple-signed, simple-enumerated, simple-text, simple-float, simple-date-time, simple-date, simple-none)
+pub ruleset simple_ways = (simple-boolean, simple-ranged, simple-unsigned, simple-signed, simple-enumerated, simple-text, simple-float, simple-date-time, simple-date, simple-none)

@@ -81,11 +81,6 @@ module _ (s : List ℕ) (f : (j : ℕ) → Fits w8 (get_or s j 0)) where
       let z : 8 * i + a % 8 ≡ a = omega arith in
       g ∙ sym (rw z at (octet-num s i (f i).fits (a % 8) (omega arith) (λ l. (f (suc i)).fits)))
 
-  pub octet-found : (a q i x : ℕ) → q ≡ a / 8 → x ≡ octet_at s (a % 8) (q + i) → x ≡ num (bit_at s) (a + 8 * i) 8
-  octet-found a q i x e g =
-      let z : (a + 8 * i) % 8 ≡ a % 8 = omega arith in
-      byte-found (a + 8 * i) (q + i) x (omega arith) (rw z g)
-
   pub text-found : (a n i to r : ℕ) → i ≡ a / 8 → to ≡ i + n → r ≡ text_fault (octets_at s (a % 8) i (to - i)) → r ≡ text_fault (bytes_at (bit_at s) a n)
   text-found a n i to r e d g =
       let z : 8 * i + a % 8 ≡ a = omega arith in

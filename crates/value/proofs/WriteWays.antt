@@ -26,23 +26,25 @@ use Rattle.signed.specs.Words.{down, sign_of, magnitude_of}
 use Rattle.signed.specs.Views.{Parts}
 use Rattle.value.specs.Code.{Code, choice, five, signed, some, shifted, bits_of, fits, size_out}
 use Rattle.value.specs.Simple.{bytes}
-use Rattle.value.specs.Answer.{inner_is, code_is, size_is, Under}
+use Rattle.value.specs.Answer.{Sized, inner_is, code_is, size_is, Under}
 use Rattle.value.specs.declared.Inner as inner_t
 use Rattle.value.specs.declared.Inner.TheVariants as iv
 use Rattle.value.specs.declared.Code as code_t
 use Rattle.value.specs.declared.Code.TheVariants as cv
-use Rattle.value.specs.declared.Size as size_t
-use Rattle.value.specs.declared.Size.TheVariants as sv
+use Rattle.std.specs.Prelude.{Ok, Err}
+use Rattle.numbers.specs.declared.refusal.Refusal.{Refusal}
+use Rattle.numbers.specs.declared.refusal.Refusal.TheVariants as refusal
+use Rattle.numbers.specs.Refused.{number_of}
 
 -- two choices take one bit
 pub width_two : width 2 ≡ 1
 width_two = width-pow 1
 
-sized : (c : Code) (v : ℕ) (n : Bits) → fits c v ≡ true → n.0 ≡ length (bits_of c v) → size_is (sv.Takes n) ≡ size_out c v
+sized : (c : Code) (v : ℕ) (n : Bits) → fits c v ≡ true → n.0 ≡ length (bits_of c v) → size_is (Ok n) ≡ size_out c v
 unfolding size_out size_is
 sized c v n t e = rw e (sym (tested-then 20 t refl))
 
-unsized : (c : Code) (v : ℕ) → fits c v ≡ false → size_is (sv.Refuse 20) ≡ size_out c v
+unsized : (c : Code) (v : ℕ) → fits c v ≡ false → size_is (Err refusal.OutsideRow) ≡ size_out c v
 unfolding size_out size_is
 unsized c v t = sym (tested-fault 20 _ t)
 
@@ -53,43 +55,43 @@ code5-short v h = omega (arith, length-code5 (more 7 v) v refl, more-least 7 v)
 -- inner_size
 module _ (i : inner_t.Inner) (v : ℕ) where
   module _ (n : ℕ) (w : i ≡ iv.Choice n) where
-    pub size-choice : (k : Bits) → v < n → k.0 ≡ width n → size_is (sv.Takes k) ≡ size_out (inner_is i) v
+    pub size-choice : (k : Bits) → v < n → k.0 ≡ width n → size_is (Ok k) ≡ size_out (inner_is i) v
     unfolding inner_is bits_of fits
     size-choice k h e = rw w (sized (choice n) v k (lt-ltb v n h) (e ∙ sym (length_digits (width n) v)))
 
-    pub size-no-choice : n ≤ v → size_is (sv.Refuse 20) ≡ size_out (inner_is i) v
+    pub size-no-choice : n ≤ v → size_is (Err refusal.OutsideRow) ≡ size_out (inner_is i) v
     unfolding inner_is fits
     size-no-choice h = rw w (unsized (choice n) v (le-ltb v n h))
 
   module _ (m : ℕ) (w : i ≡ iv.Five m) (s : v < 2 ^ 32) where
-    pub size-five : (k : Bits) → v ≤ m → k.0 ≡ length (code5 v) → size_is (sv.Takes k) ≡ size_out (inner_is i) v
+    pub size-five : (k : Bits) → v ≤ m → k.0 ≡ length (code5 v) → size_is (Ok k) ≡ size_out (inner_is i) v
     unfolding inner_is bits_of fits
     size-five k h e = rw w (sized (five m) v k (le-leb v (min m (2 ^ 32 - 1)) (omega arith)) e)
 
-    pub size-no-five : m < v → size_is (sv.Refuse 20) ≡ size_out (inner_is i) v
+    pub size-no-five : m < v → size_is (Err refusal.OutsideRow) ≡ size_out (inner_is i) v
     unfolding inner_is fits
     size-no-five h = rw w (unsized (five m) v (lt-leb v (min m (2 ^ 32 - 1)) (omega arith)))
 
 -- an answer of the code that is a result of the meaning
-module _ {r : size_t.Size} {m : Res ℕ} (e : size_is r ≡ m) where
-  size-takes : {n : Bits} → r ≡ sv.Takes n → m ≡ got n.0
+module _ {r : Sized} {m : Res ℕ} (e : size_is r ≡ m) where
+  size-takes : {n : Bits} → r ≡ Ok n → m ≡ got n.0
   unfolding size_is
   size-takes w = sym e ∙ rw w
 
-  size-refuse : {n : ℕ} → r ≡ sv.Refuse n → m ≡ fault n
+  size-refuse : {n : Refusal} → r ≡ Err n → m ≡ fault (number_of n)
   unfolding size_is
   size-refuse w = sym e ∙ rw w
 
-pub record Sized (c : Code) (v n : ℕ) : Type 0 where
+pub record Fitting (c : Code) (v n : ℕ) : Type 0 where
   pub fit : fits c v ≡ true
   pub long : n ≡ length (bits_of c v)
 
 -- what is got was tested, and what is refused is 20
-sized-is : (c : Code) (v n : ℕ) → size_out c v ≡ got n → Sized c v n
+sized-is : (c : Code) (v n : ℕ) → size_out c v ≡ got n → Fitting c v n
 unfolding size_out
 sized-is c v n e = go (fits c v) refl e
   where
-    go : (t : Bool) → fits c v ≡ t → (guard t 20 >> got (length (bits_of c v))) ≡ got n → Sized c v n
+    go : (t : Bool) → fits c v ≡ t → (guard t 20 >> got (length (bits_of c v))) ≡ got n → Fitting c v n
     go true f g = record { fit = f; long = let h = tested-then {t = true} 20 {m = got (length (bits_of c v))} refl refl in cc }
     go false f g = absurd (let h = tested-fault {t = false} 20 (got (length (bits_of c v))) refl in let z : ◌≡◌ {A = ℕ} 0 1 = cc in omega arith)
 
@@ -112,17 +114,18 @@ some_at c zero z = absurd (z refl)
 some_at c (suc k) z = (refl, length-append (digits (width 2) 1) (bits_of c (suc k)) ∙ ap (λ (n : ℕ). n + length (bits_of c (suc k))) (length_digits (width 2) 1 ∙ width_two))
 
 module _ (i : inner_t.Inner) (v : ℕ) where
-  pub size_none : (n : Bits) → v ≡ 0 → n.0 ≡ 1 → size_is (sv.Takes n) ≡ size_out (some (inner_is i)) v
+  pub size_none : (n : Bits) → v ≡ 0 → n.0 ≡ 1 → size_is (Ok n) ≡ size_out (some (inner_is i)) v
   unfolding fits bits_of
   size_none n z e = rw z (sized (some (inner_is i)) 0 n refl (e ∙ sym (length_digits (width 2) 0 ∙ width_two)))
 
-  module _ (z : v ≡ 0 → ⊥) (r : size_t.Size) (e : size_is r ≡ size_out (inner_is i) v) where
-    pub size-no-some : (m : ℕ) → r ≡ sv.Refuse m → size_is (sv.Refuse m) ≡ size_out (some (inner_is i)) v
+  module _ (z : v ≡ 0 → ⊥) (r : Sized) (e : size_is r ≡ size_out (inner_is i) v) where
+    pub size-no-some : (m : Refusal) → r ≡ Err m → size_is (Err m) ≡ size_out (some (inner_is i)) v
+    unfolding size_is
     size-no-some m w =
-        let u = unsized-is (inner_is i) v m (size-refuse e w) in
+        let u = unsized-is (inner_is i) v (number_of m) (size-refuse e w) in
         rw u.number (unsized (some (inner_is i)) v ((some_at (inner_is i) v z).0 ∙ u.unfit))
 
-    pub size-some : (n k : Bits) → r ≡ sv.Takes n → k.0 ≡ n.0 + 1 → size_is (sv.Takes k) ≡ size_out (some (inner_is i)) v
+    pub size-some : (n k : Bits) → r ≡ Ok n → k.0 ≡ n.0 + 1 → size_is (Ok k) ≡ size_out (some (inner_is i)) v
     size-some n k w f =
         let u = sized-is (inner_is i) v n.0 (size-takes e w) in
         let s = some_at (inner_is i) v z in
@@ -130,19 +133,19 @@ module _ (i : inner_t.Inner) (v : ℕ) where
         sized (some (inner_is i)) v k (s.0 ∙ u.fit) (omega (arith, s.1))
 
 -- sizes are small
-pub size_small : {k : ℕ} (r : size_t.Size) → Under k r → (n : Bits) → r ≡ sv.Takes n → n.0 ≤ k
+pub size_small : {k : ℕ} (r : Sized) → Under k r → (n : Bits) → r ≡ Ok n → n.0 ≤ k
 size_small r u n w = rw w at u
 
-module _ (r : size_t.Size) (u : Under 40 r) (n : Bits) (w : r ≡ sv.Takes n) where
+module _ (r : Sized) (u : Under 40 r) (n : Bits) (w : r ≡ Ok n) where
   pub size-more : n.0 + 1 ≤ 41
   size-more = omega (arith, size_small r u n w)
 
   pub size-more-fits : FitsIn w32 (n.0 + 1)
   size-more-fits = record { fits = omega (arith, size-more) }
 
-pub size-wider : (r : size_t.Size) → Under 40 r → Under 41 r
-size-wider (sv.Takes n) u = omega arith
-size-wider (sv.Refuse e) u = tt
+pub size-wider : (r : Sized) → Under 40 r → Under 41 r
+size-wider (Ok n) u = omega arith
+size-wider (Err e) u = tt
 
 pub width_small : (n : ℕ) → n < 2 ^ 32 → (w : ℕ) → w ≡ width n → w ≤ 40
 width_small n h w e = omega (arith, width-under n 32 (omega arith))
@@ -150,7 +153,7 @@ width_small n h w e = omega (arith, width-under n 32 (omega arith))
 pub five-small : (v : ℕ) → v < 2 ^ 32 → (k : ℕ) → k ≡ length (code5 v) → k ≤ 40
 five-small v h k e = omega (arith, code5-short v h)
 
-pub ruleset inner-size-ways = (size-choice, size-no-choice, size-five, size-no-five, width_small, five-small)
+pub ruleset inner_size_ways = (size-choice, size-no-choice, size-five, size-no-five, width_small, five-small)
 
 module _ (v : ℕ) (h : v < 2 ^ 32) (k : ℕ) (e : k ≡ length (code5 v)) where
   pub five-more : k + 1 ≤ 41
@@ -159,11 +162,11 @@ module _ (v : ℕ) (h : v < 2 ^ 32) (k : ℕ) (e : k ≡ length (code5 v)) where
   pub five-more-fits : FitsIn w32 (k + 1)
   five-more-fits = record { fits = omega (arith, five-more) }
 
-pub ruleset some-size-ways = (size_none, size-no-some, size-some, size-more, size-more-fits)
+pub ruleset some_size_ways = (size_none, size-no-some, size-some, size-more, size-more-fits)
 
 -- size
 module _ (c : code_t.Code) (v : ℕ) where
-  module _ (i : inner_t.Inner) (r : size_t.Size) where
+  module _ (i : inner_t.Inner) (r : Sized) where
     pub size-plain : c ≡ cv.Plain i → size_is r ≡ size_out (inner_is i) v → size_is r ≡ size_out (code_is c) v
     unfolding code_is
     size-plain w e = e ∙ sym (rw w)
@@ -176,11 +179,11 @@ module _ (c : code_t.Code) (v : ℕ) where
   unfolding size_out fits bits_of
   shifted-size lo d h s = let e : lo % 2 ^ 32 ≡ lo = omega arith in rw (lt-ltb v (2 ^ 32) s, e)
 
-  pub size-shifted : (lo : ℕ) (i : inner_t.Inner) (k : ℕ) (r : size_t.Size) → c ≡ cv.Shifted lo i → lo < 2 ^ 32 → v < 2 ^ 32 → k ≡ down lo v → size_is r ≡ size_out (inner_is i) k → size_is r ≡ size_out (code_is c) v
+  pub size-shifted : (lo : ℕ) (i : inner_t.Inner) (k : ℕ) (r : Sized) → c ≡ cv.Shifted lo i → lo < 2 ^ 32 → v < 2 ^ 32 → k ≡ down lo v → size_is r ≡ size_out (inner_is i) k → size_is r ≡ size_out (code_is c) v
   unfolding code_is
   size-shifted lo i k r w h s f e = rw (w, ← shifted-size lo (inner_is i) h s, ← f) e
 
-  pub size_word : (n : Bits) → c ≡ cv.Word → v < 2 ^ 32 → n.0 ≡ 32 → size_is (sv.Takes n) ≡ size_out (code_is c) v
+  pub size_word : (n : Bits) → c ≡ cv.Word → v < 2 ^ 32 → n.0 ≡ 32 → size_is (Ok n) ≡ size_out (code_is c) v
   unfolding code_is fits bits_of
   size_word n w s e = rw w (sized (choice (2 ^ 32)) v n (lt-ltb v (2 ^ 32) s) (e ∙ sym (length_digits (width (2 ^ 32)) v ∙ width-pow 32)))
 
@@ -188,13 +191,13 @@ module _ (c : code_t.Code) (v : ℕ) where
   unfolding bits_of
   signed-long = length-append (digits (width 2) (sign_of v)) (code5 (magnitude_of v)) ∙ ap (λ (n : ℕ). n + length (code5 (magnitude_of v))) (length_digits (width 2) (sign_of v) ∙ width_two)
 
-  pub size-signed : (t : Bool) (m : ℕ) (n k : Bits) → c ≡ cv.Signed → v < 2 ^ 32 → Parts v t m → n.0 ≡ length (code5 m) → k.0 ≡ n.0 + 1 → size_is (sv.Takes k) ≡ size_out (code_is c) v
+  pub size-signed : (t : Bool) (m : ℕ) (n k : Bits) → c ≡ cv.Signed → v < 2 ^ 32 → Parts v t m → n.0 ≡ length (code5 m) → k.0 ≡ n.0 + 1 → size_is (Ok k) ≡ size_out (code_is c) v
   unfolding code_is fits
   size-signed t m n k w s p e f =
       let g : n.0 ≡ length (code5 (magnitude_of v)) = e ∙ rw p.magnitude_is in
       rw w (sized signed v k (lt-ltb v (2 ^ 32) s) (omega (arith, signed-long)))
 
-pub ruleset size-ways = (size-plain, size-of-some, size-shifted, size_word, size-signed, size-wider, five-more, five-more-fits)
+pub ruleset size_ways = (size-plain, size-of-some, size-shifted, size_word, size-signed, size-wider, five-more, five-more-fits)
 
 -- put_bytes: the first i bytes stand
 bytes-snoc : (l : List ℕ) (x : ℕ) → bytes (l ++ (x ∷ [])) ≡ bytes l ++ digits 8 x

@@ -1,5 +1,8 @@
 -- The enums that the code takes and answers, as the meanings have them.
-use Rattle.std.specs.Prelude.{ℕ, ◌+◌, ◌-◌, ◌*◌, ◌^◌, ◌≤◌, ◌≡◌, Bool, List, [], length}
+use Rattle.std.specs.Prelude.{ℕ, ◌+◌, ◌-◌, ◌*◌, ◌^◌, ◌≤◌, ◌≡◌, Bool, List, [], length, Result, Ok, Err}
+use Rattle.numbers.specs.declared.refusal.Refusal.{Refusal}
+use Rattle.numbers.specs.Refused.{number_of}
+use Rattle.wire.specs.declared.Bits.{Bits}
 use Rattle.wire.specs.Res.{Res, got, fault}
 use Rattle.wire.specs.Bits.{bit_at}
 use Rattle.wire.specs.Put.{Wrote}
@@ -15,9 +18,16 @@ use Rattle.value.specs.declared.Form.TheVariants as fv
 use Rattle.value.specs.declared.Value as value_t
 use Rattle.value.specs.declared.Value.TheVariants as vv
 use Rattle.value.specs.declared.Stamp as stamp_t
-use Rattle.value.specs.declared.Stamp.TheVariants as tv
-use Rattle.value.specs.declared.Size as size_t
-use Rattle.value.specs.declared.Size.TheVariants as sv
+
+-- what a function answers that reads a value, one that sizes a code, and one that judges a date
+abbrev pub Valued : Type 0
+Valued = Result value_t.Value Refusal
+
+abbrev pub Sized : Type 0
+Sized = Result Bits Refusal
+
+abbrev pub Stamping : Type 0
+Stamping = Result stamp_t.Stamp Refusal
 
 unfoldable pub inner_is : inner_t.Inner → Code
 inner_is (iv.Choice n) = choice n
@@ -36,33 +46,33 @@ form_is fv.Text = text
 form_is (fv.Dated clock) = dated (stamp clock)
 
 -- a value's words, its text bytes, which end where it does, and the place past it
-unfoldable pub value_is : (ℕ → ℕ) → value_t.Value → Res (ℕ × ℕ × List ℕ × ℕ)
-value_is b (vv.Read word n next) = got (word, 0, bytes_at b (next.0 - 8 * n.0) n.0, next.0)
-value_is b (vv.Dated p q next) = got (p, q, [], next.0)
-value_is b (vv.Refuse e) = fault e
+unfoldable pub value_is : (ℕ → ℕ) → Valued → Res (ℕ × ℕ × List ℕ × ℕ)
+value_is b (Ok (vv.Read word n next)) = got (word, 0, bytes_at b (next.0 - 8 * n.0) n.0, next.0)
+value_is b (Ok (vv.Dated p q next)) = got (p, q, [], next.0)
+value_is b (Err e) = fault (number_of e)
 
 -- the value is what stands at a place of the payload s, before the wall
-abbrev pub ReadsSimple : (s : List ℕ) → value_t.Value → Simple → (wall at : ℕ) → Type 0
+abbrev pub ReadsSimple : (s : List ℕ) → Valued → Simple → (wall at : ℕ) → Type 0
 ReadsSimple s v f wall at = value_is (bit_at s) v ≡ words_of f (simple_at f (bit_at s) wall at)
 
 -- the same behind the days of a date
-abbrev pub ReadsClock : (s : List ℕ) → value_t.Value → (clock : Bool) (wall days at : ℕ) → Type 0
+abbrev pub ReadsClock : (s : List ℕ) → Valued → (clock : Bool) (wall days at : ℕ) → Type 0
 ReadsClock s v clock wall days at = value_is (bit_at s) v ≡ words_of (dated (stamp clock)) (untexted (clock_at clock (bit_at s) wall days at))
 
 -- of s came t, with a text's bytes from a place on
 abbrev pub WroteBytes : (s t : List ℕ) (at : ℕ) (l : List ℕ) → Type 0
 WroteBytes s t at l = Wrote s t at (bytes l) (at + 8 * length l)
 
-unfoldable pub size_is : size_t.Size → Res ℕ
-size_is (sv.Takes n) = got n.0
-size_is (sv.Refuse e) = fault e
+unfoldable pub size_is : Sized → Res ℕ
+size_is (Ok n) = got n.0
+size_is (Err e) = fault (number_of e)
 
 -- a date's bits, by its day number and milliseconds
-unfoldable pub stamp_is : Bool → stamp_t.Stamp → Res (List ℕ)
-stamp_is clock (tv.Takes days ms) = got (stamp_bits clock days ms)
-stamp_is clock (tv.Refuse e) = fault e
+unfoldable pub stamp_is : Bool → Stamping → Res (List ℕ)
+stamp_is clock (Ok day) = got (stamp_bits clock day.days day.ms)
+stamp_is clock (Err e) = fault (number_of e)
 
 -- so many bits at most
-abbrev pub Under : ℕ → size_t.Size → Type 0
-Under k (sv.Takes n) = n.0 ≤ k
-Under k (sv.Refuse e) = Unit {0}
+abbrev pub Under : ℕ → Sized → Type 0
+Under k (Ok n) = n.0 ≤ k
+Under k (Err e) = Unit {0}

@@ -1,10 +1,8 @@
 -- A date as the two words of a Value, p = 16 * year + month and q = 2^27 * day + milliseconds, which are one value here; and its bits (001, 10.7.5.5 and 10.7.5.6).
-use Rattle.std.specs.Prelude.{ℕ, ◌+◌, ◌*◌, ◌/◌, ◌%◌, ◌^◌, ◌<◌, ◌≡◌, Bool, true, false, cond, List, [], ◌++◌, ltb}
+use Rattle.std.specs.Prelude.{ℕ, ◌+◌, ◌*◌, ◌/◌, ◌%◌, ◌^◌, ◌<◌, ◌≡◌, Bool, true, false, cond, List, [], ◌++◌, ltb, Option, Some, None}
 use Rattle.numbers.specs.Limit.{day_milliseconds}
 use Rattle.wire.specs.Bits.{digits}
 use Rattle.calendar.specs.declared.Date.{Date}
-use Rattle.calendar.specs.declared.Day.{Day}
-use Rattle.calendar.specs.declared.Day.TheVariants.{Number, Nothing}
 use Rattle.calendar.specs.Plain.{date_of}
 use Rattle.calendar.specs.Formulas.{day_by}
 
@@ -41,7 +39,7 @@ pub record Stamped (clock : Bool) (v : ℕ) : Type 0 where
   pub is : v ≡ stamp_of (date_of days) ms
 
 -- the day number of a value, where its words are a date, and its milliseconds
-unfoldable pub day_in : ℕ → Day
+unfoldable pub day_in : ℕ → Option ℕ
 day_in v = day_by (first_of v / 16) (first_of v % 16) (second_of v / 2 ^ 27)
 
 abbrev pub clock_in : ℕ → ℕ
@@ -51,11 +49,11 @@ clock_in v = second_of v % 2 ^ 27
 unfoldable pub stamp_bits : (clock : Bool) (days ms : ℕ) → List ℕ
 stamp_bits clock days ms = digits 32 days ++ cond clock (digits 32 ms) []
 
-unfoldable pub day_bits : Bool → Day → ℕ → List ℕ
-day_bits clock (Number n) ms = stamp_bits clock n ms
-day_bits clock Nothing ms = []
+unfoldable pub day_bits : Bool → Option ℕ → ℕ → List ℕ
+day_bits clock (Some n) ms = stamp_bits clock n ms
+day_bits clock None ms = []
 
 -- the writer's test
-unfoldable pub day_fits : Bool → Day → ℕ → Bool
-day_fits clock (Number n) ms = ltb ms (clock_end clock)
-day_fits clock Nothing ms = false
+unfoldable pub day_fits : Bool → Option ℕ → ℕ → Bool
+day_fits clock (Some n) ms = ltb ms (clock_end clock)
+day_fits clock None ms = false

@@ -1,7 +1,6 @@
 -- The code of a simple kind that is a number.
 use Rattle.std.specs.Prelude.{ℕ, ◌≡◌}
-use Rattle.wire.specs.declared.Read.{Read}
-use Rattle.wire.specs.Answer.{read_is}
+use Rattle.wire.specs.Answer.{Read, read_is}
 use Rattle.value.specs.Code.{Code, shifted, code_at}
 use Rattle.value.specs.Simple.{Simple, plain, text, dated, nothing, simple_of}
 

@@ -6,15 +6,16 @@ ghost use Rattle.value.specs.Answer.{code_is, form_is};
 
 use super::{Code, Form, Inner};
 use numbers::limit;
-use signed::{Gap, gap};
+use signed::gap;
 
 // A value from b to c, both signed.
+#[tactic(auto, using(crate::proofs::FormWays::range_ways))]
 pub fn range(b: u32, c: u32) -> Code
     ensures { code_is result ≡ range_code b c }
 {
     match gap(b, c) {
-        Gap::Under => Code::Plain(Inner::Choice(0)),
-        Gap::By(k) => {
+        None => Code::Plain(Inner::Choice(0)),
+        Some(k) => {
             if k <= limit::MOST_FIXED {
                 return Code::Shifted(b, Inner::Choice(k + 1));
             }
@@ -23,23 +24,19 @@ pub fn range(b: u32, c: u32) -> Code
     }
 }
 
-fn less(a: u32, b: u32) -> u32
-    ensures { result ≡ a - b }
-{
-    if a < b { 0 } else { a - b }
-}
-
 // A count with no end.
+#[tactic(auto, using(crate::proofs::FormWays::open_ways))]
 fn unbounded(least: u32) -> Code
     ensures { code_is result ≡ unbounded_code least }
 {
     if least == 0 {
         return Code::Some(Inner::Five(limit::MOST_TIMES));
     }
-    Code::Shifted(least, Inner::Five(less(limit::MOST_TIMES, least)))
+    Code::Shifted(least, Inner::Five(limit::MOST_TIMES.saturating_sub(least)))
 }
 
 // A count up to most.
+#[tactic(auto, using(crate::proofs::FormWays::bound_ways))]
 fn bounded(least: u32, most: u32) -> Code
     requires { most < unbounded }
     ensures { code_is result ≡ bounded_code least most }
@@ -50,10 +47,11 @@ fn bounded(least: u32, most: u32) -> Code
         }
         return Code::Some(Inner::Choice(most + 1));
     }
-    Code::Shifted(least, Inner::Choice(less(most, least) + 1))
+    Code::Shifted(least, Inner::Choice(most.saturating_sub(least) + 1))
 }
 
 // How many times an occurs row's child comes; UNBOUNDED has no end.
+#[tactic(auto, using(crate::proofs::FormWays::times_ways))]
 pub fn times(least: u32, most: u32) -> Code
     ensures { code_is result ≡ times_code least most }
 {
@@ -73,6 +71,7 @@ pub fn times(least: u32, most: u32) -> Code
 }
 
 // A simple kind with its parameters.
+#[tactic(auto, using(crate::proofs::FormWays::simple_ways))]
 pub fn simple(simple: u32, b: u32, c: u32) -> Form
     ensures { form_is result ≡ simple_of simple b c }
 {

@@ -1,6 +1,8 @@
 // Values: which code a row of the table asks for, such a code read and sized, a text read and written.
 #![tactic(auto)]
 
+ghost use Rattle.std.specs.Prelude.{◌≡◌};
+
 pub mod dates; // dates.rt: a date read from a place, and what its two words are on the wire
 pub mod forms; // forms.rt: the code that a range, an occurs row or a simple kind asks for
 pub mod kinds; // kinds.rt: a simple value read by its kind at once
@@ -35,24 +37,29 @@ pub enum Form {
     Dated(bool),
 }
 
-// A simple value that was read: its word, its text's bytes and the place past it; a date's two words; or the number of a refusal.
+// A simple value that was read: its word, its text's bytes and the place past it; or a date's two words.
 #[derive(Clone, Copy)]
 pub enum Value {
     Read { word: u32, text: Bytes, next: Bits },
     Dated { p: u32, q: u32, next: Bits },
-    Refuse(u32),
 }
 
-// The day number and the milliseconds that a date's words are, or the number of a refusal.
-#[derive(Clone, Copy)]
-pub enum Stamp {
-    Takes { days: u32, ms: u32 },
-    Refuse(u32),
+impl Value {
+    // One that has no text.
+    pub fn word(word: u32, next: Bits) -> Value
+        ensures { result ≡ Value.Read word (record { 0 = 0 }) next }
+    {
+        Value::Read {
+            word,
+            text: Bytes(0),
+            next,
+        }
+    }
 }
 
-// How many bits a value takes, or the number of a refusal.
+// The day number and the milliseconds that a date's words are.
 #[derive(Clone, Copy)]
-pub enum Size {
-    Takes(Bits),
-    Refuse(u32),
+pub struct Stamp {
+    pub days: u32,
+    pub ms: u32,
 }

@@ -7,12 +7,7 @@ pub fn lay(buf: &mut [u8], q: usize, text: &[u8])
     requires { q + length text.now ≤ length buf.old }
     ensures { WroteBytes buf.old buf.new (8 * q) text.now }
 {
-    let mut i: usize = 0;
-    while i < text.len() {
-        let x = text[i];
-        buf[q + i] = x;
-        i += 1;
-    }
+    buf[q..q + text.len()].copy_from_slice(text);
 }
 
 // From bit k of byte q on: each byte stored has the low bits of one octet, c, and the high bits of the next.
@@ -22,18 +17,10 @@ pub fn lay_slanted(buf: &mut [u8], q: usize, k: u32, text: &[u8])
 {
     let h = 8 - k;
     let mut c = buf[q] >> h;
-    let mut i: usize = 0;
-    while i < text.len() {
-        let x = text[i];
-        let high = c << h;
-        let low = x >> k;
-        buf[q + i] = high + low;
+    for (i, &x) in text.iter().enumerate() {
+        buf[q + i] = (c << h) + (x >> k);
         c = x;
-        i += 1;
     }
-    let p = q + i;
-    let y = buf[p];
-    let high = c << h;
-    let low = (y << k) >> k;
-    buf[p] = high + low;
+    let p = q + text.len();
+    buf[p] = (c << h) + ((buf[p] << k) >> k);
 }

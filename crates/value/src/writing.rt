@@ -6,67 +6,55 @@ ghost use Rattle.value.specs.Simple.{bytes};
 ghost use Rattle.value.specs.Answer.{inner_is, code_is, size_is, Under};
 
 use super::octets::{lay, lay_slanted};
-use super::{Code, Inner, Size};
-use numbers::refusal;
+use super::{Code, Inner};
+use numbers::refusal::Refusal;
 use signed::{lowered, magnitude};
 use wire::Bits;
 use wire::choices::width;
 use wire::writing::size5;
 
 // The size of a code that another holds, or OUTSIDE_ROW.
-fn inner_size(i: Inner, v: u32) -> Size
+#[tactic(auto, using(crate::proofs::WriteWays::inner_size_ways))]
+fn inner_size(i: Inner, v: u32) -> Result<Bits, Refusal>
     ensures { (size_is result ≡ size_out (inner_is i) v) × Under 40 result }
 {
     match i {
         Inner::Choice(n) => {
             if v < n {
-                let w = Bits(width(n));
-                return Size::Takes(w);
+                return Ok(Bits(width(n)));
             }
-            Size::Refuse(refusal::OUTSIDE_ROW)
+            Err(Refusal::OutsideRow)
         }
         Inner::Five(most) => {
             if v <= most {
-                return Size::Takes(size5(v));
+                return Ok(size5(v));
             }
-            Size::Refuse(refusal::OUTSIDE_ROW)
+            Err(Refusal::OutsideRow)
         }
     }
 }
 
 // The size of none, or of some and how many.
-fn some_size(i: Inner, v: u32) -> Size
+#[tactic(auto, using(crate::proofs::WriteWays::some_size_ways))]
+fn some_size(i: Inner, v: u32) -> Result<Bits, Refusal>
     ensures { (size_is result ≡ size_out (some (inner_is i)) v) × Under 41 result }
 {
     if v == 0 {
-        let one = Bits(1);
-        return Size::Takes(one);
+        return Ok(Bits(1));
     }
-    match inner_size(i, v) {
-        Size::Refuse(e) => Size::Refuse(e),
-        Size::Takes(n) => {
-            let more = Bits(n.0 + 1);
-            Size::Takes(more)
-        }
-    }
+    let n = inner_size(i, v)?;
+    Ok(Bits(n.0 + 1))
 }
 
 // How many bits a code takes for a value, or OUTSIDE_ROW.
-pub fn size(c: Code, v: u32) -> Size
+#[tactic(auto, using(crate::proofs::WriteWays::size_ways))]
+pub fn size(c: Code, v: u32) -> Result<Bits, Refusal>
     ensures { (size_is result ≡ size_out (code_is c) v) × Under 41 result }
 {
     match c {
         Code::Plain(i) => inner_size(i, v),
-        Code::Word => {
-            let w = Bits(32);
-            Size::Takes(w)
-        }
-        Code::Signed => {
-            let m = magnitude(v);
-            let n = size5(m.magnitude);
-            let more = Bits(n.0 + 1);
-            Size::Takes(more)
-        }
+        Code::Word => Ok(Bits(32)),
+        Code::Signed => Ok(Bits(size5(magnitude(v).magnitude).0 + 1)),
         Code::Some(i) => some_size(i, v),
         Code::Shifted(lo, i) => inner_size(i, lowered(lo, v)),
     }

@@ -8,8 +8,8 @@ use native.Mathlib.Decide.{dec_lt, ℕ_discrete}
 use lib.ListN.{length, get_or, set, length-append}
 use lib.Seq.{get_or-set_same, get_or-set_other, ext_get_or}
 use lib.Pow.{shl_exact}
-use Rattle.wire.specs.declared.Read.{Read}
-use Rattle.wire.specs.declared.Read.TheVariants as read
+use Rattle.std.specs.Prelude.{Ok, Err}
+use Rattle.wire.specs.Answer.{Read}
 use Rattle.wire.specs.Bits.{bit_at, Has}
 use Rattle.wire.proofs.BitLaws.{has_both, has_same}
 use Rattle.wire.specs.Number.{code8}
@@ -86,12 +86,12 @@ wrote_one s t u at l p q f g a b =
 
 pub wrote-or-one : (coded uncoded : Type 0) → (coded → uncoded → ⊥) → (l : List ℕ) (v : ℕ) (s t u : List ℕ) (at : ℕ) (a b : Read) → Lent s t → Lent s u
     → WroteOr coded uncoded l v s t at a → WroteOr coded uncoded l v s u at b → (t ≡ u) × (a ≡ b)
-wrote-or-one c n never l v s t u at (read.Value x p) (read.Value y q) f g (d, i, h) (e, j, k) =
+wrote-or-one c n never l v s t u at (Ok (x, p)) (Ok (y, q)) f g (d, i, h) (e, j, k) =
     let one = wrote_one s t u at l p.0 q.0 f g h k in
-    (one.0, λ i. read.Value ((d ∙ sym e) i) (record { 0 = one.1 i }))
-wrote-or-one c n never l v s t u at (read.Value x p) (read.Refuse y) f g (d, i, h) (e, j, k) = absurd (never i j)
-wrote-or-one c n never l v s t u at (read.Refuse x) (read.Value y q) f g (d, i, h) (e, j, k) = absurd (never j i)
-wrote-or-one c n never l v s t u at (read.Refuse x) (read.Refuse y) f g (d, i, h) (e, j, k) = (h ∙ sym k, ap read.Refuse (d ∙ sym e))
+    (one.0, λ i. Ok ((d ∙ sym e) i, record { 0 = one.1 i }))
+wrote-or-one c n never l v s t u at (Ok (x, p)) (Err y) f g (d, i, h) (e, j, k) = absurd (never i j)
+wrote-or-one c n never l v s t u at (Err x) (Ok (y, q)) f g (d, i, h) (e, j, k) = absurd (never j i)
+wrote-or-one c n never l v s t u at (Err x) (Err y) f g (d, i, h) (e, j, k) = (h ∙ sym k, ap Err (d ∙ sym e))
 
 pub wrote8-one : (s t u : List ℕ) (at v : ℕ) (a b : Read) → Lent s t → Lent s u → Wrote8 s t at v a → Wrote8 s u at v b → (t ≡ u) × (a ≡ b)
 wrote8-one s t u at v a b f g h k = wrote-or-one _ _ (λ i j. omega arith) (code8 v) v s t u at a b f g h k

@@ -4,37 +4,36 @@ use mathlib.Core.Path.{◌≡◌, refl, sym, ap, ◌∙◌}
 use mathlib.Core.Bool.{Bool, true, false}
 use mathlib.Core.List.{List}
 use native.Mathlib.Omega.{arith}
-use native.Mathlib.Decide.{dec_lt}
-use borrow.Author.Tests.{le-leb, lt-leb}
-use Rattle.numbers.specs.Refusal.{past_end, not_shortest, too_large}
+use native.Mathlib.Decide.{ℕ_discrete, dec_lt}
+use borrow.Author.Tests.{le-leb, lt-leb, le-ltb, lt-ltb}
 use Rattle.wire.specs.declared.Bits.{Bits}
-use Rattle.wire.specs.declared.Read.{Read}
-use Rattle.wire.specs.declared.Read.TheVariants as read
-use Rattle.wire.specs.declared.Number.{Number}
-use Rattle.wire.specs.declared.Number.TheVariants as number
+use Rattle.std.specs.Prelude.{Ok, Err, ltb}
+use Rattle.numbers.specs.declared.refusal.Refusal.{Refusal}
+use Rattle.numbers.specs.declared.refusal.Refusal.TheVariants as refusal
+use Rattle.numbers.specs.Refused.{number_of}
 use Rattle.wire.specs.Res.{Res, got, fault}
 use Rattle.wire.specs.Bits.{bit_at, num, fixed_at}
 use Rattle.wire.proofs.BitLaws.{bit-lt, num-under, fixed-past, fixed_in}
-use Rattle.wire.specs.Answer.{read_is, number_is, fixed32}
+use Rattle.wire.specs.Answer.{Read, Numbered, read_is, number_is, fixed32}
 use Rattle.wire.specs.Number.{number5, second8_at, number8, strict, read5, read8}
 use Rattle.wire.proofs.Steps.{second-fault, second-third, second-long, second_short, eight-fault, eight-one, eight-two, strict-fault, strict-short, strict-long}
 
 -- an answer of the code that is a result of the meaning
 module _ {r : Read} {m : Res (ℕ × ℕ)} (e : read_is r ≡ m) where
-  pub read-value : {v : ℕ} {p : Bits} → r ≡ read.Value v p → m ≡ got (v, p.0)
+  pub read-value : {v : ℕ} {p : Bits} → r ≡ Ok (v, p) → m ≡ got (v, p.0)
   unfolding read_is
   read-value w = sym e ∙ rw w
 
-  pub read-refuse : {n : ℕ} → r ≡ read.Refuse n → m ≡ fault n
+  pub read-refuse : {n : Refusal} → r ≡ Err n → m ≡ fault (number_of n)
   unfolding read_is
   read-refuse w = sym e ∙ rw w
 
-module _ {r : Number} {m : Res (ℕ × ℕ × Bool)} (e : number_is r ≡ m) where
-  pub number-value : {v : ℕ} {p : Bits} {t : Bool} → r ≡ number.Value v p t → m ≡ got (v, p.0, t)
+module _ {r : Numbered} {m : Res (ℕ × ℕ × Bool)} (e : number_is r ≡ m) where
+  pub number-value : {v : ℕ} {p : Bits} {t : Bool} → r ≡ Ok (record { value = v; next = p; short = t }) → m ≡ got (v, p.0, t)
   unfolding number_is
   number-value w = sym e ∙ rw w
 
-  pub number-refuse : {n : ℕ} → r ≡ number.Refuse n → m ≡ fault n
+  pub number-refuse : {n : Refusal} → r ≡ Err n → m ≡ fault (number_of n)
   unfolding number_is
   number-refuse w = sym e ∙ rw w
 
@@ -44,20 +43,20 @@ unfolding fixed32
 wide b wall at w h = rw (le-leb _ _ h)
 
 module _ (b : ℕ → ℕ) (wall at w : ℕ) where
-  pub way-fixed-wide : 32 < w → read_is (read.Refuse too_large) ≡ fixed32 b wall at w
+  pub way-fixed-wide : 32 < w → read_is (Err refusal.TooLarge) ≡ fixed32 b wall at w
   unfolding fixed32 read_is
   way-fixed-wide h = rw (lt-leb _ _ h)
 
   module _ (n : w ≤ 32) where
-    pub way-fixed-before : wall < at → read_is (read.Refuse past_end) ≡ fixed32 b wall at w
+    pub way-fixed-before : wall < at → read_is (Err refusal.PastEnd) ≡ fixed32 b wall at w
     unfolding read_is
     way-fixed-before h = sym (wide b wall at w n ∙ fixed-past b wall at w (omega arith))
 
-    pub way-fixed-past : at ≤ wall → wall - at < w → read_is (read.Refuse past_end) ≡ fixed32 b wall at w
+    pub way-fixed-past : at ≤ wall → wall - at < w → read_is (Err refusal.PastEnd) ≡ fixed32 b wall at w
     unfolding read_is
     way-fixed-past h k = sym (wide b wall at w n ∙ fixed-past b wall at w (omega arith))
 
-    pub way-fixed-in : at ≤ wall → w ≤ wall - at → (v : ℕ) (p : Bits) → v ≡ num b at w → p.0 ≡ at + w → read_is (read.Value v p) ≡ fixed32 b wall at w
+    pub way-fixed-in : at ≤ wall → w ≤ wall - at → (v : ℕ) (p : Bits) → v ≡ num b at w → p.0 ≡ at + w → read_is (Ok (v, p)) ≡ fixed32 b wall at w
     unfolding read_is
     way-fixed-in h k v p f g = rw (g, f) (sym (wide b wall at w n ∙ fixed_in b wall at w (omega arith)))
 
@@ -71,37 +70,36 @@ module _ (b : ℕ → ℕ) (wall at : ℕ) (r : Read) (e : read_is r ≡ fixed32
   byte-is : read_is r ≡ fixed_at b wall at 8
   byte-is = e ∙ wide b wall at 8 (omega arith)
 
-  module _ (m : ℕ) (w : r ≡ read.Refuse m) where
-    pub way-eight-refuse : number_is (number.Refuse m) ≡ number8 b wall at
+  module _ (m : Refusal) (w : r ≡ Err m) where
+    pub way-eight-refuse : number_is (Err m) ≡ number8 b wall at
     unfolding number_is
     way-eight-refuse = sym (eight-fault b wall at (read-refuse byte-is w))
 
-    pub way-second-refuse : (x : ℕ) → number_is (number.Refuse m) ≡ second8_at b wall x at
+    pub way-second-refuse : (x : ℕ) → number_is (Err m) ≡ second8_at b wall x at
     unfolding number_is
     way-second-refuse x = sym (second-fault b wall at x (read-refuse byte-is w))
 
-  module _ (y : ℕ) (p : Bits) (w : r ≡ read.Value y p) where
-    pub way-eight-one : y < 128 → number_is (number.Value y p true) ≡ number8 b wall at
+  module _ (y : ℕ) (p : Bits) (w : r ≡ Ok (y, p)) where
+    pub way-eight-one : y < 128 → number_is (Ok (record { value = y; next = p; short = true })) ≡ number8 b wall at
     unfolding number_is
     way-eight-one h = sym (eight-one b wall at (read-value byte-is w) h)
 
-    pub way-eight-two : (q : Number) → 128 ≤ y → number_is q ≡ second8_at b wall (y - 128) p.0 → number_is q ≡ number8 b wall at
+    pub way-eight-two : (q : Numbered) → 128 ≤ y → number_is q ≡ second8_at b wall (y - 128) p.0 → number_is q ≡ number8 b wall at
     way-eight-two q h f = f ∙ sym (eight-two b wall at (read-value byte-is w) h)
 
-    pub way-second-third : (x : ℕ) → 128 ≤ y → number_is (number.Refuse too_large) ≡ second8_at b wall x at
+    pub way-second-third : (x : ℕ) → 128 ≤ y → number_is (Err refusal.TooLarge) ≡ second8_at b wall x at
     unfolding number_is
     way-second-third x h = sym (second-third b wall at x (read-value byte-is w) h)
 
-    pub way-second-long : (x : ℕ) → x ≡ 0 → y < 128 → number_is (number.Value y p false) ≡ second8_at b wall x at
+    pub way-second-value : (x : ℕ) → y < 128 → number_is (Ok (record { value = x * 128 + y; next = p; short = ltb 0 x })) ≡ second8_at b wall x at
     unfolding number_is
-    way-second-long x z h = let f : x * 128 + y ≡ y = omega arith in sym (second-long b wall at x (read-value byte-is w) z h ∙ rw f)
-
-    pub way-second-short : (x : ℕ) → (x ≡ 0 → ⊥) → y < 128 → number_is (number.Value (x * 128 + y) p true) ≡ second8_at b wall x at
-    unfolding number_is
-    way-second-short x z h = sym (second_short b wall at x (read-value byte-is w) z h)
+    way-second-value x h = elim (ℕ_discrete x 0) [
+      | yes z ↦ rw (le-ltb 0 x (omega arith)) (sym (second-long b wall at x (read-value byte-is w) z h))
+      | no z ↦ rw (lt-ltb 0 x (omega arith)) (sym (second_short b wall at x (read-value byte-is w) z h))
+    ]
 
 -- a byte is below 256, so seven bits are left of a first one
-byte-under : (s : List ℕ) (wall at : ℕ) (r : Read) → read_is r ≡ fixed32 (bit_at s) wall at 8 → (y : ℕ) (p : Bits) → r ≡ read.Value y p → y < 256
+byte-under : (s : List ℕ) (wall at : ℕ) (r : Read) → read_is r ≡ fixed32 (bit_at s) wall at 8 → (y : ℕ) (p : Bits) → r ≡ Ok (y, p) → y < 256
 byte-under s wall at r e y p w = elim (dec_lt wall (at + 8)) [
   | yes h ↦
       let f = fixed-past (bit_at s) wall at 8 h in
@@ -116,35 +114,35 @@ byte-under s wall at r e y p w = elim (dec_lt wall (at + 8)) [
       omega (arith, num-under (bit_at s) (bit-lt s) at {w = 8} {k = 8} (omega arith))
 ]
 
-pub seven-left : (s : List ℕ) (wall at : ℕ) (r : Read) → read_is r ≡ fixed32 (bit_at s) wall at 8 → (y : ℕ) (p : Bits) → r ≡ read.Value y p → y - 128 < 128
+pub seven-left : (s : List ℕ) (wall at : ℕ) (r : Read) → read_is r ≡ fixed32 (bit_at s) wall at 8 → (y : ℕ) (p : Bits) → r ≡ Ok (y, p) → y - 128 < 128
 seven-left s wall at r e y p w = omega (arith, byte-under s wall at r e y p w)
 
 pub ruleset eight-ways = (way-eight-refuse, way-eight-one, way-eight-two, seven-left)
 
-pub ruleset second-ways = (way-second-refuse, way-second-third, way-second-long, way-second-short)
+pub ruleset second-ways = (way-second-refuse, way-second-third)
 
 -- shortest, vlu5, vlu8
-module _ (n : Number) where
-  pub way-short-refuse : (m : ℕ) → n ≡ number.Refuse m → read_is (read.Refuse m) ≡ strict (number_is n)
+module _ (n : Numbered) where
+  pub way-short-refuse : (m : Refusal) → n ≡ Err m → read_is (Err m) ≡ strict (number_is n)
   unfolding read_is
   way-short-refuse m w = sym (strict-fault (number-refuse refl w))
 
-  module _ (v : ℕ) (p : Bits) (t : Bool) (w : n ≡ number.Value v p t) where
-    pub way-short-yes : t ≡ true → read_is (read.Value v p) ≡ strict (number_is n)
+  module _ (v : ℕ) (p : Bits) (t : Bool) (w : n ≡ Ok (record { value = v; next = p; short = t })) where
+    pub way-short-yes : t ≡ true → read_is (Ok (v, p)) ≡ strict (number_is n)
     unfolding read_is
     way-short-yes z = sym (strict-short {v = v} {p = p.0} (number-value refl w ∙ rw z))
 
-    pub way-short-no : t ≡ false → read_is (read.Refuse not_shortest) ≡ strict (number_is n)
+    pub way-short-no : t ≡ false → read_is (Err refusal.NotShortest) ≡ strict (number_is n)
     unfolding read_is
     way-short-no z = sym (strict-long {v = v} {p = p.0} (number-value refl w ∙ rw z))
 
 pub ruleset short-ways = (way-short-refuse, way-short-yes, way-short-no)
 
-pub way-strict5 : (b : ℕ → ℕ) (wall at : ℕ) (n : Number) (r : Read) → number_is n ≡ number5 b wall at → read_is r ≡ strict (number_is n) → read_is r ≡ read5 b wall at
+pub way-strict5 : (b : ℕ → ℕ) (wall at : ℕ) (n : Numbered) (r : Read) → number_is n ≡ number5 b wall at → read_is r ≡ strict (number_is n) → read_is r ≡ read5 b wall at
 unfolding read5
 way-strict5 b wall at n r e f = f ∙ ap strict e
 
-pub way-strict8 : (b : ℕ → ℕ) (wall at : ℕ) (n : Number) (r : Read) → number_is n ≡ number8 b wall at → read_is r ≡ strict (number_is n) → read_is r ≡ read8 b wall at
+pub way-strict8 : (b : ℕ → ℕ) (wall at : ℕ) (n : Numbered) (r : Read) → number_is n ≡ number8 b wall at → read_is r ≡ strict (number_is n) → read_is r ≡ read8 b wall at
 unfolding read8
 way-strict8 b wall at n r e f = f ∙ ap strict e
 

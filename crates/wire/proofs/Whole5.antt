@@ -1,18 +1,20 @@
 -- A vluimsbf5 that lies whole in a window: how many ones it begins with, and its groups.
 use Prim.Native.Nat.{ℕ, zero, suc, ◌+◌, ◌-◌, ◌*◌, ◌/◌, ◌%◌, ◌^◌, ◌<◌, ◌≤◌}
 use mathlib.Core.Path.{◌≡◌, refl, sym, ap, ◌∙◌}
-use mathlib.Core.Bool.{true, false}
+use mathlib.Core.Bool.{true}
 use mathlib.Core.List.{List}
 use native.Mathlib.Nat.{add-zero, zero-add, mod-lt, lt_of_lt_of_le}
 use native.Mathlib.Numerals.{add-one, one-add}
 use native.Mathlib.Omega.{arith}
 use native.Mathlib.Decide.{ℕ_discrete, dec_le}
+use borrow.Author.Tests.{eq-eqb, ne_eqb}
 use lib.Count.{count_leading_zeros, leading_length}
 use lib.Pow.{pow_pos, pow_mono, ones_split, ones_lt, high}
 use Rattle.numbers.specs.Refusal.{past_end, too_large}
 use Rattle.wire.specs.declared.Bits.{Bits}
-use Rattle.wire.specs.declared.Number.{Number}
-use Rattle.wire.specs.declared.Number.TheVariants as number
+use Rattle.std.specs.Prelude.{Ok, Err, eqb, not}
+use Rattle.numbers.specs.declared.refusal.Refusal.TheVariants as refusal
+use Rattle.wire.specs.Answer.{Numbered}
 use Rattle.wire.specs.Res.{got, fault}
 use Rattle.wire.specs.Bits.{bit_at, num}
 use Rattle.wire.proofs.BitLaws.{bit-lt, num-lt, num-more, fixed_in, fixed-past}
@@ -167,16 +169,15 @@ module _ (x n : ℕ) (some : 0 < n) (few : n < 8) where
   cut_fits = rw (mask (4 * (n + 1)) (omega arith)) (lt_of_lt_of_le (mod-lt (x / 2 ^ (57 - 5 * (n + 1))) (pow_pos (4 * (n + 1)))) (pow_mono {i = 4 * (n + 1)} {j = 32} (omega arith)))
 
   module _ (v : ℕ) (p : Bits) (e : v ≡ cut_groups x n) where
-    pub way-cut-long : v / 2 ^ (4 * n) ≡ 0 → number_is (number.Value v p false) ≡ got (cut_groups x n, p.0, is_short n (cut_groups x n))
+    pub way-cut : number_is (Ok (record { value = v; next = p; short = not (eqb (v / 2 ^ (4 * n)) 0) })) ≡ got (cut_groups x n, p.0, is_short n (cut_groups x n))
     unfolding number_is
-    way-cut-long z = rw (← e, short-not n v (λ o. omega arith) z)
-
-    pub way-cut-short : (v / 2 ^ (4 * n) ≡ 0 → ⊥) → number_is (number.Value v p true) ≡ got (cut_groups x n, p.0, is_short n (cut_groups x n))
-    unfolding number_is
-    way-cut-short z = rw (← e, short-more n v (λ o. omega arith) z)
+    way-cut = rw (← e) (elim (ℕ_discrete (v / 2 ^ (4 * n)) 0) [
+      | yes z ↦ rw (eq-eqb _ _ z, short-not n v (λ o. omega arith) z)
+      | no z ↦ rw (ne_eqb _ _ z, short-more n v (λ o. omega arith) z)
+    ])
 
 -- and through `any5`
-pub way-five-before : (b : ℕ → ℕ) (wall at : ℕ) → wall < at → number_is (number.Refuse past_end) ≡ number5 b wall at
+pub way-five-before : (b : ℕ → ℕ) (wall at : ℕ) → wall < at → number_is (Err refusal.PastEnd) ≡ number5 b wall at
 unfolding number_is
 way-five-before b wall at h = sym (five-fault b wall at (ones-past b wall at 8 0 (omega arith) (omega arith)))
 
@@ -186,30 +187,30 @@ zero-lead x h = record { few = omega arith; ones = omega arith; then = λ l. ome
 
 module _ (s : List ℕ) (wall at x : ℕ) (h : at ≤ wall) (e : x ≡ num (bit_at s) at 57) where
   module _ (n : ℕ) (r : Leading (x / 2 ^ 49) n) where
-    pub way-five-full : 8 ≤ n → 8 ≤ wall - at → number_is (number.Refuse too_large) ≡ number5 (bit_at s) wall at
+    pub way-five-full : 8 ≤ n → 8 ≤ wall - at → number_is (Err refusal.TooLarge) ≡ number5 (bit_at s) wall at
     unfolding number_is
     way-five-full l k = sym (five-full s wall at n x e r l (omega arith))
 
-    pub way-five-short : 8 ≤ n → wall - at < 8 → number_is (number.Refuse past_end) ≡ number5 (bit_at s) wall at
+    pub way-five-short : 8 ≤ n → wall - at < 8 → number_is (Err refusal.PastEnd) ≡ number5 (bit_at s) wall at
     unfolding number_is
     way-five-short l k = sym (five-short s wall at n x e r h (omega arith) k)
 
-    pub way-five-off : n < 8 → wall - at < 5 * (n + 1) → number_is (number.Refuse past_end) ≡ number5 (bit_at s) wall at
+    pub way-five-off : n < 8 → wall - at < 5 * (n + 1) → number_is (Err refusal.PastEnd) ≡ number5 (bit_at s) wall at
     unfolding number_is
     way-five-off l k = elim (dec_le (wall - at) n) [
       | yes m ↦ sym (five-short s wall at n x e r h m (omega arith))
       | no m ↦ sym (five-cut-off s wall at n x e r l (omega arith) (omega arith))
     ]
 
-    pub way-five-cut : (p : Bits) (q : Number) → n < 8 → 5 * (n + 1) ≤ wall - at → p.0 ≡ at + 5 * (n + 1)
+    pub way-five-cut : (p : Bits) (q : Numbered) → n < 8 → 5 * (n + 1) ≤ wall - at → p.0 ≡ at + 5 * (n + 1)
         → number_is q ≡ got (cut_groups x n, p.0, is_short n (cut_groups x n)) → number_is q ≡ number5 (bit_at s) wall at
     way-five-cut p q l k f g = g ∙ rw f (sym (five-whole s wall at n x e r l (omega arith)))
 
   module _ (k : x < 2 ^ 56) where
-    pub way-five-none : wall - at < 5 → number_is (number.Refuse past_end) ≡ number5 (bit_at s) wall at
+    pub way-five-none : wall - at < 5 → number_is (Err refusal.PastEnd) ≡ number5 (bit_at s) wall at
     way-five-none l = way-five-off 0 (zero-lead x k) (omega arith) (omega arith)
 
-    pub way-five-one : 5 ≤ wall - at → (p : Bits) → p.0 ≡ at + 5 → number_is (number.Value (x / 2 ^ 52) p true) ≡ number5 (bit_at s) wall at
+    pub way-five-one : 5 ≤ wall - at → (p : Bits) → p.0 ≡ at + 5 → number_is (Ok (record { value = (x / 2 ^ 52); next = p; short = true })) ≡ number5 (bit_at s) wall at
     unfolding number_is cut_groups
     way-five-one l p f =
         let g : x / 2 ^ 52 % 2 ^ 4 ≡ x / 2 ^ 52 = omega arith in

@@ -64,13 +64,9 @@ width-under n w h = elim (dec_lt w (width n)) [
   | no k ↦ omega arith
 ]
 
--- at most one choice
-pub width_one : (n : ℕ) → n ≤ 1 → 0 ≡ width n
-width_one n h = width_is n 0 h (λ v l. absurd (omega arith))
-
--- of k bits, those below the leading zeros of the last choice
-pub width-zeros : (k n : ℕ) → 1 ≤ n → n - 1 < 2 ^ k → k - count_leading_zeros k (n - 1) ≡ width n
-width-zeros k n h l =
+-- of k bits, those below the leading zeros of the last choice; none where there is none
+pub width-zeros : (k n : ℕ) → n - 1 < 2 ^ k → k - count_leading_zeros k (n - 1) ≡ width n
+width-zeros k n l =
     let (m, sum, holds, least) = leading_length k (n - 1) l in
     let e : k - count_leading_zeros k (n - 1) ≡ m = omega arith in
-    rw e (width_is n m (omega arith) (λ v j. omega (arith, pow_mono {i = suc v} {j = m} j)))
+    rw e (width_is n m (omega arith) (λ v j. omega (arith, pow_pos v, pow_mono {i = suc v} {j = m} j)))

@@ -1,8 +1,8 @@
 -- What a write of bits does to a buffer.
 use Rattle.std.specs.Prelude.{ℕ, ◌+◌, ◌*◌, ◌^◌, ◌<◌, ◌≤◌, ◌≡◌, List, length}
-use Rattle.numbers.specs.Refusal.{outside_row}
-use Rattle.wire.specs.declared.Read.{Read}
-use Rattle.wire.specs.declared.Read.TheVariants as read
+use Rattle.std.specs.Prelude.{Ok, Err}
+use Rattle.numbers.specs.declared.refusal.Refusal.TheVariants as refusal
+use Rattle.wire.specs.Answer.{Read}
 use Rattle.wire.specs.Bits.{bit_at, Has}
 use Rattle.wire.specs.Number.{code8}
 
@@ -23,8 +23,8 @@ pub record Wrote (s t : List ℕ) (at : ℕ) (l : List ℕ) (p : ℕ) : Type 0 w
 
 -- the number v is written whole, as the bits l; or it has no code, and nothing is
 abbrev pub WroteOr : (coded uncoded : Type 0) (l : List ℕ) (v : ℕ) (s t : List ℕ) (at : ℕ) → Read → Type 0
-WroteOr coded uncoded l v s t at (read.Value u p) = (u ≡ v) × coded × Wrote s t at l p.0
-WroteOr coded uncoded l v s t at (read.Refuse e) = (e ≡ outside_row) × uncoded × (t ≡ s)
+WroteOr coded uncoded l v s t at (Ok (u, p)) = (u ≡ v) × coded × Wrote s t at l p.0
+WroteOr coded uncoded l v s t at (Err e) = (e ≡ refusal.OutsideRow) × uncoded × (t ≡ s)
 
 -- a vluimsbf8 would else take a third byte
 abbrev pub Wrote8 : List ℕ → List ℕ → ℕ → ℕ → Read → Type 0

@@ -6,8 +6,5 @@ ghost use Rattle.wire.specs.Width as meaning;
 pub fn width(n: u32) -> u32
     ensures { result ≡ meaning.width n }
 {
-    if n < 2 {
-        return 0;
-    }
-    32 - u32::leading_zeros(n - 1)
+    32 - u32::leading_zeros(n.saturating_sub(1))
 }

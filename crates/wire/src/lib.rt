@@ -6,6 +6,8 @@ pub mod choices; // choices.rt: how many bits tell n choices apart
 pub mod writing; // writing.rt: into a lent buffer, at a place
 mod window; // window.rt: whole words of a payload
 
+use numbers::refusal::Refusal;
+
 // A count of bits, or a place: bits from the payload's start. TheLength is one.
 #[derive(Clone, Copy)]
 pub struct Bits(pub u32);
@@ -21,16 +23,13 @@ pub struct Coded {
     pub bits: u64,
 }
 
-// A code's value and the place past it, or the number of a refusal.
-#[derive(Clone, Copy)]
-pub enum Read {
-    Value(u32, Bits),
-    Refuse(u32),
-}
+// A code's value and the place past it, or why it is refused.
+pub type Read = Result<(u32, Bits), Refusal>;
 
-// A number's value, the place past it, and whether it was in shortest form; or the number of a refusal.
+// A number's value, the place past it, and whether it was in shortest form.
 #[derive(Clone, Copy)]
-pub enum Number {
-    Value(u32, Bits, bool),
-    Refuse(u32),
+pub struct Number {
+    pub value: u32,
+    pub next: Bits,
+    pub short: bool,
 }

@@ -8,7 +8,7 @@ ghost use Rattle.wire.specs.Leading.{Leading, cut_groups};
 
 use super::window::{cut, window};
 use super::{Bits, Number, Read};
-use numbers::refusal;
+use numbers::refusal::Refusal;
 
 // The bit at a place.
 pub fn bit(s: &[u8], at: u32) -> u32
@@ -29,17 +29,16 @@ pub fn fixed(s: &[u8], wall: Bits, at: Bits, w: u32) -> Read
     let a = at.0;
     let e = wall.0;
     if w > 32 {
-        return Read::Refuse(refusal::TOO_LARGE);
+        return Err(Refusal::TooLarge);
     }
     if e < a {
-        return Read::Refuse(refusal::PAST_END);
+        return Err(Refusal::PastEnd);
     }
     if e - a < w {
-        return Read::Refuse(refusal::PAST_END);
+        return Err(Refusal::PastEnd);
     }
     let v = cut(s, a, w) as u32;
-    let next = Bits(a + w);
-    Read::Value(v, next)
+    Ok((v, Bits(a + w)))
 }
 
 // The ones that eight bits begin with: the zeros that what is left to eight ones begins with.
@@ -54,97 +53,93 @@ fn leading(y: u64) -> u32
 // The groups after n ones and the zero with which a window begins.
 fn cut5(x: u64, n: u32, next: Bits) -> Number
     requires { (0 < n) × (n < 8) }
-    ensures { number_is result ≡ got (cut_groups x n, next.0, is_short n (cut_groups x n)) }
+    ensures { number_is (Ok result) ≡ got (cut_groups x n, next.0, is_short n (cut_groups x n)) }
 {
     let m = n + 1;
-    let v = ((x >> (57 - 5 * m)) % (1u64 << (4 * m))) as u32;
-    if v >> (4 * n) == 0 {
-        return Number::Value(v, next, false);
+    let value = ((x >> (57 - 5 * m)) % (1u64 << (4 * m))) as u32;
+    Number {
+        value,
+        next,
+        short: value >> (4 * n) != 0,
     }
-    Number::Value(v, next, true)
 }
 
 // vluimsbf5, in shortest form or not: all of it lies in one window.
-pub fn any5(s: &[u8], wall: Bits, at: Bits) -> Number
+pub fn any5(s: &[u8], wall: Bits, at: Bits) -> Result<Number, Refusal>
     requires { wall.0 ≤ 8 * length s.now }
     ensures { number_is result ≡ number5 (bit_at s.now) wall.0 at.0 }
 {
     let a = at.0;
     let e = wall.0;
     if e < a {
-        return Number::Refuse(refusal::PAST_END);
+        return Err(Refusal::PastEnd);
     }
     let left = e - a;
     let x = window(s, a);
     if x < 72057594037927936 {
         if left < 5 {
-            return Number::Refuse(refusal::PAST_END);
+            return Err(Refusal::PastEnd);
         }
-        let next = Bits(a + 5);
-        return Number::Value((x >> 52) as u32, next, true);
+        return Ok(Number {
+            value: (x >> 52) as u32,
+            next: Bits(a + 5),
+            short: true,
+        });
     }
     let n = leading(x >> 49);
     if 8 <= n {
         if left < 8 {
-            return Number::Refuse(refusal::PAST_END);
+            return Err(Refusal::PastEnd);
         }
-        return Number::Refuse(refusal::TOO_LARGE);
+        return Err(Refusal::TooLarge);
     }
     if left < 5 * (n + 1) {
-        return Number::Refuse(refusal::PAST_END);
+        return Err(Refusal::PastEnd);
     }
-    let next = Bits(a + 5 * (n + 1));
-    cut5(x, n, next)
+    Ok(cut5(x, n, Bits(a + 5 * (n + 1))))
 }
 
 // vluimsbf8 of at most two bytes, in shortest form or not.
-pub fn any8(s: &[u8], wall: Bits, at: Bits) -> Number
+pub fn any8(s: &[u8], wall: Bits, at: Bits) -> Result<Number, Refusal>
     requires { wall.0 ≤ 8 * length s.now }
     ensures { number_is result ≡ number8 (bit_at s.now) wall.0 at.0 }
 {
-    match fixed(s, wall, at, 8) {
-        Read::Refuse(e) => Number::Refuse(e),
-        Read::Value(x, p) => {
-            if x < 128 {
-                return Number::Value(x, p, true);
-            }
-            second8(s, wall, x - 128, p)
-        }
+    let (value, next) = fixed(s, wall, at, 8)?;
+    if value < 128 {
+        return Ok(Number {
+            value,
+            next,
+            short: true,
+        });
     }
+    second8(s, wall, value - 128, next)
 }
 
 // The second byte of a vluimsbf8 whose first holds the seven bits x.
-fn second8(s: &[u8], wall: Bits, x: u32, at: Bits) -> Number
+fn second8(s: &[u8], wall: Bits, x: u32, at: Bits) -> Result<Number, Refusal>
     requires { (wall.0 ≤ 8 * length s.now) × (x < 128) }
     ensures { number_is result ≡ second8_at (bit_at s.now) wall.0 x at.0 }
 {
-    match fixed(s, wall, at, 8) {
-        Read::Refuse(e) => Number::Refuse(e),
-        Read::Value(y, p) => {
-            if 128 <= y {
-                return Number::Refuse(refusal::TOO_LARGE);
-            }
-            if x == 0 {
-                return Number::Value(y, p, false);
-            }
-            Number::Value(x * 128 + y, p, true)
-        }
+    let (y, next) = fixed(s, wall, at, 8)?;
+    if 128 <= y {
+        return Err(Refusal::TooLarge);
     }
+    Ok(Number {
+        value: x * 128 + y,
+        next,
+        short: 0 < x,
+    })
 }
 
 // A number in shortest form; any other is NOT_SHORTEST.
-pub fn shortest(n: Number) -> Read
+pub fn shortest(n: Result<Number, Refusal>) -> Read
     ensures { read_is result ≡ strict (number_is n) }
 {
-    match n {
-        Number::Refuse(e) => Read::Refuse(e),
-        Number::Value(v, p, short) => {
-            if short {
-                return Read::Value(v, p);
-            }
-            Read::Refuse(refusal::NOT_SHORTEST)
-        }
+    let Number { value, next, short } = n?;
+    if short {
+        return Ok((value, next));
     }
+    Err(Refusal::NotShortest)
 }
 
 // vluimsbf5 in shortest form.

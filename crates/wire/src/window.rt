@@ -48,10 +48,8 @@ fn few(s: &[u8], i: usize) -> u64
     ensures { result ≡ num (bit_at s.now) (8 * i) 64 }
 {
     let mut v: u64 = 0;
-    let mut k: usize = 0;
-    while k < 8 {
+    for k in 0..8 {
         v = v * 256 + byte(s, i + k);
-        k += 1;
     }
     v
 }

@@ -7,7 +7,7 @@ ghost use Rattle.wire.specs.Put.{Put, Room, Wrote, Wrote8};
 
 use super::window::{eight, store};
 use super::{Bits, Coded, Read};
-use numbers::refusal;
+use numbers::refusal::Refusal;
 
 // One bit.
 fn put_bit(buf: &mut [u8], at: u32, x: u8)
@@ -40,11 +40,8 @@ fn put_slow(buf: &mut [u8], at: u32, w: u32, v: u64)
     requires { Room buf.old at w }
     ensures { Put (bit_at buf.old) (bit_at buf.new) at (digits w v) }
 {
-    let mut i: u32 = 0;
-    while i < w {
-        let x = digit(v, w - i - 1);
-        put_bit(buf, at + i, x);
-        i += 1;
+    for i in 0..w {
+        put_bit(buf, at + i, digit(v, w - i - 1));
     }
 }
 
@@ -171,14 +168,14 @@ pub fn put8(buf: &mut [u8], at: Bits, v: u32) -> Read
     ensures { Wrote8 buf.old buf.new at.0 v result }
 {
     if 16384 <= v {
-        return Read::Refuse(refusal::OUTSIDE_ROW);
+        return Err(Refusal::OutsideRow);
     }
     if v < 128 {
         let p = put(buf, at, 8, v);
-        return Read::Value(v, p);
+        return Ok((v, p));
     }
     let p = put(buf, at, 16, (128 + v / 128) * 256 + v % 128);
-    Read::Value(v, p)
+    Ok((v, p))
 }
 
 // The number that the eight bytes from byte i on are.

@@ -1,5 +1,5 @@
 -- Each way through the cycle.
-use Prim.Native.Nat.{ℕ, zero, suc, ◌+◌, ◌-◌, ◌*◌, ◌^◌, ◌<◌, ◌≤◌}
+use Prim.Native.Nat.{ℕ, zero, suc, ◌+◌, ◌-◌, ◌*◌, ◌<◌, ◌≤◌}
 use mathlib.Core.Path.{◌≡◌, refl, sym, ap, subst, ◌∙◌}
 use mathlib.Core.Bool.{Bool, true, false, cond, true≢false}
 use mathlib.Core.List.{List, [], ◌∷◌, ◌++◌}
@@ -9,8 +9,10 @@ use borrow.Author.Tests.{lt-ltb, le-ltb, eq-eqb, ne_eqb}
 use mir.Val.{Fits as FitsIn}
 use mir.Syntax.{w32}
 use lib.ListN.{length, get_or, length-append}
-use Rattle.numbers.specs.Refusal as refusal
-use Rattle.numbers.specs.Refusal.{not_held, no_reading}
+use Rattle.numbers.specs.declared.refusal.Refusal.{Refusal}
+use Rattle.numbers.specs.declared.refusal.Refusal.TheVariants as refusal
+use Rattle.numbers.specs.declared.refusal.Fault.{Fault}
+use Rattle.numbers.specs.Refused.{number_of, answered}
 use Rattle.numbers.specs.Kind as kinds
 use Rattle.table.specs.First.Verdict.{right}
 use Rattle.table.specs.Valid.{verdict}
@@ -41,18 +43,16 @@ use Rattle.model.proofs.WriteSteps as steps-laws
 use Rattle.model.specs.Whole.{event_at}
 use Rattle.model.proofs.Named.{item-out-named}
 use Rattle.writer_parts.specs.declared.Spot.{Spot}
-use Rattle.writer_parts.specs.declared.Judgement.{Judgement}
-use Rattle.writer_parts.specs.declared.Judgement.TheVariants.{Go, Refuse}
-use Rattle.writer_parts.specs.declared.Cast as cast_t
-use Rattle.writer_parts.specs.declared.Cast.TheVariants as cv
+use Rattle.std.specs.Prelude.{Result, Ok, Err}
 use Rattle.writer_parts.specs.Codes as codes_p
-use Rattle.writer_parts.specs.Codes.{Rowed, Casts}
+use Rattle.writer_parts.specs.Codes.{Rowed, Cast, Casts}
 use Rattle.writer_parts.proofs.NoteLaws.{spells-none, spells-by, spells-same}
-use Rattle.writer_parts.specs.Walk.{events_in, events_at, texts_at, between, past, Ready, Sealing, Walked, Walks, wanted, judged, noted, alone}
+use Rattle.writer_parts.specs.Walk.{Judgement, events_in, events_at, texts_at, between, past, Ready, Sealing, Walked, Walks, wanted, judged, noted, alone}
 use Rattle.writer_parts.proofs.WalkLaws.{went, stopped, walked_as, stays, along-stop, along-go, alone-noted, events-next, events-none, events-count, judged-in, taken-like, taken-unlike}
 use Rattle.writer_parts.specs.Parts.{present, required·, optional·, attribute·, attributes·, own·, values·}
 use Rattle.writer_parts.specs.Opening.{no_row, row_choices}
 use Rattle.writer.specs.Meaning.{Owned, Known, Rounds, Given, RightFor, Within, deep_at, particle·, inside·, element·, choose·, rounds·, occur·, row·, list·}
+use Rattle.writer_parts.proofs.JudgingWays.{some}
 use Rattle.writer_parts.proofs.Leads.{Leads, leads-start, leads-end, leads-stop, leads-go}
 use Rattle.writer_parts.proofs.AttributeWays.{ready_on, item-stop, item-go, item-here}
 
@@ -83,19 +83,24 @@ module _ (mode : Lengths) (held : ℕ → Bool) (T : Table) where
   attributes-are [] M X = steps-laws.attributes-none mode held T M X
   attributes-are (a ∷ l) M X = steps-laws.attributes-more mode held T M X a l ∙ (λ j. along (attribute-is a M X j) (λ N U. attributes-are l N U j))
 
+-- what refuses nothing has no number
+none-refused : (b : Result Unit Refusal) → ((e : Refusal) → b ≡ Err e → ⊥) → answered b ≡ 0
+none-refused (Ok u) n = refl
+none-refused (Err e) n = absurd (n e refl)
+
 -- too_deep
-pub deep-here : (L : List ℕ) (i : ℕ) → i < events_in L → Refuse refusal.depth i ≡ deep_at L i
+pub deep-here : (L : List ℕ) (i : ℕ) → i < events_in L → ◌≡◌ {A = Fault ℕ} (record { why = refusal.Depth; at = i }) (deep_at L i)
 unfolding deep_at
 deep-here L i h = rw (lt-ltb i (events_in L) h)
 
-pub deep-past : (L : List ℕ) (i : ℕ) → events_in L ≤ i → Refuse no_reading i ≡ deep_at L i
+pub deep-past : (L : List ℕ) (i : ℕ) → events_in L ≤ i → ◌≡◌ {A = Fault ℕ} (record { why = refusal.NoReading; at = i }) (deep_at L i)
 unfolding deep_at
 deep-past L i h = rw (le-ltb i (events_in L) h)
 
 module _ (L X : List ℕ) (c : Spot) (N : List ℕ) where
-  pub deep-walked : Ready L X N c → (s : Judgement) → s ≡ deep_at L c.event → Walked L X (too_deep (events_at L c.event)) c N s N
+  pub deep-walked : Ready L X N c → (f : Fault ℕ) → f ≡ deep_at L c.event → Walked L X (too_deep (events_at L c.event)) c N (Err f) N
   unfolding too_deep
-  deep-walked r s e = elim (dec_lt c.event (events_in L)) [
+  deep-walked r f e = elim (dec_lt c.event (events_in L)) [
     | yes h ↦
         let k : suc (length (events_at L (c.event + 1))) ≡ events_in L - c.event = omega (arith, events-count L (c.event + 1)) in
         rw (e, ← deep-here L c.event h, events-next L c.event h, k) (record { is = record { out = refl; inside = r.inside } })
@@ -115,20 +120,15 @@ module _ (c : Choices) (row : ℕ) where
 
 -- row_for
 module _ (t : List ℕ) (name ty i : ℕ) where
-  pub row-root : i ≡ no_row → Given t name ty i (pv.Element name ty no_row)
-  row-root e = record { root = λ z. refl; row = λ n. absurd (n e) }
-
   pub row-table : (i ≡ no_row → ⊥) → (p : particle_t.Particle) → row_is p ≡ (table_of t).row i → Given t name ty i p
   row-table n p e = record { root = λ z. absurd (n z); row = λ z. e }
 
 pub row_inside : (t : List ℕ) (ty i : ℕ) → verdict t ≡ right → Known t ty i → (i ≡ no_row → ⊥) → ParticleInside t i
 row_inside t ty i v k n = particle-inside t v i (k.row n)
 
-pub ruleset row-ways = (row-root, row-table, row_inside)
-
 -- what was walked past an element's Start, codes and then what is inside it: it may be sealed
 module _ (L X : List ℕ) (c : Spot) (N : List ℕ) (t : List ℕ) (y : Types) (ty : ℕ) (f : Spot) (M : List ℕ) (g : codes_p.Went t L X y (past c) N ty f M)
-    {p : Out} (s : Judgement) (K : List ℕ) (i : Walked L X p f M s K) (o : Spot) (w : s ≡ Go o) where
+    {p : Out} (s : Judgement) (K : List ℕ) (i : Walked L X p f M s K) (o : Spot) (w : s ≡ Ok o) where
   coded-along : between X K (past c) o ≡ between X M (past c) f ++ between X K f o
   coded-along =
       let k = went i o w in
@@ -145,7 +145,7 @@ module _ (L X : List ℕ) (c : Spot) (N : List ℕ) (t : List ℕ) (y : Types) (
       record { started = omega arith; ready = k.ready; counts = rw coded-along (omega (arith, length-append (between X M (past c) f) (between X K f o), k.counts, g.counts)) }
 
 -- past the codes, or where there are none
-pub cast-went : (L X : List ℕ) (c : Spot) (N : List ℕ) (t : List ℕ) (y : Types) (k : cast_t.Cast) (M : List ℕ) → Casts t L X y (past c) N k M → (ty : ℕ) (f : Spot) → k ≡ cv.To ty f → codes_p.Went t L X y (past c) N ty f M
+pub cast-went : (L X : List ℕ) (c : Spot) (N : List ℕ) (t : List ℕ) (y : Types) (k : Cast) (M : List ℕ) → Casts t L X y (past c) N k M → (ty : ℕ) (f : Spot) → k ≡ Ok (ty, f) → codes_p.Went t L X y (past c) N ty f M
 cast-went L X c N t y k M g ty f w = rw w at g.is
 
 pub uncast-went : (L X : List ℕ) (c : Spot) (N : List ℕ) (t : List ℕ) (ch : Choices) (ty row : ℕ) → Rowed t ch row → ch.any ≡ false → ty < types_in t → Ready L X N (past c) → codes_p.Went t L X (types_by t ch ty row) (past c) N ty (past c) N
@@ -158,27 +158,27 @@ uncast-went L X c N t ch ty row h a k r =
     rw y (record { out = λ f. casts-none (only ty) (events_at L (c.event + 1)) f refl ∙ rw e; known = k; counts = rw e (omega arith); onward = omega arith; texts = refl; ready = r; before = λ j g. refl })
 
 -- past a Start that is like
-pub element-ready : (L X : List ℕ) (c : Spot) (N : List ℕ) → Ready L X N c → (f : Bare) (b : ℕ) → b ≡ judged L c.event f → b ≤ 0 → Ready L X N (past c)
+pub element-ready : (L X : List ℕ) (c : Spot) (N : List ℕ) → Ready L X N c → (f : Bare) (b : Result Unit Refusal) → answered b ≡ judged L c.event f → ((e : Refusal) → b ≡ Err e → ⊥) → Ready L X N (past c)
 element-ready L X c N r f b j z =
-    let i = judged-in L c.event f (sym j ∙ omega arith) in
+    let i = judged-in L c.event f (sym j ∙ none-refused b z) in
     record { sized = r.sized; few = r.few; inside = omega arith; used = r.used; short = omega (arith, r.short); small = omega (arith, r.small) }
 
 -- element: behind its Start come its codes, and then what its effective type lets come
-module _ (L X : List ℕ) (c : Spot) (N : List ℕ) (r : Ready L X N c) (t : List ℕ) (mode : Mode) (d name : ℕ) (y : Types) (b : ℕ)
-    (j : b ≡ judged L c.event (wanted kinds.start name (flag_in (len mode) (get_or L (4 * c.event + 2) 0)))) where
+module _ (L X : List ℕ) (c : Spot) (N : List ℕ) (r : Ready L X N c) (t : List ℕ) (mode : Mode) (d name : ℕ) (y : Types) (b : Result Unit Refusal)
+    (j : answered b ≡ judged L c.event (wanted kinds.start name (flag_in (len mode) (get_or L (4 * c.event + 2) 0)))) where
   abbrev q : ℕ
   q = get_or L (4 * c.event + 2) 0
 
   abbrev start : Bare
   start = wanted kinds.start name (flag_in (len mode) q)
 
-  pub element-unlike : 0 < b → Walks L X (element· t mode d name y) c N (Refuse b c.event) N
+  pub element-unlike : (e : Refusal) → b ≡ Err e → Walks L X (element· t mode d name y) c N (Err record { why = e; at = c.event }) N
   unfolding element· element_out
-  element-unlike p = record { is = record { out = taken-unlike L c.event start (as_start (len mode) name) _ refl b j p r.inside; inside = r.inside } }
+  element-unlike e w = record { is = record { out = taken-unlike L c.event start (as_start (len mode) name) _ refl (number_of e) (rw w at j) (some e) r.inside; inside = r.inside } }
 
-  module _ (ok : b ≤ 0) where
+  module _ (ok : (e : Refusal) → b ≡ Err e → ⊥) where
     like_is : judged L c.event start ≡ 0
-    like_is = sym j ∙ omega arith
+    like_is = sym j ∙ none-refused b ok
 
     within : c.event < events_in L
     within = judged-in L c.event start like_is
@@ -193,14 +193,11 @@ module _ (L X : List ℕ) (c : Spot) (N : List ℕ) (r : Ready L X N c) (t : Lis
     unfolding element· element_out
     element-is = taken-like L c.event start (as_start (len mode) name) _ refl like_is
 
-    pub element-next : c.event + 1 < 2 ^ 64
-    element-next = let i = within in let f = r.few in omega arith
-
     pub element-word : 4 * c.event + 2 < length L
     element-word = let i = within in omega arith
 
-    pub element-uncast : (k : cast_t.Cast) (M : List ℕ) → Casts t L X y (past c) N k M → (n at : ℕ) → k ≡ cv.Refuse n at → Walks L X (element· t mode d name y) c N (Refuse n at) M
-    element-uncast k M g n at w = let s : codes_p.Stopped L y (past c) n at = rw w at g.is in record { is = record { out = element-is ∙ s.out behind; inside = s.inside } }
+    pub element-uncast : (k : Cast) (M : List ℕ) → Casts t L X y (past c) N k M → (e : Fault ℕ) → k ≡ Err e → Walks L X (element· t mode d name y) c N (Err e) M
+    element-uncast k M g e w = let s : codes_p.Stopped L y (past c) (number_of e.why) e.at = rw w at g.is in record { is = record { out = element-is ∙ s.out behind; inside = s.inside } }
 
     module _ (ty : ℕ) (f : Spot) (M : List ℕ) (g : codes_p.Went t L X y (past c) N ty f M) where
       abbrev after : Out
@@ -210,7 +207,7 @@ module _ (L X : List ℕ) (c : Spot) (N : List ℕ) (r : Ready L X N c) (t : Lis
       typed = element-is ∙ g.out behind ∙ rw g.texts
 
       module _ (h : Bool) (e : h ≡ held_of t mode.party ty) where
-        pub element-unheld : h ≡ false → Walks L X (element· t mode d name y) c N (Refuse not_held c.event) M
+        pub element-unheld : h ≡ false → Walks L X (element· t mode d name y) c N (Err record { why = refusal.NotHeld; at = c.event }) M
         unfolding allowed
         element-unheld f = record { is = record { out = typed ∙ rw (← e, f, left_is); inside = r.inside } }
 
@@ -219,11 +216,11 @@ module _ (L X : List ℕ) (c : Spot) (N : List ℕ) (r : Ready L X N c) (t : Lis
           unfolding allowed
           held-is = typed ∙ rw (← e, v)
 
-          pub element-stop : (n at : ℕ) → s ≡ Refuse n at → Walks L X (element· t mode d name y) c N s K
+          pub element-stop : (x : Fault ℕ) → s ≡ Err x → Walks L X (element· t mode d name y) c N s K
           unfolding sealed
-          element-stop n at w = let k = stopped i n at w in rw w (record { is = record { out = held-is ∙ rw k.out; inside = k.inside } })
+          element-stop x w = let k = stopped i x w in rw w (record { is = record { out = held-is ∙ rw k.out; inside = k.inside } })
 
-          module _ (o : Spot) (m : s ≡ Go o) where
+          module _ (o : Spot) (m : s ≡ Ok o) where
             pub element-sealing : Sealing L X K c o
             element-sealing = sealing L X c N t y ty f M g s K i o m
 
@@ -241,15 +238,11 @@ module _ (L X : List ℕ) (c : Spot) (N : List ℕ) (r : Ready L X N c) (t : Lis
               where
                 earlier : (u : Judgement) → Walked L X (sealed (len mode) q [] (wrote (between X K (past c) o) (events_at L o.event) (texts_at X o.used))) c K u P
                     → Walked L X (sealed (len mode) q [] (wrote (between X K (past c) o) (events_at L o.event) (texts_at X o.used))) c N u P
-                earlier (Go f) x =
+                earlier (Ok f) x =
                     let a = x.is in
                     let n = g.onward in
                     record { is = record { out = a.out; counts = a.counts; onward = a.onward; ready = a.ready; before = λ j h. a.before j h ∙ (went i o m).before j (omega arith) ∙ g.before j (omega arith) } }
-                earlier (Refuse n at) x = record { is = x.is }
-
-pub ruleset start_unlike = (element-unlike)
-
-pub ruleset element-ways = (element-unlike, element-ready, element-next, element-word, element-uncast)
+                earlier (Err e) x = record { is = x.is }
 
 -- inside an element: what stands before its rows, and then its content row, where it has one
 module _ (L X : List ℕ) (c : Spot) (N : List ℕ) (t : List ℕ) (mode : Mode) (d ty : ℕ) where
@@ -275,23 +268,23 @@ module _ (L X : List ℕ) (c : Spot) (N : List ℕ) (t : List ℕ) (mode : Mode)
       ∙ sym (along-along (attributes· ((table_of t).attributes ty) (events_at L c.event) (texts_at X c.used)) (λ A U. own· ((table_of t).content ty) A U) (λ A U. rows_out ((table_of t).content ty) A U))
 
   module _ (r : Judgement) (M : List ℕ) (h : Walks L X (values· t ty) c N r M) where
-    pub inside-stop : (n at : ℕ) → r ≡ Refuse n at → Walks L X (inside· t mode d ty) c N r M
-    inside-stop n at w = walked_as r inside-as (along-stop L X _ _ c N r M h n at w)
+    pub inside-stop : (x : Fault ℕ) → r ≡ Err x → Walks L X (inside· t mode d ty) c N r M
+    inside-stop x w = walked_as r inside-as (along-stop L X _ _ c N r M h x w)
 
-    module _ (f : Spot) (w : r ≡ Go f) (o : content_t.Content) (e : content_is o ≡ (table_of t).content ty) where
+    module _ (f : Spot) (w : r ≡ Ok f) (o : content_t.Content) (e : content_is o ≡ (table_of t).content ty) where
       inside-go : (u : Judgement) (K : List ℕ) → Walks L X (rows_out (content_is o)) f M u K → Walks L X (inside· t mode d ty) c N u K
       inside-go u K y = walked_as u inside-as (along-go L X _ (λ A U. rows_out ((table_of t).content ty) A U) c N r M h f w u K (rw (← e) y))
 
       pub inside-rows : (i : ℕ) → o ≡ ov.Particles i → (u : Judgement) (K : List ℕ) → Walks L X (particle· t mode d i) f M u K → Walks L X (inside· t mode d ty) c N u K
       inside-rows i z u K y = inside-go u K (rw z y)
 
-      pub inside-none : ((i : ℕ) → o ≡ ov.Particles i → ⊥) → Walks L X (inside· t mode d ty) c N (Go f) M
-      inside-none z = inside-go (Go f) M (go o z)
+      pub inside-none : ((i : ℕ) → o ≡ ov.Particles i → ⊥) → Walks L X (inside· t mode d ty) c N (Ok f) M
+      inside-none z = inside-go (Ok f) M (go o z)
         where
           on : Ready L X M f
           on = ready_on L X _ c N r M h f w
 
-          go : (o : content_t.Content) → ((i : ℕ) → o ≡ ov.Particles i → ⊥) → Walks L X (rows_out (content_is o)) f M (Go f) M
+          go : (o : content_t.Content) → ((i : ℕ) → o ≡ ov.Particles i → ⊥) → Walks L X (rows_out (content_is o)) f M (Ok f) M
           go ov.Empty z = stays L X f M on
           go (ov.Simple k x y) z = stays L X f M on
           go (ov.Particles i) z = absurd (z i refl)
@@ -331,9 +324,9 @@ given-row t name ty i p g n e = n (subst (λ (x : particle_t.Particle). Elements
 
 -- one_row
 module _ (L X : List ℕ) (c : Spot) (N : List ℕ) (t : List ℕ) (mode : Mode) (d name ty i : ℕ) where
-  pub one-row-deep : d ≡ 0 → Ready L X N c → (s : Judgement) → s ≡ deep_at L c.event → Walks L X (row· t mode d name ty i) c N s N
+  pub one-row-deep : d ≡ 0 → Ready L X N c → (f : Fault ℕ) → f ≡ deep_at L c.event → Walks L X (row· t mode d name ty i) c N (Err f) N
   unfolding row·
-  one-row-deep z r s e = rw z (deep-walked L X c N r s e)
+  one-row-deep z r f e = rw z (deep-walked L X c N r f e)
 
   module _ (z : d ≡ 0 → ⊥) (p : particle_t.Particle) (g : Given t name ty i p) where
     here : suc (d - 1) ≡ d
@@ -425,7 +418,7 @@ module _ (t : List ℕ) (mode : Mode) (name ty i : ℕ) (p : particle_t.Particle
 pub ruleset one-row-ways = (one-row-deep, row_inside)
 
 -- choose and occur: the event's word, then the rest
-pub picked-below : (L X : List ℕ) (c : Spot) (N : List ℕ) (n v : ℕ) → v ≡ get_or L (4 * c.event + 1) 0 → (r : Judgement) (M : List ℕ) → Walks L X (alone (picked n)) c N r M → (e : Spot) → r ≡ Go e → v < n
+pub picked-below : (L X : List ℕ) (c : Spot) (N : List ℕ) (n v : ℕ) → v ≡ get_or L (4 * c.event + 1) 0 → (r : Judgement) (M : List ℕ) → Walks L X (alone (picked n)) c N r M → (e : Spot) → r ≡ Ok e → v < n
 unfolding noted word_of
 picked-below L X c N n v z r M h e w =
     let E = event_at L c.event in
@@ -456,11 +449,11 @@ module _ (L X : List ℕ) (c : Spot) (N : List ℕ) (t : List ℕ) (mode : Mode)
   word = get_or L (4 * c.event + 1) 0
 
   module _ (first count : ℕ) (h : Walks L X (alone (picked count)) c N r M) where
-    pub choose-stop : (n at : ℕ) → r ≡ Refuse n at → Walks L X (choose· t mode d first count) c N r M
+    pub choose-stop : (x : Fault ℕ) → r ≡ Err x → Walks L X (choose· t mode d first count) c N r M
     unfolding choose·
-    choose-stop n at w = item-stop L X c N r M (picked count) (λ v A U. particle· t mode d (first + v) A U) h n at w
+    choose-stop x w = item-stop L X c N r M (picked count) (λ v A U. particle· t mode d (first + v) A U) h x w
 
-    module _ (e : Spot) (w : r ≡ Go e) where
+    module _ (e : Spot) (w : r ≡ Ok e) where
       pub choose-go : (s : Judgement) (K : List ℕ) → Walks L X (rounds· t mode d (first + word) 0 1) e M s K → Walks L X (choose· t mode d first count) c N s K
       unfolding choose· word_of
       choose-go s K y =
@@ -468,11 +461,11 @@ module _ (L X : List ℕ) (c : Spot) (N : List ℕ) (t : List ℕ) (mode : Mode)
           (walked_as s (sym (rounds-one t mode d (first + word) (events_at L e.event) (texts_at X e.used))) y)
 
   module _ (child least most : ℕ) (h : Walks L X (alone (counted least most)) c N r M) where
-    pub occur-stop : (n at : ℕ) → r ≡ Refuse n at → Walks L X (occur· t mode d child least most) c N r M
+    pub occur-stop : (x : Fault ℕ) → r ≡ Err x → Walks L X (occur· t mode d child least most) c N r M
     unfolding occur·
-    occur-stop n at w = item-stop L X c N r M (counted least most) (λ v A U. rounds· t mode d child 0 v A U) h n at w
+    occur-stop x w = item-stop L X c N r M (counted least most) (λ v A U. rounds· t mode d child 0 v A U) h x w
 
-    module _ (e : Spot) (w : r ≡ Go e) where
+    module _ (e : Spot) (w : r ≡ Ok e) where
       pub occur-go : (s : Judgement) (K : List ℕ) → Walks L X (rounds· t mode d child 0 word) e M s K → Walks L X (occur· t mode d child least most) c N s K
       unfolding occur· word_of
       occur-go s K y = item-go L X c N r M (counted least most) (λ v A U. rounds· t mode d child 0 v A U) h word refl e w s K y
@@ -535,14 +528,14 @@ module _ (L X : List ℕ) (t : List ℕ) (mode : Mode) (d name ty n step : ℕ) 
   particle-next j i c h = let m : n - j ≡ suc (n - (j + 1)) = omega arith in rw m
 
   module _ (o₀ : Out) (c₀ : Spot) (N₀ : List ℕ) (j i : ℕ) (c : Spot) (N : List ℕ) (l : Leads L X o₀ c₀ N₀ (left_r j i c) c N) where
-    pub particle-end : n ≤ j → Ready L X N c → Walked L X o₀ c₀ N₀ (Go c) N
+    pub particle-end : n ≤ j → Ready L X N c → Walked L X o₀ c₀ N₀ (Ok c) N
     particle-end h r = leads-end L X o₀ c₀ N₀ (left_r j i c) c N l (particle-over j i c h) r
 
     module _ (h : j < n) (r : Judgement) (M : List ℕ) (g : Walks L X (row· t mode d name ty i) c N r M) where
-      pub particle-stop : (m at : ℕ) → r ≡ Refuse m at → Walked L X o₀ c₀ N₀ r M
-      particle-stop m at w = leads-stop L X o₀ c₀ N₀ (left_r j i c) c N l _ _ (particle-next j i c h) r M g m at w
+      pub particle-stop : (x : Fault ℕ) → r ≡ Err x → Walked L X o₀ c₀ N₀ r M
+      particle-stop x w = leads-stop L X o₀ c₀ N₀ (left_r j i c) c N l _ _ (particle-next j i c h) r M g x w
 
-      pub particle-again : (e : Spot) → r ≡ Go e → Leads L X o₀ c₀ N₀ (left_r (j + 1) (i + step) e) e M
+      pub particle-again : (e : Spot) → r ≡ Ok e → Leads L X o₀ c₀ N₀ (left_r (j + 1) (i + step) e) e M
       particle-again e w = leads-go L X o₀ c₀ N₀ (left_r j i c) c N l _ _ (particle-next j i c h) r M g e w _ refl
 
 module _ (t : List ℕ) (ty first step n : ℕ) (w : Rounds t ty first step n) (j i : ℕ) (e : i ≡ first + step * j) where

@@ -22,10 +22,10 @@ use Rattle.model.specs.declared.Mode.{Mode}
 use Rattle.model.specs.Write.{Bare, Out}
 use Rattle.model.proofs.OutLaws.{along-done}
 use Rattle.writer_parts.specs.declared.Spot.{Spot}
-use Rattle.writer_parts.specs.declared.Judgement.{Judgement}
-use Rattle.writer_parts.specs.declared.Judgement.TheVariants.{Go, Refuse}
+use Rattle.numbers.specs.declared.refusal.Fault.{Fault}
+use Rattle.std.specs.Prelude.{Result, Ok, Err}
 use Rattle.writer_parts.specs.Opening.{no_row, row_choices}
-use Rattle.writer_parts.specs.Walk.{events_at, texts_at, Ready, Walks, alone}
+use Rattle.writer_parts.specs.Walk.{Judgement, events_at, texts_at, Ready, Walks, alone}
 use Rattle.writer_parts.proofs.WalkLaws.{walked_as, stays}
 use Rattle.writer_parts.proofs.AttributeWays.{ready_on, item-here}
 use Rattle.writer.specs.Meaning.{Owned, Known, Given, RightFor, Within, particle·, element·, rounds·, row·, list·}
@@ -80,7 +80,7 @@ module _ (t : List ℕ) (d : ℕ) (x : Run) (valid : verdict t ≡ right) (lies 
 pub ruleset narrow-ways = (narrow-rows, first-inside, narrow-element)
 
 -- past the event of a branch or of a count
-module _ (L X : List ℕ) (c : Spot) (N : List ℕ) (ready : Ready L X N c) (j : Judgement) (M : List ℕ) (e : Spot) (z : j ≡ Go e) where
+module _ (L X : List ℕ) (c : Spot) (N : List ℕ) (ready : Ready L X N c) (j : Judgement) (M : List ℕ) (e : Spot) (z : j ≡ Ok e) where
   pub counted-word : (least most : ℕ) → Walks L X (alone (counted least most)) c N j M → 4 * c.event + 1 < length L
   counted-word least most h = let i = item-here L X c N ready (counted least most) j M h e z in omega arith
 
@@ -106,17 +106,16 @@ further : (t : List ℕ) (mode : Mode) (L X : List ℕ) (d : ℕ) (f g : List Ba
     → (a : aim_t.Aim) → Aimed t mode L X d g e M a M → Aimed t mode L X d f c N a M
 further t mode L X d f g c N e M j (aim.Element x) (a, b, i, o) = (a, b, i, record { ready = o.ready; on = λ s K h. j s K (o.on s K h) })
 further t mode L X d f g c N e M j (aim.Rows x) (a, o) = (a, record { ready = o.ready; on = λ s K h. j s K (o.on s K h) })
-further t mode L X d f g c N e M j (aim.Refuse n p) h = j (Refuse n p) M h
 
 -- a row, case by case
 module _ (t L X : List ℕ) (d : ℕ) (c : Spot) (N : List ℕ) (ready : Ready L X N c) (row : particle_t.Particle) where
-  pub reach-element : (name ty own : ℕ) → row ≡ pv.Element name ty own → Fits t row → Aims t L X d row c N (aim.Element record { cursor = c; name = name; t = ty; row = own; depth = d }) N
+  pub reach-element : (name ty own : ℕ) → row ≡ pv.Element name ty own → Fits t row → Aims t L X d row c N (Ok (aim.Element record { cursor = c; name = name; t = ty; row = own; depth = d })) N
   unfolding given· target·
   reach-element name ty own w fit =
       let k : Fits t (pv.Element name ty own) = rw w at fit in
       record { is = λ mode r. rw w (k.0, k.1, omega arith, record { ready = ready; on = λ s K h. h }) }
 
-  pub reach-sequence : (first n : ℕ) → row ≡ pv.Sequence first n → Fits t row → Aims t L X d row c N (aim.Rows record { cursor = c; first = first; step = 1; count = n }) N
+  pub reach-sequence : (first n : ℕ) → row ≡ pv.Sequence first n → Fits t row → Aims t L X d row c N (Ok (aim.Rows record { cursor = c; first = first; step = 1; count = n })) N
   unfolding given· run·
   reach-sequence first n w fit =
       let k : Fits t (pv.Sequence first n) = rw w at fit in
@@ -127,11 +126,11 @@ module _ (t L X : List ℕ) (d : ℕ) (c : Spot) (N : List ℕ) (ready : Ready L
 
   module _ (j : Judgement) (M : List ℕ) where
     module _ (first n : ℕ) (w : row ≡ pv.Choice first n) (h : Walks L X (alone (picked n)) c N j M) where
-      pub reach-unpicked : (e p : ℕ) → j ≡ Refuse e p → Aims t L X d row c N (aim.Refuse e p) M
+      pub reach-unpicked : (x : Fault ℕ) → j ≡ Err x → Aims t L X d row c N (Err x) M
       unfolding given·
-      reach-unpicked e p z = record { is = λ mode r. rw w (rw z at (choose-stop L X c N t mode d ready j M first n h e p z)) }
+      reach-unpicked x z = record { is = λ mode r. rw w (rw z at (choose-stop L X c N t mode d ready j M first n h x z)) }
 
-      pub reach-picked : (e : Spot) → j ≡ Go e → (a : aim_t.Aim) → Narrows t d (record { cursor = e; first = first + word; step = 0; count = 1 }) a → Aims t L X d row c N a M
+      pub reach-picked : (e : Spot) → j ≡ Ok e → (a : aim_t.Aim) → Narrows t d (record { cursor = e; first = first + word; step = 0; count = 1 }) a → Aims t L X d row c N (Ok a) M
       unfolding given· run·
       reach-picked e z a k = record {
         is = λ mode r. rw w
@@ -140,11 +139,11 @@ module _ (t L X : List ℕ) (d : ℕ) (c : Spot) (N : List ℕ) (ready : Ready L
       }
 
     module _ (child least most : ℕ) (w : row ≡ pv.Occurs child least most) (h : Walks L X (alone (counted least most)) c N j M) where
-      pub reach-uncounted : (e p : ℕ) → j ≡ Refuse e p → Aims t L X d row c N (aim.Refuse e p) M
+      pub reach-uncounted : (x : Fault ℕ) → j ≡ Err x → Aims t L X d row c N (Err x) M
       unfolding given·
-      reach-uncounted e p z = record { is = λ mode r. rw w (rw z at (occur-stop L X c N t mode d ready j M child least most h e p z)) }
+      reach-uncounted x z = record { is = λ mode r. rw w (rw z at (occur-stop L X c N t mode d ready j M child least most h x z)) }
 
-      pub reach-counted : (e : Spot) → j ≡ Go e → (a : aim_t.Aim) → Narrows t d (record { cursor = e; first = child; step = 0; count = word }) a → Aims t L X d row c N a M
+      pub reach-counted : (e : Spot) → j ≡ Ok e → (a : aim_t.Aim) → Narrows t d (record { cursor = e; first = child; step = 0; count = word }) a → Aims t L X d row c N (Ok a) M
       unfolding given· run·
       reach-counted e z a k = record {
         is = λ mode r. rw w
@@ -168,11 +167,11 @@ module _ (L X : List ℕ) (c : Spot) (N : List ℕ) (t : List ℕ) (mode : Mode)
   given-walked (pv.Choice first n) g s M h = one-row-choice L X c N t mode d name ty i z _ g s M first n refl h
   given-walked (pv.Occurs child least most) g s M h = one-row-occurs L X c N t mode d name ty i z _ g s M child least most refl h
 
-  module _ (p : particle_t.Particle) (g : Given t name ty i p) (a : aim_t.Aim) (M : List ℕ) (h : Aims t L X (d - 1) p c N a M) where
-    pub aim-refused : (n q : ℕ) → a ≡ aim.Refuse n q → Walks L X (row· t mode d name ty i) c N (Refuse n q) M
-    aim-refused n q w = given-walked p g (Refuse n q) M (rw w at (h.is mode r))
+  module _ (p : particle_t.Particle) (g : Given t name ty i p) (a : Result aim_t.Aim (Fault ℕ)) (M : List ℕ) (h : Aims t L X (d - 1) p c N a M) where
+    pub aim-refused : (x : Fault ℕ) → a ≡ Err x → Walks L X (row· t mode d name ty i) c N (Err x) M
+    aim-refused x w = given-walked p g (Err x) M (rw w at (h.is mode r))
 
-    module _ (x : Target) (w : a ≡ aim.Element x) where
+    module _ (x : Target) (w : a ≡ Ok (aim.Element x)) where
       aimed : Aimed t mode L X (d - 1) (given· t mode (d - 1) p) c N (aim.Element x) M
       aimed = rw w at (h.is mode r)
 
@@ -191,9 +190,9 @@ module _ (L X : List ℕ) (c : Spot) (N : List ℕ) (t : List ℕ) (mode : Mode)
       pub target-walked : (s : Judgement) (K : List ℕ) → Walks L X (element· t mode x.depth x.name (types_by t (row_choices mode.choices x.row) x.t x.row)) x.cursor M s K
           → Walks L X (row· t mode d name ty i) c N s K
       unfolding target·
-      target-walked s K v = given-walked p g s K (aimed.3.on s K v)
+      target-walked s K u = given-walked p g s K (aimed.3.on s K u)
 
-    module _ (x : Run) (w : a ≡ aim.Rows x) where
+    module _ (x : Run) (w : a ≡ Ok (aim.Rows x)) where
       run-aimed : Aimed t mode L X (d - 1) (given· t mode (d - 1) p) c N (aim.Rows x) M
       run-aimed = rw w at (h.is mode r)
 
@@ -205,12 +204,12 @@ module _ (L X : List ℕ) (c : Spot) (N : List ℕ) (t : List ℕ) (mode : Mode)
 
       pub run-walked : (s : Judgement) (K : List ℕ) → Walks L X (rounds· t mode (d - 1) x.first x.step x.count) x.cursor M s K → Walks L X (row· t mode d name ty i) c N s K
       unfolding run·
-      run-walked s K v = given-walked p g s K (run-aimed.1.on s K v)
+      run-walked s K u = given-walked p g s K (run-aimed.1.on s K u)
 
-      pub run_none : x.count ≡ 0 → Walks L X (row· t mode d name ty i) c N (Go x.cursor) M
+      pub run_none : x.count ≡ 0 → Walks L X (row· t mode d name ty i) c N (Ok x.cursor) M
       run_none e =
-          run-walked (Go x.cursor) M
-          (walked_as (Go x.cursor) (rw e (rounds-none t mode (d - 1) x.first x.step (events_at L x.cursor.event) (texts_at X x.cursor.used))) (stays L X x.cursor M run-ready))
+          run-walked (Ok x.cursor) M
+          (walked_as (Ok x.cursor) (rw e (rounds-none t mode (d - 1) x.first x.step (events_at L x.cursor.event) (texts_at X x.cursor.used))) (stays L X x.cursor M run-ready))
 
 -- a content row that is a sequence
 module _ (t : List ℕ) (mode : Mode) (i : ℕ) (r : RightFor t mode) (inside : i < particles_in t) (p : particle_t.Particle) (g : row_is p ≡ (table_of t).row i) (first n : ℕ) (w : p ≡ pv.Sequence first n) where

@@ -1,19 +1,18 @@
 -- What a row comes to, as the code finds it: an element that is next, or rows.
-use Rattle.std.specs.Prelude.{ℕ, ◌+◌, ◌<◌, ◌≤◌, List}
+use Rattle.std.specs.Prelude.{ℕ, ◌+◌, ◌<◌, ◌≤◌, List, Result, Ok, Err}
+use Rattle.numbers.specs.declared.refusal.Fault.{Fault}
 use Rattle.table.specs.Words.{types_in, particles_in}
 use Rattle.table.specs.declared.answers.Particle.{Particle}
 use Rattle.table.specs.declared.answers.Particle.TheVariants as row·is
 use Rattle.model.specs.Modes.{types_by}
 use Rattle.model.specs.declared.Mode.{Mode}
 use Rattle.model.specs.Write.{Bare, Out}
-use Rattle.writer_parts.specs.declared.Judgement as judgement
-use Rattle.writer_parts.specs.declared.Judgement.TheVariants as judged·is
 use Rattle.writer_parts.specs.declared.Spot.{Spot}
 use Rattle.writer_parts.specs.Opening.{row_choices}
-use Rattle.writer_parts.specs.Walk.{Ready, Walks}
+use Rattle.writer_parts.specs.Walk.{Judgement, Ready, Walks}
 use Rattle.writer.specs.Meaning.{RightFor, Within, Owned, element·, choose·, occur·, rounds·}
 use Rattle.writer.specs.declared.groups.Aim.{Aim}
-use Rattle.writer.specs.declared.groups.Aim.TheVariants.{Element, Rows, Refuse}
+use Rattle.writer.specs.declared.groups.Aim.TheVariants.{Element, Rows}
 use Rattle.writer.specs.declared.groups.Run.{Run}
 use Rattle.writer.specs.declared.groups.Target.{Target}
 
@@ -27,7 +26,7 @@ Fits t (row·is.Occurs child least most) = child < particles_in t
 -- what is left, from a cursor on: whatever it comes to, the whole comes to
 pub record Onward (L X : List ℕ) (f : List Bare → List ℕ → Out) (c : Spot) (N : List ℕ) (g : List Bare → List ℕ → Out) (e : Spot) (M : List ℕ) : Type 0 where
   pub ready : Ready L X M e
-  pub on : (r : judgement.Judgement) (K : List ℕ) → Walks L X g e M r K → Walks L X f c N r K
+  pub on : (r : Judgement) (K : List ℕ) → Walks L X g e M r K → Walks L X f c N r K
 
 module _ (t : List ℕ) (mode : Mode) where
   -- a row as the code has it, where so many rows may be opened inside it
@@ -48,12 +47,16 @@ module _ (t : List ℕ) (mode : Mode) where
   abbrev pub Aimed : (L X : List ℕ) → ℕ → (List Bare → List ℕ → Out) → Spot → List ℕ → Aim → List ℕ → Type 0
   Aimed L X d f c N (Element x) M = (x.t < types_in t) × (Owned t x.row) × (x.depth ≤ d) × Onward L X f c N (target· x) x.cursor M
   Aimed L X d f c N (Rows x) M = (Within t x.first x.step x.count) × Onward L X f c N (run· d x) x.cursor M
-  Aimed L X d f c N (Refuse n p) M = Walks L X f c N (judged·is.Refuse n p) M
+
+  -- the same, or refused
+  abbrev pub Reached : (L X : List ℕ) → ℕ → (List Bare → List ℕ → Out) → Spot → List ℕ → Result Aim (Fault ℕ) → List ℕ → Type 0
+  Reached L X d f c N (Ok a) M = Aimed L X d f c N a M
+  Reached L X d f c N (Err e) M = Walks L X f c N (Err e) M
 
 -- CONTRACTS, for every mode that the table knows. Of rows
 pub record Narrows (t : List ℕ) (d : ℕ) (x : Run) (r : Aim) : Type 0 where
   pub is : (mode : Mode) → RightFor t mode → (L X N : List ℕ) → Ready L X N x.cursor → Aimed t mode L X d (run· t mode d x) x.cursor N r N
 
 -- of a row
-pub record Aims (t L X : List ℕ) (d : ℕ) (p : Particle) (c : Spot) (N : List ℕ) (r : Aim) (M : List ℕ) : Type 0 where
-  pub is : (mode : Mode) → RightFor t mode → Aimed t mode L X d (given· t mode d p) c N r M
+pub record Aims (t L X : List ℕ) (d : ℕ) (p : Particle) (c : Spot) (N : List ℕ) (r : Result Aim (Fault ℕ)) (M : List ℕ) : Type 0 where
+  pub is : (mode : Mode) → RightFor t mode → Reached t mode L X d (given· t mode d p) c N r M

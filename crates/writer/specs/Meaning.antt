@@ -1,8 +1,8 @@
 -- One meaning for each function of the walk, by the table's words and the mode as the code has them.
 use Rattle.std.specs.Prelude.{ℕ, zero, suc, ◌+◌, ◌*◌, ◌^◌, ◌<◌, ◌≡◌, Bool, cond, List, [], ltb, eqb}
 use Rattle.numbers.specs.Limit.{parties}
-use Rattle.numbers.specs.Refusal as refusal
-use Rattle.numbers.specs.Refusal.{no_reading}
+use Rattle.numbers.specs.declared.refusal.Refusal.TheVariants as refusal
+use Rattle.numbers.specs.declared.refusal.Fault.{Fault}
 use Rattle.table.specs.First.Verdict.{right}
 use Rattle.table.specs.Valid.{verdict}
 use Rattle.table.specs.Words.{types_in, particles_in}
@@ -17,8 +17,6 @@ use Rattle.model.specs.Modes.{lengths_is, types_by, Choosing}
 use Rattle.model.specs.declared.Mode.{Mode}
 use Rattle.model.specs.Write.{Bare, Out, wrote, along, too_deep, element_out}
 use Rattle.model.specs.WriteSteps.{item_then, particle_out, rounds_out, content_out, inside_out}
-use Rattle.writer_parts.specs.declared.Judgement.{Judgement}
-use Rattle.writer_parts.specs.declared.Judgement.TheVariants.{Refuse}
 use Rattle.writer_parts.specs.Opening.{no_row, row_choices}
 use Rattle.writer_parts.specs.Walk.{events_in}
 
@@ -56,8 +54,8 @@ pub record Given (t : List ℕ) (name ty i : ℕ) (p : Particle) : Type 0 where
   pub row : (i ≡ no_row → ⊥) → row_is p ≡ (table_of t).row i
 
 -- too deep, or no reading where no event is left
-unfoldable pub deep_at : List ℕ → ℕ → Judgement
-deep_at L i = cond (ltb i (events_in L)) (Refuse refusal.depth i) (Refuse no_reading i)
+unfoldable pub deep_at : List ℕ → ℕ → Fault ℕ
+deep_at L i = record { why = cond (ltb i (events_in L)) refusal.Depth refusal.NoReading; at = i }
 
 module _ (t : List ℕ) (mode : Mode) (d : ℕ) where
   -- length coding, and the table as this mode has it

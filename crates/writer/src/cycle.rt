@@ -3,6 +3,7 @@
 //
 // LLVM makes one function of all this, in which an element without rows is no call, and that is fragile. Each large function has one call site. The
 // calls back to `particle` stand in `content` and `rows_in`, which do nothing else: where a slice's address is taken beside other work, every row copies it.
+// A refusal goes up as it is, and not by `?`, which makes it anew at each level: 4 to 8 in 100 more instructions (the guide written, 2,048 events written).
 ghost use Rattle.std.specs.Prelude.{◌≡◌, ◌<◌, ◌≤◌};
 ghost use Rattle.numbers.specs.Limit.{most_open};
 ghost use Rattle.table.specs.First.Verdict.{right};
@@ -16,18 +17,17 @@ ghost use Rattle.writer.specs.Meaning.{deep_at, element·, particle·, rounds·,
 
 use crate::groups::{Aim, reached};
 use model::Mode;
-use numbers::refusal;
+use numbers::refusal::{Fault, Refusal};
 use table::{Content, Particle, inside};
 use writer_parts::attributes::before_rows;
 use writer_parts::codes::note_codes;
 use writer_parts::ends::close;
 use writer_parts::heads::unlike_start;
 use writer_parts::opening::{NO_ROW, choices_of};
-use writer_parts::{Cast, Judgement, Spot};
+use writer_parts::{Judgement, Spot};
 
 // An element of a name, a row and a type: its Start, its codes, what is inside it by its effective type, its End.
 #[cycle(content_element_one_row_particle_rows_in)]
-#[tactic(auto, using(crate::proofs::CycleWays::start_unlike))]
 fn element(
     table: &[u32],
     events: &[u32],
@@ -52,9 +52,8 @@ fn element(
 {
     let at = c.event;
     let lengths = mode.lengths;
-    let bad = unlike_start(events, lengths, at, name);
-    if 0 < bad {
-        return Judgement::Refuse(bad, at);
+    if let Err(why) = unlike_start(events, lengths, at, name) {
+        return Err(Fault { why, at });
     }
     let q = events[4 * at + 2];
     let past = at + 1;
@@ -69,10 +68,10 @@ fn element(
     let mut ty = t;
     if choices.any {
         match note_codes(table, events, texts, notes, choices, o, t, row) {
-            Cast::Refuse(n, i) => {
-                return Judgement::Refuse(n, i);
+            Err(fault) => {
+                return Err(fault);
             }
-            Cast::To(u, g) => {
+            Ok((u, g)) => {
                 ty = u;
                 f = g;
             }
@@ -81,16 +80,17 @@ fn element(
     let party = mode.party;
     let held = inside::held(table, party, ty);
     if !held {
-        return Judgement::Refuse(refusal::NOT_HELD, at);
+        let why = Refusal::NotHeld;
+        return Err(Fault { why, at });
     }
     let r = before_rows(table, events, texts, notes, f, ty);
-    let Judgement::Go(e) = r else {
+    let Ok(e) = r else {
         return r;
     };
     let mut end = e;
     if let Content::Particles(i) = inside::content(table, ty) {
         let s = content(table, events, texts, notes, mode, depth, e, i);
-        let Judgement::Go(g) = s else {
+        let Ok(g) = s else {
             return s;
         };
         end = g;
@@ -164,14 +164,16 @@ fn row_for(table: &[u32], name: u32, t: u32, i: u32) -> Particle
     inside::particle(table, i)
 }
 
-// DEPTH, where an event is left.
-fn too_deep(events: &[u32], at: usize) -> Judgement
+// Depth, where an event is left.
+fn too_deep(events: &[u32], at: usize) -> Fault<usize>
     ensures { result ≡ deep_at events.now at }
 {
     if at < events.len() / 4 {
-        return Judgement::Refuse(refusal::DEPTH, at);
+        let why = Refusal::Depth;
+        return Fault { why, at };
     }
-    Judgement::Refuse(refusal::NO_READING, at)
+    let why = Refusal::NoReading;
+    Fault { why, at }
 }
 
 // The row of a number, where one may still be opened.
@@ -196,27 +198,26 @@ fn one_row(
         notes.old result notes.new }
 {
     if depth == 0 {
-        return too_deep(events, c.event);
+        return Err(too_deep(events, c.event));
     }
     let d = depth - 1;
     let row = row_for(table, name, t, i);
-    let g = reached(table, events, texts, notes, d, c, row);
-    match g {
-        Aim::Element(x) => {
+    match reached(table, events, texts, notes, d, c, row) {
+        Ok(Aim::Element(x)) => {
             let e = x.cursor;
             element(
                 table, events, texts, notes, mode, x.depth, e, x.name, x.t, x.row,
             )
         }
-        Aim::Rows(x) => {
+        Ok(Aim::Rows(x)) => {
             let e = x.cursor;
             let n = x.count;
             if n == 0 {
-                return Judgement::Go(e);
+                return Ok(e);
             }
             rows_in(table, events, texts, notes, mode, d, e, x.first, x.step, n)
         }
-        Aim::Refuse(n, p) => Judgement::Refuse(n, p),
+        Err(fault) => Err(fault),
     }
 }
 
@@ -245,15 +246,14 @@ pub fn particle(
 {
     let mut cursor = c;
     let mut i = first;
-    let mut j: u32 = 0;
-    while j < count {
+    for j in 0..count {
         let r = one_row(table, events, texts, notes, mode, depth, cursor, name, t, i);
-        let Judgement::Go(e) = r else {
+        let Ok(e) = r else {
             return r;
         };
         cursor = e;
+        // By a step of 0 or 1: `first + step * j` would be a multiplication a row.
         i += step;
-        j += 1;
     }
-    Judgement::Go(cursor)
+    Ok(cursor)
 }

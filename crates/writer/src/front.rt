@@ -3,113 +3,98 @@ ghost use Rattle.std.specs.Prelude.{◌≡◌, ◌≤◌, ◌*◌, length};
 ghost use Rattle.numbers.specs.Limit.{most_events};
 ghost use Rattle.table.specs.First.Verdict.{right};
 ghost use Rattle.table.specs.Valid.{verdict};
-ghost use Rattle.table.specs.Rows.{table_of};
 ghost use Rattle.writer_parts.specs.Walk.{events_in};
-ghost use Rattle.writer.specs.Front.{Judged, Numbered, Moded, Fronted, Settled};
+ghost use Rattle.writer.specs.Front.{Moded, Fronted, Settled};
 
 use model::{Lengths, Mode, offered};
-use numbers::{kind, limit, refusal};
+use numbers::mode::{ALWAYS, CASTING, NEVER, OPTIONAL};
+use numbers::refusal::{Fault, Refusal};
+use numbers::{kind, limit};
 use table::rows::{derivations, swaps, types, word};
-use table::{Verdict, check};
+use table::{Flaw, check};
 use writer_parts::Spot;
 
-// Nothing, or number and place of a refusal.
+// Who writes, the root's name and type, and the number of the mode.
 #[derive(Clone, Copy)]
-pub enum Fault {
-    No,
-    At(u32, usize),
+pub struct Order {
+    pub party: u32,
+    pub name: u32,
+    pub t: u32,
+    pub mode: u32,
 }
 
-// Whether a number is a mode's: type codes are sent only where the table has derivations.
-fn known_mode(table: &[u32], number: u32) -> bool
-    ensures { Judged (table_of table.now).derivations number result }
-{
-    if number <= numbers::mode::ALWAYS {
-        return true;
-    }
-    if number < numbers::mode::CASTING {
-        return false;
-    }
-    if numbers::mode::CASTING + numbers::mode::ALWAYS < number {
-        return false;
-    }
-    0 < derivations(table)
-}
-
-// Length coding by its number.
-fn lengths_of(number: u32) -> Lengths
-    ensures { Numbered number result }
-{
-    if number == numbers::mode::NEVER {
-        return Lengths::Never;
-    }
-    if number == numbers::mode::OPTIONAL {
-        return Lengths::Optional;
-    }
-    Lengths::Always
-}
-
-// The mode of a number, as a walk over a table goes by it for a party.
-pub fn mode_of(table: &[u32], party: u32, number: u32) -> Mode
+// The mode of a number, as a walk over a table goes by it for a party: type codes are sent only where the table has derivations.
+fn mode_of(table: &[u32], party: u32, number: u32) -> Result<Mode, Refusal>
     ensures { Moded table.now party number result }
 {
-    let lengths = lengths_of(number % numbers::mode::CASTING);
-    let choices = offered(0 < swaps(table), numbers::mode::CASTING <= number);
-    Mode {
+    let casting = CASTING <= number;
+    if casting && derivations(table) == 0 {
+        return Err(Refusal::WriteMode);
+    }
+    if CASTING + ALWAYS < number {
+        return Err(Refusal::WriteMode);
+    }
+    let lengths = match number % CASTING {
+        NEVER => Lengths::Never,
+        OPTIONAL => Lengths::Optional,
+        ALWAYS => Lengths::Always,
+        _ => return Err(Refusal::WriteMode),
+    };
+    let choices = offered(0 < swaps(table), casting);
+    Ok(Mode {
         lengths,
         choices,
         party,
-    }
+    })
 }
 
 // By a table that is right: root, party, the number of the mode, the list's shape.
-fn judge_checked(table: &[u32], party: u32, name: u32, t: u32, number: u32, events: &[u32]) -> Fault
+fn judge_checked(table: &[u32], by: Order, events: &[u32]) -> Result<Mode, Fault<usize>>
     requires { verdict table.now ≡ right }
-    ensures { Fronted table.now party name t number events.now result }
+    ensures { Fronted table.now by.party by.name by.t by.mode events.now result }
 {
-    let known = types(table);
-    if known <= t {
-        return Fault::At(refusal::ROOT, 0);
+    if types(table) <= by.t || limit::MOST_NAME < by.name {
+        return Err(Fault {
+            why: Refusal::Root,
+            at: 0,
+        });
     }
-    if limit::MOST_NAME < name {
-        return Fault::At(refusal::ROOT, 0);
+    if limit::PARTIES <= by.party {
+        return Err(Fault {
+            why: Refusal::Party,
+            at: 0,
+        });
     }
-    if limit::PARTIES <= party {
-        return Fault::At(refusal::PARTY, 0);
+    // No `map_err` and `?`: the goal at its exit speaks of the closure, and did not close.
+    let mode = match mode_of(table, by.party, by.mode) {
+        Ok(mode) => mode,
+        Err(why) => return Err(Fault { why, at: 0 }),
+    };
+    let at = events.len() / 4;
+    if events.len() % 4 != 0 || limit::MOST_EVENTS < at {
+        return Err(Fault {
+            why: Refusal::NoReading,
+            at,
+        });
     }
-    if !known_mode(table, number) {
-        return Fault::At(refusal::WRITE_MODE, 0);
-    }
-    let n = events.len() / 4;
-    if 0 < events.len() % 4 {
-        return Fault::At(refusal::NO_READING, n);
-    }
-    if limit::MOST_EVENTS < n {
-        return Fault::At(refusal::NO_READING, n);
-    }
-    Fault::No
+    Ok(mode)
 }
 
 // The table, then the rest.
-pub fn judge_before(
-    table: &[u32],
-    party: u32,
-    name: u32,
-    t: u32,
-    number: u32,
-    events: &[u32],
-) -> Fault
-    ensures { Fronted table.now party name t number events.now result }
+pub fn judge_before(table: &[u32], by: Order, events: &[u32]) -> Result<Mode, Fault<usize>>
+    ensures { Fronted table.now by.party by.name by.t by.mode events.now result }
 {
-    let v = check(table);
-    match v {
-        Verdict::Wrong(i) => Fault::At(refusal::TABLE, i),
-        Verdict::Right => judge_checked(table, party, name, t, number, events),
+    match check(table) {
+        Err(Flaw(at)) => Err(Fault {
+            why: Refusal::Table,
+            at,
+        }),
+        Ok(()) => judge_checked(table, by, events),
     }
 }
 
 // No event may be left over, then no text; then the room.
-pub fn judge_after(events: &[u32], texts: &[u8], c: Spot, room: usize) -> Fault
+pub fn judge_after(events: &[u32], texts: &[u8], c: Spot, room: usize) -> Result<(), Fault<usize>>
     requires { (c.event ≤ events_in events.now)
         × (c.used ≤ length texts.now)
         × (c.event ≤ most_events)
@@ -118,22 +103,25 @@ pub fn judge_after(events: &[u32], texts: &[u8], c: Spot, room: usize) -> Fault
 {
     let at = c.event;
     if at < events.len() / 4 {
-        let kind = word(events, 4 * at);
-        if kind == kind::BLANK {
-            return Fault::At(refusal::BLANK, at);
-        }
-        return Fault::At(refusal::NO_READING, at);
+        let why = if word(events, 4 * at) == kind::BLANK {
+            Refusal::Blank
+        } else {
+            Refusal::NoReading
+        };
+        return Err(Fault { why, at });
     }
-    let used = c.used;
-    if used < texts.len() {
-        return Fault::At(refusal::TEXT_BYTES, at);
+    if c.used < texts.len() {
+        return Err(Fault {
+            why: Refusal::TextBytes,
+            at,
+        });
     }
     let size = (1 + (c.bits + 7) / 8) as usize;
-    if limit::MOST_PAYLOAD < size {
-        return Fault::At(refusal::PAYLOAD_ROOM, 0);
+    if room.min(limit::MOST_PAYLOAD) < size {
+        return Err(Fault {
+            why: Refusal::PayloadRoom,
+            at: 0,
+        });
     }
-    if room < size {
-        return Fault::At(refusal::PAYLOAD_ROOM, 0);
-    }
-    Fault::No
+    Ok(())
 }

@@ -7,11 +7,13 @@ ghost use Rattle.writer_parts.specs.Walk.{Ready};
 ghost use Rattle.writer.specs.Meaning.{Within};
 ghost use Rattle.writer.specs.Groups.{Fits, Narrows, Aims};
 
+use numbers::refusal::Fault;
 use table::{Particle, inside};
+use writer_parts::Spot;
 use writer_parts::values::{count, pick};
-use writer_parts::{Judgement, Spot};
 
-// Where the walk is; and rows: so many from one on, each a step past the one before.
+// Where the walk is; and rows: so many from one on, each a step past the one before. The reader's stand over its own cursor, and what its rows come to has one
+// case more: a type for both would be no plainer.
 #[derive(Clone, Copy)]
 pub struct Run {
     pub cursor: Spot,
@@ -30,12 +32,11 @@ pub struct Target {
     pub depth: u32,
 }
 
-// What a row came to: an element; rows, which may be none; or number and event of a refusal. No case of its own for no rows: all cases would pay for it.
+// What a row came to: an element; or rows, which may be none. No case of its own for no rows: all cases would pay for it.
 #[derive(Clone, Copy)]
 pub enum Aim {
     Element(Target),
     Rows(Run),
-    Refuse(u32, usize),
 }
 
 // Rows inside which so many may be opened: where they are one element it is walked with one row less, no call for the row around it.
@@ -72,7 +73,7 @@ pub fn reached(
     depth: u32,
     c: Spot,
     row: Particle,
-) -> Aim
+) -> Result<Aim, Fault<usize>>
     requires { (Ready events.now texts.now notes.old c)
         × (verdict table.now ≡ right)
         × (Fits table.now row) }
@@ -89,7 +90,7 @@ pub fn reached(
                 row: own,
                 depth,
             };
-            Aim::Element(y)
+            Ok(Aim::Element(y))
         }
         Particle::Sequence(first, n) => {
             let x = Run {
@@ -98,11 +99,12 @@ pub fn reached(
                 step: 1,
                 count: n,
             };
-            Aim::Rows(x)
+            Ok(Aim::Rows(x))
         }
+        // A refusal goes up as it is, as in cycle.rt.
         Particle::Choice(first, n) => match pick(events, texts, notes, c, n) {
-            Judgement::Refuse(e, p) => Aim::Refuse(e, p),
-            Judgement::Go(cursor) => {
+            Err(fault) => Err(fault),
+            Ok(cursor) => {
                 let v = events[4 * at + 1];
                 let x = Run {
                     cursor,
@@ -110,12 +112,12 @@ pub fn reached(
                     step: 0,
                     count: 1,
                 };
-                narrowed(table, depth, x)
+                Ok(narrowed(table, depth, x))
             }
         },
         Particle::Occurs(child, least, most) => match count(events, texts, notes, c, least, most) {
-            Judgement::Refuse(e, p) => Aim::Refuse(e, p),
-            Judgement::Go(cursor) => {
+            Err(fault) => Err(fault),
+            Ok(cursor) => {
                 let v = events[4 * at + 1];
                 let x = Run {
                     cursor,
@@ -123,7 +125,7 @@ pub fn reached(
                     step: 0,
                     count: v,
                 };
-                narrowed(table, depth, x)
+                Ok(narrowed(table, depth, x))
             }
         },
     }

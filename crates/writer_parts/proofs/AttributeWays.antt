@@ -33,30 +33,33 @@ use Rattle.value.specs.declared.Inner.TheVariants as iv
 use Rattle.value.specs.declared.Code.TheVariants as cv
 use Rattle.model.specs.Model.{Item, event_of}
 use Rattle.model.specs.Model.Item.{required, optional, valued}
-use Rattle.model.specs.Write.{Bare, Out, wrote, put, along, word_of, as_item, simple_out, item_out}
+use Rattle.model.specs.Write.{Bare, Out, wrote, refused, put, along, word_of, as_item, simple_out, item_out}
 use Rattle.model.proofs.OutLaws.{unlike-none, put-none, along-along, along-done}
 use Rattle.model.specs.WriteSteps.{item_then}
 use Rattle.model.proofs.WriteSteps.{out-required, out-optional}
 use Rattle.model.specs.Whole.{event_at}
 use Rattle.writer_parts.specs.declared.Spot.{Spot}
-use Rattle.writer_parts.specs.declared.Judgement.{Judgement}
-use Rattle.writer_parts.specs.declared.Judgement.TheVariants.{Go, Refuse}
-use Rattle.writer_parts.specs.declared.Spelling.TheVariants as sv
+use Rattle.writer_parts.specs.declared.judging.Words.{Words}
+use Rattle.std.specs.Prelude.{Result, Ok, Err}
+use Rattle.numbers.specs.declared.refusal.Refusal.{Refusal}
+use Rattle.numbers.specs.declared.refusal.Refusal.TheVariants as why
+use Rattle.numbers.specs.declared.refusal.Fault.{Fault}
+use Rattle.numbers.specs.Refused.{number_of}
 use Rattle.writer_parts.specs.Notes.{keeps}
-use Rattle.writer_parts.specs.Walk.{events_in, events_at, texts_at, past, Ready, Walked, Walks, wanted, judged, KindJudged, noted, alone}
+use Rattle.writer_parts.specs.Walk.{Judgement, events_in, events_at, texts_at, past, Ready, Walked, Walks, wanted, judged, KindJudged, noted, alone}
 use Rattle.writer_parts.proofs.NoteLaws.{note-none}
 use Rattle.writer_parts.proofs.NoteWays.{inner-choice, note-of-done}
-use Rattle.writer_parts.proofs.WalkLaws.{went, walked_as, stays, along-stop, along-go, alone-noted, item-rest, judged-in, judged-is}
+use Rattle.writer_parts.proofs.WalkLaws.{went, walked_as, stays, along-stop, along-go, alone-noted, item-rest, judged-in, judged-is, taken-unlike}
 use Rattle.writer_parts.specs.declared.attributes.Slot.{Slot}
 use Rattle.writer_parts.specs.declared.attributes.Marked.{Marked}
 use Rattle.writer_parts.specs.declared.attributes.Marked.TheVariants as mv
 use Rattle.writer_parts.specs.Parts.{present, required·, optional·, attribute·, attributes·, flag_item, own·, values·, attribute_in, bare·, slot·, slot_at·, Slots, Marks}
 use Rattle.writer_parts.proofs.Leads.{Leads, leads-start, leads-end, leads-stop, leads-go}
-use Rattle.writer_parts.proofs.JudgingWays.{unlike-first, unlike-second, like, none, noted-unlike, noted-got, kind-first, kind-second, kind-room, place-near, next-near}
+use Rattle.writer_parts.proofs.JudgingWays.{kind-fine, kind-faulty, unlike-first, unlike-second, like, noted-unlike, noted-got, word-first, word-second, kind-room, place-near, next-near}
 use Rattle.writer_parts.proofs.ValueWays.{item-as, item-unlike, coded-go, picked-spelt}
 
 -- after a step, the cursor is ready
-pub ready_on : (L X : List ℕ) (o : Out) (c : Spot) (N : List ℕ) (r : Judgement) (M : List ℕ) → Walked L X o c N r M → (e : Spot) → r ≡ Go e → Ready L X M e
+pub ready_on : (L X : List ℕ) (o : Out) (c : Spot) (N : List ℕ) (r : Judgement) (M : List ℕ) → Walked L X o c N r M → (e : Spot) → r ≡ Ok e → Ready L X M e
 ready_on L X o c N r M h e w = (went h e w).ready
 
 -- an attribute's flag by itself is an event noted
@@ -77,76 +80,77 @@ module _ (L X : List ℕ) (c : Spot) (N : List ℕ) (s : Judgement) (M : List �
   optional-as name q z h = item-as L X c N s M (optional name) (wanted 2 name q) (simple_out (plain (choice 2)) q T) (rw z) (out-optional (word_of (optional name) Event) T name ∙ rw (← z)) h
 
 module _ (L X : List ℕ) (c : Spot) (N : List ℕ) (r : Ready L X N c) where
-  pub flag-unlike : (must : Bool) (name n : ℕ) → KindJudged L c.event 2 n → 0 < n → Walks L X (alone (flag_item must name)) c N (Refuse n c.event) N
+  pub flag-unlike : (must : Bool) (name : ℕ) (y : Refusal) → KindJudged L c.event 2 (number_of y) → Walks L X (alone (flag_item must name)) c N (Err (record { why = y; at = c.event })) N
   unfolding event_of
-  flag-unlike true name n h p = item-unlike L X c N r (required name) 2 n refl h p
-  flag-unlike false name n h p = item-unlike L X c N r (optional name) 2 n refl h p
+  flag-unlike true name y h = item-unlike L X c N r (required name) 2 y refl h
+  flag-unlike false name y h = item-unlike L X c N r (optional name) 2 y refl h
 
 pub flag-bits : (L X N : List ℕ) (c : Spot) → Ready L X N c → FitsIn w32 (c.bits + 1)
 flag-bits L X N c r = let i = r.inside in let f = r.few in let s = r.small in record { fits = omega arith }
 
 -- note_attribute: the kind is that of an attribute
-module _ (L X : List ℕ) (c : Spot) (N : List ℕ) (r : Ready L X N c) (name b : ℕ) (j : KindJudged L c.event 2 b) (z : b ≤ 0) where
+module _ (L X : List ℕ) (c : Spot) (N : List ℕ) (r : Ready L X N c) (name : ℕ) (j : KindJudged L c.event 2 0) (w : Words) (first : w.p ≡ get_or L (4 * c.event + 1) 0) (second : w.q ≡ get_or L (4 * c.event + 2) 0) where
   abbrev q : ℕ
-  q = get_or L (4 * c.event + 2) 0
+  q = w.q
 
   here : c.event < events_in L
-  here = j.there (omega arith)
+  here = j.there refl
 
   kind-is : 2 ≡ get_or L (4 * c.event) 0
-  kind-is = j.same (omega arith)
+  kind-is = j.same refl
 
-  wrong : (must : Bool) → no_reading ≡ judged L c.event (wanted 2 name 1) → no_reading ≡ judged L c.event (wanted 2 name (min q 1)) → Walks L X (alone (flag_item must name)) c N (Refuse no_reading c.event) N
-  wrong true e f = required-as L X c N (Refuse no_reading c.event) N name (noted-unlike L X c N (wanted 2 name 1) _ r no_reading e (omega arith))
-  wrong false e f = optional-as L X c N (Refuse no_reading c.event) N name (min q 1) refl (noted-unlike L X c N (wanted 2 name (min q 1)) _ r no_reading f (omega arith))
+  wrong : (must : Bool) → no_reading ≡ judged L c.event (wanted 2 name 1) → no_reading ≡ judged L c.event (wanted 2 name (min q 1)) → Walks L X (alone (flag_item must name)) c N (Err (record { why = why.NoReading; at = c.event })) N
+  wrong true e f = required-as L X c N (Err (record { why = why.NoReading; at = c.event })) N name (noted-unlike L X c N (wanted 2 name 1) _ r why.NoReading e)
+  wrong false e f = optional-as L X c N (Err (record { why = why.NoReading; at = c.event })) N name (min q 1) (ap (λ (i : ℕ). min i 1) second) (noted-unlike L X c N (wanted 2 name (min q 1)) _ r why.NoReading f)
 
-  pub flag-name : (must : Bool) → (get_or L (4 * c.event + 1) 0 ≡ name → ⊥) → Walks L X (alone (flag_item must name)) c N (Refuse no_reading c.event) N
-  flag-name must e = wrong must (unlike-first L c.event 2 name 1 here kind-is (λ h. e (sym h))) (unlike-first L c.event 2 name (min q 1) here kind-is (λ h. e (sym h)))
+  pub flag-name : (must : Bool) → (w.p ≡ name → ⊥) → Walks L X (alone (flag_item must name)) c N (Err (record { why = why.NoReading; at = c.event })) N
+  flag-name must e = wrong must (unlike-first L c.event 2 name 1 here kind-is (λ h. e (first ∙ sym h))) (unlike-first L c.event 2 name (min q 1) here kind-is (λ h. e (first ∙ sym h)))
 
-  module _ (e : get_or L (4 * c.event + 1) 0 ≡ name) where
-    pub flag-many : (must : Bool) → 1 < q → Walks L X (alone (flag_item must name)) c N (Refuse no_reading c.event) N
-    flag-many must h = wrong must (unlike-second L c.event 2 name 1 here kind-is (sym e) (λ f. omega arith)) (unlike-second L c.event 2 name (min q 1) here kind-is (sym e) (λ f. omega arith))
+  module _ (e : w.p ≡ name) where
+    pub flag-many : (must : Bool) → 1 < q → Walks L X (alone (flag_item must name)) c N (Err (record { why = why.NoReading; at = c.event })) N
+    flag-many must h = wrong must (unlike-second L c.event 2 name 1 here kind-is (sym e ∙ first) (λ f. omega arith)) (unlike-second L c.event 2 name (min q 1) here kind-is (sym e ∙ first) (λ f. omega arith))
 
     module _ (must : Bool) where
-      pub flag-absent : must ≡ true → q ≡ 0 → Walks L X (alone (flag_item must name)) c N (Refuse no_reading c.event) N
+      pub flag-absent : must ≡ true → q ≡ 0 → Walks L X (alone (flag_item must name)) c N (Err (record { why = why.NoReading; at = c.event })) N
       flag-absent m h =
-          rw m (required-as L X c N (Refuse no_reading c.event) N name (noted-unlike L X c N (wanted 2 name 1) _ r no_reading (unlike-second L c.event 2 name 1 here kind-is (sym e) (λ f. omega arith)) (omega arith)))
+          rw m (required-as L X c N (Err (record { why = why.NoReading; at = c.event })) N name (noted-unlike L X c N (wanted 2 name 1) _ r why.NoReading (unlike-second L c.event 2 name 1 here kind-is (sym e ∙ first) (λ f. omega arith))))
 
-      pub flag-must : must ≡ true → q ≤ 1 → (q ≡ 0 → ⊥) → (M : List ℕ) → M ≡ keeps N c.event 0 → Walks L X (alone (flag_item must name)) c N (Go (past c)) M
+      pub flag-must : must ≡ true → q ≤ 1 → (q ≡ 0 → ⊥) → (M : List ℕ) → M ≡ keeps N c.event 0 → Walks L X (alone (flag_item must name)) c N (Ok (past c)) M
       flag-must m h g M k =
-          let l : 0 ≡ judged L c.event (wanted 2 name 1) = like L c.event 2 name 1 here kind-is (sym e) (omega arith) in
-          rw m (required-as L X c N (Go (past c)) M name
-          (noted-got L X c N (wanted 2 name 1) _ r 0 l (omega arith) [] 0 M (past c) refl (note-none X) k refl (omega arith) (omega arith) r.used (omega arith)))
+          let l : 0 ≡ judged L c.event (wanted 2 name 1) = like L c.event 2 name 1 here kind-is (sym e ∙ first) (omega arith) in
+          rw m (required-as L X c N (Ok (past c)) M name
+          (noted-got L X c N (wanted 2 name 1) _ r l [] 0 M (past c) refl (note-none X) k refl (omega arith) (omega arith) r.used (omega arith)))
 
       pub flag-may : must ≡ false → q ≤ 1 → (M : List ℕ) → M ≡ keeps N c.event (2199023255552 + q)
-          → Walks L X (alone (flag_item must name)) c N (Go (record { event = c.event + 1; used = c.used; bits = c.bits + 1 })) M
+          → Walks L X (alone (flag_item must name)) c N (Ok (record { event = c.event + 1; used = c.used; bits = c.bits + 1 })) M
       flag-may m h M k =
           let n : min q 1 ≡ q = omega arith in
-          let l : 0 ≡ judged L c.event (wanted 2 name q) = like L c.event 2 name q here kind-is (sym e) refl in
+          let l : 0 ≡ judged L c.event (wanted 2 name q) = like L c.event 2 name q here kind-is (sym e ∙ first) second in
           let g : Coded = record { size = 1; bits = q } in
-          let s = picked-spelt 2 q (sv.Code g) (inner-choice (iv.Choice 2) q 2 refl 1 q (omega arith) (omega arith) (sym width_two) refl) in
-          rw m (optional-as L X c N (Go (record { event = c.event + 1; used = c.used; bits = c.bits + 1 })) M name q (sym n)
-          (coded-go L X c N (wanted 2 name q) r 0 l (omega arith) (cv.Plain (iv.Choice 2)) q (sv.Code g) s g refl (2199023255552 + q) (note-of-done g (omega arith) (omega arith)) M k))
+          let s = picked-spelt 2 q (Ok g) (inner-choice (iv.Choice 2) q 2 refl 1 q (omega arith) (omega arith) (sym width_two) refl) in
+          rw m (optional-as L X c N (Ok (record { event = c.event + 1; used = c.used; bits = c.bits + 1 })) M name q (sym n ∙ ap (λ (i : ℕ). min i 1) second)
+          (coded-go L X c N (wanted 2 name q) r l (cv.Plain (iv.Choice 2)) q (Ok g) s g refl (2199023255552 + q) (note-of-done g (omega arith) (omega arith)) M k))
 
-pub ruleset note-attribute-ways = (flag-unlike, kind-first, kind-second, place-near, next-near, kind-room, flag-name, flag-many, flag-absent, flag-must, flag-may, flag-bits)
+pub ruleset note_attribute_ways = (kind-fine, kind-faulty, flag-unlike, word-first, word-second, place-near, next-near, kind-room, flag-name, flag-many, flag-absent, flag-must, flag-may, flag-bits)
 
 -- an item and then the rest
 module _ (L X : List ℕ) (c : Spot) (N : List ℕ) (r : Judgement) (M : List ℕ) (i : Item) (k : ℕ → List Bare → List ℕ → Out) (h : Walks L X (alone i) c N r M) where
-  pub item-stop : (n at : ℕ) → r ≡ Refuse n at → Walked L X (item_then i (events_at L c.event) (texts_at X c.used) k) c N r M
-  item-stop n at w = walked_as r (item-rest L c.event i (texts_at X c.used) k) (along-stop L X (alone i (events_at L c.event) (texts_at X c.used)) (λ A U. k (word_of i (event_at L c.event)) A U) c N r M h n at w)
+  pub item-stop : (f : Fault ℕ) → r ≡ Err f → Walked L X (item_then i (events_at L c.event) (texts_at X c.used) k) c N r M
+  item-stop f w = walked_as r (item-rest L c.event i (texts_at X c.used) k) (along-stop L X (alone i (events_at L c.event) (texts_at X c.used)) (λ A U. k (word_of i (event_at L c.event)) A U) c N r M h f w)
 
-  pub item-go : (v : ℕ) → v ≡ word_of i (event_at L c.event) → (e : Spot) → r ≡ Go e → (s : Judgement) (K : List ℕ) → Walked L X (k v (events_at L e.event) (texts_at X e.used)) e M s K
+  pub item-go : (v : ℕ) → v ≡ word_of i (event_at L c.event) → (e : Spot) → r ≡ Ok e → (s : Judgement) (K : List ℕ) → Walked L X (k v (events_at L e.event) (texts_at X e.used)) e M s K
       → Walked L X (item_then i (events_at L c.event) (texts_at X c.used) k) c N s K
   item-go v z e w s K y =
       walked_as s (item-rest L c.event i (texts_at X c.used) k)
       (along-go L X (alone i (events_at L c.event) (texts_at X c.used)) (λ A U. k (word_of i (event_at L c.event)) A U) c N r M h e w s K (rw (← z) y))
 
 -- an item that was walked is the event's
-module _ (L X : List ℕ) (c : Spot) (N : List ℕ) (r : Ready L X N c) (i : Item) (s : Judgement) (M : List ℕ) (h : Walks L X (alone i) c N s M) (e : Spot) (w : s ≡ Go e) where
+module _ (L X : List ℕ) (c : Spot) (N : List ℕ) (r : Ready L X N c) (i : Item) (s : Judgement) (M : List ℕ) (h : Walks L X (alone i) c N s M) (e : Spot) (w : s ≡ Ok e) where
   item-judged : judged L c.event (as_item i (event_at L c.event)) ≡ 0
+  unfolding noted
   item-judged = elim (dec_lt 0 (judged L c.event f)) [
     | yes p ↦
-        let a = (noted-unlike L X c N f (item_out i (word_of i (event_at L c.event)) (texts_at X c.used)) r (judged L c.event f) refl p).is.out in
+        let a : noted f (item_out i (word_of i (event_at L c.event)) (texts_at X c.used)) (events_at L c.event) ≡ refused (judged L c.event f) (events_in L - c.event) = taken-unlike L c.event f (λ e. f) _ refl (judged L c.event f) refl p r.inside in
         let b = sym (alone-noted L c.event i (texts_at X c.used)) ∙ (went h e w).out in
         absurd (let z : ◌≡◌ {A = ℕ} 0 1 = cc in omega arith)
     | no p ↦ omega arith
@@ -174,19 +178,19 @@ module _ (L X : List ℕ) (c : Spot) (N : List ℕ) (s : Slot) (ready : Ready L 
     unfolding slot·
     flagged-is = rw f
 
-    pub before-value-stop : (n at : ℕ) → r ≡ Refuse n at → Marks L X s c N (mv.Refuse n at) M
+    pub before-value-stop : (e : Fault ℕ) → r ≡ Err e → Marks L X s c N (Err e) M
     unfolding attribute· required· optional·
-    before-value-stop n at w = record { is = walked_as (Refuse n at) flagged-is (rw w at (go s.must refl)) }
+    before-value-stop e w = record { is = walked_as (Err e) flagged-is (rw w at (go s.must refl)) }
       where
         go : (must : Bool) → s.must ≡ must → Walked L X (attribute· (attribute_in s) (events_at L c.event) (texts_at X c.used)) c N r M
-        go true m = rw m (item-stop L X c N r M (required s.name) (λ v A U. alone (valued s.simple s.b s.c) A U) (rw m at h) n at w)
-        go false m = rw m (item-stop L X c N r M (optional s.name) (λ v A U. present v s.simple s.b s.c A U) (rw m at h) n at w)
+        go true m = rw m (item-stop L X c N r M (required s.name) (λ v A U. alone (valued s.simple s.b s.c) A U) (rw m at h) e w)
+        go false m = rw m (item-stop L X c N r M (optional s.name) (λ v A U. present v s.simple s.b s.c A U) (rw m at h) e w)
 
-    module _ (e : Spot) (w : r ≡ Go e) where
+    module _ (e : Spot) (w : r ≡ Ok e) where
       pub before-value-words : 4 * c.event + 2 < length L
       before-value-words = item-words L X c N ready (flag_item s.must s.name) r M h e w
 
-      pub before-value-value : there ≡ 1 → Marks L X s c N (mv.Value e) M
+      pub before-value-value : there ≡ 1 → Marks L X s c N (Ok (mv.Value e)) M
       unfolding attribute· required· optional· word_of present
       before-value-value one = record { is = (ready_on L X _ c N r M h e w, λ u K y. walked_as u flagged-is (go s.must refl u K y)) }
         where
@@ -194,37 +198,37 @@ module _ (L X : List ℕ) (c : Spot) (N : List ℕ) (s : Slot) (ready : Ready L 
           go true m u K y = rw m (item-go L X c N r M (required s.name) (λ v A U. alone (valued s.simple s.b s.c) A U) (rw m at h) 1 refl e w u K y)
           go false m u K y = rw m (item-go L X c N r M (optional s.name) (λ v A U. present v s.simple s.b s.c A U) (rw m at h) 1 (omega arith) e w u K y)
 
-      pub before-value-nothing : (there ≡ 1 → ⊥) → Marks L X s c N (mv.Nothing e) M
+      pub before-value-nothing : (there ≡ 1 → ⊥) → Marks L X s c N (Ok (mv.Nothing e)) M
       unfolding attribute· required· optional· event_of word_of present
-      before-value-nothing none = record { is = walked_as (Go e) flagged-is (go s.must refl) }
+      before-value-nothing none = record { is = walked_as (Ok e) flagged-is (go s.must refl) }
         where
-          go : (must : Bool) → s.must ≡ must → Walked L X (attribute· (attribute_in s) (events_at L c.event) (texts_at X c.used)) c N (Go e) M
+          go : (must : Bool) → s.must ≡ must → Walked L X (attribute· (attribute_in s) (events_at L c.event) (texts_at X c.used)) c N (Ok e) M
           go true m = let same = item-same L X c N ready (required s.name) r M (rw m at h) e w in absurd (none (sym (ap (λ (f : Bare). f.q) same)))
           go false m =
               let same : min there 1 ≡ there = ap (λ (f : Bare). f.q) (item-same L X c N ready (optional s.name) r M (rw m at h) e w) in
               let zero_is : 0 ≡ min there 1 = omega (arith, none) in
-              rw m (item-go L X c N r M (optional s.name) (λ v A U. present v s.simple s.b s.c A U) (rw m at h) 0 zero_is e w (Go e) M (stays L X e M (ready_on L X _ c N r M h e w)))
+              rw m (item-go L X c N r M (optional s.name) (λ v A U. present v s.simple s.b s.c A U) (rw m at h) 0 zero_is e w (Ok e) M (stays L X e M (ready_on L X _ c N r M h e w)))
 
   module _ (f : s.flagged ≡ false) where
-    pub before-value-own : s.valued ≡ true → Marks L X s c N (mv.Value c) N
+    pub before-value-own : s.valued ≡ true → Marks L X s c N (Ok (mv.Value c)) N
     unfolding slot· bare·
     before-value-own v = record { is = (ready, λ u K y. walked_as u (rw (f, v)) y) }
 
-    pub before-value-none : s.valued ≡ false → Marks L X s c N (mv.Nothing c) N
+    pub before-value-none : s.valued ≡ false → Marks L X s c N (Ok (mv.Nothing c)) N
     unfolding slot· bare·
-    before-value-none v = record { is = walked_as (Go c) (rw (f, v)) (stays L X c N ready) }
+    before-value-none v = record { is = walked_as (Ok c) (rw (f, v)) (stays L X c N ready) }
 
-pub ruleset before-value-ways = (place-near, before-value-stop, before-value-words, before-value-value, before-value-nothing, before-value-own, before-value-none)
+pub ruleset before_value_ways = (place-near, before-value-stop, before-value-words, before-value-value, before-value-nothing, before-value-own, before-value-none)
 
 -- part
-module _ (L X : List ℕ) (c : Spot) (N : List ℕ) (s : Slot) (m : Marked) (M : List ℕ) (h : Marks L X s c N m M) where
-  pub part-stop : (n at : ℕ) → m ≡ mv.Refuse n at → Walks L X (slot· s) c N (Refuse n at) M
-  part-stop n at w = rw w at h.is
+module _ (L X : List ℕ) (c : Spot) (N : List ℕ) (s : Slot) (m : Result Marked (Fault ℕ)) (M : List ℕ) (h : Marks L X s c N m M) where
+  pub part-stop : (f : Fault ℕ) → m ≡ Err f → Walks L X (slot· s) c N (Err f) M
+  part-stop f w = rw w at h.is
 
-  pub part-nothing : (e : Spot) → m ≡ mv.Nothing e → Walks L X (slot· s) c N (Go e) M
+  pub part-nothing : (e : Spot) → m ≡ Ok (mv.Nothing e) → Walks L X (slot· s) c N (Ok e) M
   part-nothing e w = rw w at h.is
 
-  module _ (e : Spot) (w : m ≡ mv.Value e) where
+  module _ (e : Spot) (w : m ≡ Ok (mv.Value e)) where
     given : (Ready L X M e) × ((r : Judgement) (K : List ℕ) → Walks L X (alone (valued s.simple s.b s.c)) e M r K → Walks L X (slot· s) c N r K)
     given = rw w at h.is
 
@@ -234,7 +238,7 @@ module _ (L X : List ℕ) (c : Spot) (N : List ℕ) (s : Slot) (m : Marked) (M :
     pub part-value : (r : Judgement) (K : List ℕ) → Walks L X (alone (valued s.simple s.b s.c)) e M r K → Walks L X (slot· s) c N r K
     part-value r K y = given.1 r K y
 
-pub ruleset part-ways = (part-stop, part-nothing, part-ready, part-value)
+pub ruleset part_ways = (part-stop, part-nothing, part-ready, part-value)
 
 -- slot_at
 module _ (t : List ℕ) (ty first n i : ℕ) where
@@ -263,7 +267,7 @@ module _ (t : List ℕ) (valid : verdict t ≡ right) where
   pub slot-inside : (first n i : ℕ) → first + n ≤ attributes_in t → i < n → AttributeInside t (first + i)
   slot-inside first n i f h = attribute-inside t valid (first + i) (omega arith)
 
-pub ruleset slot-ways = (slot_row, slot-value, slot-empty, slot-rows, slot-near, slot-inside, type-inside)
+pub ruleset slot_ways = (slot_row, slot-value, slot-empty, slot-rows, slot-near, slot-inside, type-inside)
 
 -- before_rows: the slots that are left
 module _ (t : List ℕ) (ty first n : ℕ) where
@@ -303,17 +307,17 @@ module _ (t : List ℕ) (ty first n : ℕ) where
     left-more i c h = let a : n + 1 - i ≡ suc (n + 1 - (i + 1)) = omega arith in rw a
 
     module _ (o₀ : Out) (c₀ : Spot) (N₀ : List ℕ) (i : ℕ) (c : Spot) (N : List ℕ) (l : Leads L X o₀ c₀ N₀ (left i c) c N) where
-      pub before-rows-end : n < i → Ready L X N c → Walked L X o₀ c₀ N₀ (Go c) N
+      pub before-rows-end : n < i → Ready L X N c → Walked L X o₀ c₀ N₀ (Ok c) N
       before-rows-end h r = leads-end L X o₀ c₀ N₀ (left i c) c N l (left-none i c h) r
 
       module _ (h : i ≤ n) (s : Slot) (m : Slots t ty first n i s) (r : Judgement) (M : List ℕ) (g : Walks L X (slot· s) c N r M) where
         at : Walked L X (slot_at· t ty first n i (events_at L c.event) (texts_at X c.used)) c N r M
         at = walked_as r (sym (m.is (events_at L c.event) (texts_at X c.used))) g
 
-        pub before-rows-stop : (k p : ℕ) → r ≡ Refuse k p → Walked L X o₀ c₀ N₀ r M
-        before-rows-stop k p w = leads-stop L X o₀ c₀ N₀ (left i c) c N l _ _ (left-more i c h) r M at k p w
+        pub before-rows-stop : (f : Fault ℕ) → r ≡ Err f → Walked L X o₀ c₀ N₀ r M
+        before-rows-stop f w = leads-stop L X o₀ c₀ N₀ (left i c) c N l _ _ (left-more i c h) r M at f w
 
-        pub before-rows-again : (e : Spot) → r ≡ Go e → Leads L X o₀ c₀ N₀ (left (i + 1) e) e M
+        pub before-rows-again : (e : Spot) → r ≡ Ok e → Leads L X o₀ c₀ N₀ (left (i + 1) e) e M
         unfolding left
         before-rows-again e w = leads-go L X o₀ c₀ N₀ (left i c) c N l _ _ (left-more i c h) r M at e w _ refl
 
@@ -327,4 +331,4 @@ module _ (t : List ℕ) (ty : ℕ) (valid : verdict t ≡ right) (known : ty < t
 pub before-rows-turn : (i n : ℕ) → i ≤ n → i + 1 ≤ n + 1
 before-rows-turn i n h = omega arith
 
-pub ruleset before-rows-ways = (before-rows-start, before-rows-end, before-rows-stop, before-rows-again, span-inside, before-rows-near, before-rows-turn, type-inside, ready_on)
+pub ruleset before_rows_ways = (before-rows-start, before-rows-end, before-rows-stop, before-rows-again, span-inside, before-rows-near, before-rows-turn, type-inside, ready_on)

@@ -41,16 +41,18 @@ use Rattle.model.proofs.OutLaws.{casts-none}
 use Rattle.model.specs.Whole.{event_at}
 use Rattle.model.specs.declared.Choices.{Choices}
 use Rattle.writer_parts.specs.declared.Spot.{Spot}
-use Rattle.writer_parts.specs.declared.Spelling as spelling_t
-use Rattle.writer_parts.specs.declared.Spelling.TheVariants as sv
-use Rattle.writer_parts.specs.declared.Cast.TheVariants as cv
-use Rattle.writer_parts.specs.Notes.{note_bits, keeps, Noted, Short, most_choices, Flagged}
-use Rattle.writer_parts.specs.Walk.{events_in, events_at, texts_at, between, Ready, wanted, judged}
+use Rattle.writer_parts.specs.declared.judging.Words.{Words}
+use Rattle.std.specs.Prelude.{Ok, Err}
+use Rattle.numbers.specs.declared.refusal.Refusal.{Refusal}
+use Rattle.numbers.specs.declared.refusal.Refusal.TheVariants as why
+use Rattle.numbers.specs.Refused.{number_of}
+use Rattle.writer_parts.specs.Notes.{Spelling, note_bits, keeps, Noted, Short, most_choices, Flagged}
+use Rattle.writer_parts.specs.Walk.{events_in, events_at, texts_at, between, Ready, wanted, judged, KindJudged}
 use Rattle.writer_parts.specs.Codes.{Rowed, Lists, Chosen, Placed, Stands, Spelled, Spells, Casts}
 use Rattle.writer_parts.proofs.NoteLaws.{spells-none}
 use Rattle.writer_parts.proofs.NoteWays.{coded-long, none_is, some_is}
 use Rattle.writer_parts.proofs.WalkLaws.{went, events-count, judged-in, taken-like, taken-unlike}
-use Rattle.writer_parts.proofs.JudgingWays.{judged-few, judged-room, noted-spelt, noted-got}
+use Rattle.writer_parts.proofs.JudgingWays.{some, like as like-words, kind-fine, kind-faulty, word-first, word-second, kind-room, noted-spelt, noted-got}
 
 -- one_of, of at most most_choices
 few-width : (n : ℕ) → n ≤ most_choices → width n ≤ 10
@@ -90,7 +92,7 @@ module _ (n k : ℕ) (small : n ≤ most_choices) (h : k ≤ n) where
           let t : w ≤ 10 = rw e (few-width n small) in
           rw (one-of-some, some_is (shifted 1 (choice n)) k z, less) (record { code = g.is (digits (width n) (k - 1)) q; few = omega arith })
 
-pub ruleset one-of-ways = (one-of-none, one-of-off, one-of-few, one-of-low, one-of-on)
+pub ruleset one_of_ways = (one-of-none, one-of-off, one-of-few, one-of-low, one-of-on)
 
 -- one code behind another
 module _ (a b : Coded) (fa : a.size ≤ 11) (fb : b.size ≤ 11) (la : a.bits < 2 ^ a.size) (lb : b.bits < 2 ^ b.size) where
@@ -112,7 +114,7 @@ module _ (a b : Coded) (fa : a.size ≤ 11) (fb : b.size ≤ 11) (la : a.bits < 
   pub pair-done : Short 22 (record { size = a.size + b.size; bits = a.bits * 2 ^ b.size % 2 ^ 64 + b.bits }) (digits a.size a.bits ++ digits b.size b.bits)
   pair-done = record { code = record { is = rw (raised, digits-split a.size b.size a.bits b.bits lb); low = rw raised both_under }; few = omega arith }
 
-pub ruleset pair-ways = (pair-long, pair-shift, pair_fits, pair-done)
+pub ruleset pair_ways = (pair-long, pair-shift, pair_fits, pair-done)
 
 -- substitutes, derived: a list of the table, or nothing
 module _ (l types : List ℕ) (u : Bool) (r : TypeList) where
@@ -122,7 +124,7 @@ module _ (l types : List ℕ) (u : Bool) (r : TypeList) where
   pub lists-none : u ≡ false → r.count ≡ 0 → r.first ≡ 0 → Lists l (cond u types []) r
   lists-none e h n = rw e (record { listed = record { count-is = h; each = λ k g. absurd (omega arith) }; near = omega arith })
 
-pub ruleset lists-ways = (lists-some, lists-none)
+pub ruleset lists_ways = (lists-some, lists-none)
 
 -- due
 sends-first : (a b : List ℕ) → 0 < length a → sends a b ≡ true
@@ -149,7 +151,7 @@ pub due-nothing : (l : List ℕ) (c : Choices) (t row : ℕ) → Rowed l c row �
 unfolding codes sends
 due-nothing l c t row h e = let n = h.neither (not-true c.any e) in rw (n.0, n.1) refl
 
-pub ruleset due-ways = (due-nothing, due-swap, due-types)
+pub ruleset due_ways = (due-nothing, due-swap, due-types)
 
 -- default_type
 chosen_more : (t : ℕ) (types : List ℕ) (q : ℕ) → (q ≡ 0 → ⊥) → chosen t types q ≡ get_or types (q - 1) 0
@@ -165,7 +167,7 @@ module _ (l : List ℕ) (s : TypeList) (t q : ℕ) where
   pub default-swap : (q ≡ 0 → ⊥) → q ≤ s.count → (r : ℕ) → r ≡ word_at l (listed_at s (q - 1)) → Chosen l s t q r
   default-swap z g r e = record { is = λ types h. e ∙ h.each (q - 1) (omega arith) ∙ sym (chosen_more t types q z) }
 
-pub ruleset default-ways = (default-own, default-swap)
+pub ruleset default_ways = (default-own, default-swap)
 
 -- place_in: i types are passed
 pub record Passed (l : List ℕ) (s : TypeList) (p i : ℕ) : Type 0 where
@@ -204,7 +206,7 @@ module _ (l : List ℕ) (s : TypeList) (p : ℕ) where
       all-dropped zero (x ∷ l) h = absurd (omega arith)
       all-dropped (suc i) (x ∷ l) h = all-dropped i l (omega arith)
 
-pub ruleset place-ways = (place-start, place_here, place-on, place-past)
+pub ruleset place_ways = (place-start, place_here, place-on, place-past)
 
 -- standing
 module _ (l : List ℕ) (s : TypeList) (p t : ℕ) where
@@ -216,7 +218,7 @@ module _ (l : List ℕ) (s : TypeList) (p t : ℕ) where
   unfolding standing
   standing-far e r k = record { is = λ types h. rw (ne_eqb p t e) (k.is types h) }
 
-pub ruleset standing-ways = (standing-own, standing-far)
+pub ruleset standing_ways = (standing-own, standing-far)
 
 -- one of n, or none: what the writer's test says
 one-of-fits : (n k : ℕ) → k ≤ n → n ≤ most_choices → code_out (one_of n) k ≡ got (bits_of (one_of n) k)
@@ -293,7 +295,7 @@ module _ (l : List ℕ) (valid : verdict l ≡ right) (c : Choices) (t row p q :
   pub spell-swaps : s.count ≤ most_choices
   spell-swaps = let e = h.listed.count-is in let f = swaps-ok.few in omega arith
 
-  pub spell-over : s.count < q → Spells l y p q (sv.Refuse outside_row)
+  pub spell-over : s.count < q → Spells l y p q (Err why.OutsideRow)
   unfolding codes_out substitute_code
   spell-over z = let e = h.listed.count-is in record { is = then-fault _ (one-of-over (length y.substitutes) q (omega arith)) }
 
@@ -317,7 +319,7 @@ module _ (l : List ℕ) (valid : verdict l ≡ right) (c : Choices) (t row p q :
       stands : standing p own (y.derived own) ≡ k
       stands = sym (w.is (y.derived own) g.listed)
 
-      pub spell-far : d.count < k → Spells l y p q (sv.Refuse outside_row)
+      pub spell-far : d.count < k → Spells l y p q (Err why.OutsideRow)
       unfolding codes_out substitute_code type_code
       spell-far f =
           let a = h.listed.count-is in
@@ -344,7 +346,7 @@ module _ (l : List ℕ) (valid : verdict l ≡ right) (c : Choices) (t row p q :
           pub spell-pair : (a.size ≤ 11) × (b.size ≤ 11) × (a.bits < 2 ^ a.size) × (b.bits < 2 ^ b.size)
           spell-pair = (A.few, B.few, A.code.low, B.code.low)
 
-          pub spell-note : (n : Coded) → Short 22 n (digits a.size a.bits ++ digits b.size b.bits) → Spells l y p q (sv.Code n)
+          pub spell-note : (n : Coded) → Short 22 n (digits a.size a.bits ++ digits b.size b.bits) → Spells l y p q (Ok n)
           unfolding codes_out substitute_code type_code
           spell-note n e =
               let u = h.listed.count-is in
@@ -361,38 +363,49 @@ module _ (l : List ℕ) (valid : verdict l ≡ right) (c : Choices) (t row p q :
                 };
               }
 
-pub ruleset spell-ways = (spell-swaps, spell-over, own-known, spell-types, spell-far, spell-pair, spell-note)
+pub ruleset spell_ways = (spell-swaps, spell-over, own-known, spell-types, spell-far, spell-pair, spell-note)
 
 -- note_due
-module _ (l L X : List ℕ) (c : Spot) (N : List ℕ) (r : Ready L X N c) (y : Types) (due : codes y ≡ true) (p q b : ℕ) (first : p ≡ get_or L (4 * c.event + 1) 0)
-    (second : q ≡ get_or L (4 * c.event + 2) 0) (j : b ≡ judged L c.event (wanted kinds.cast p q)) where
-  cast_is : as_cast (event_at L c.event) ≡ wanted kinds.cast p q
-  cast_is = rw (first, second)
-
-  pub due-unlike : 0 < b → Casts l L X y c N (cv.Refuse b c.event) N
+module _ (l L X : List ℕ) (c : Spot) (N : List ℕ) (r : Ready L X N c) (y : Types) (due : codes y ≡ true) where
+  pub due-unlike : (x : Refusal) → KindJudged L c.event kinds.cast (number_of x) → Casts l L X y c N (Err (record { why = x; at = c.event })) N
   unfolding casts
-  due-unlike z = record { is = record { out = λ k. rw due (taken-unlike L c.event (wanted kinds.cast p q) as_cast _ cast_is b j z r.inside); inside = r.inside } }
+  due-unlike x h =
+      let e = event_at L c.event in
+      record { is = record { out = λ k. rw due (taken-unlike L c.event (wanted kinds.cast e.p e.q) as_cast _ refl (number_of x) (h.wrong (some x) e.p e.q) (some x) r.inside); inside = r.inside } }
 
-  module _ (z : b ≤ 0) (s : spelling_t.Spelling) (h : Spells l y p q s) where
+  module _ (judging : KindJudged L c.event kinds.cast 0) (w : Words) (first : w.p ≡ get_or L (4 * c.event + 1) 0) (second : w.q ≡ get_or L (4 * c.event + 2) 0)
+      (s : Spelling) (h : Spells l y w.p w.q s) where
+    abbrev p : ℕ
+    p = w.p
+
+    abbrev q : ℕ
+    q = w.q
+
+    cast_is : as_cast (event_at L c.event) ≡ wanted kinds.cast p q
+    cast_is = rw (first, second)
+
+    z : 0 ≡ judged L c.event (wanted kinds.cast p q)
+    z = like-words L c.event kinds.cast p q (judging.there refl) (judging.same refl) first second
+
     like : judged L c.event (wanted kinds.cast p q) ≡ 0
-    like = sym j ∙ omega arith
+    like = sym z
 
     coded-is : (k : ℕ → List ℕ → List Bare → Out) → casts (codes y) y (events_at L c.event) k
         ≡ coded (codes_out y p q) (suc (length (events_at L (c.event + 1)))) (λ w. k p w (events_at L (c.event + 1)))
     unfolding casts
     coded-is k = rw due (taken-like L c.event (wanted kinds.cast p q) as_cast _ cast_is like ∙ rw (first, second))
 
-    pub due-refused : (n : ℕ) → s ≡ sv.Refuse n → Casts l L X y c N (cv.Refuse n c.event) N
+    pub due-refused : (n : Refusal) → s ≡ Err n → Casts l L X y c N (Err (record { why = n; at = c.event })) N
     unfolding coded
-    due-refused n w =
+    due-refused n w· =
         let i = judged-in L c.event (wanted kinds.cast p q) like in
-        let f : codes_out y p q ≡ fault n = rw w at h.is in
+        let f : codes_out y p q ≡ fault (number_of n) = rw w· at h.is in
         let m : suc (length (events_at L (c.event + 1))) ≡ events_in L - c.event = omega (arith, events-count L (c.event + 1)) in
         record { is = record { out = λ k. coded-is k ∙ rw (f, m); inside = r.inside } }
 
-    module _ (n : Coded) (w : s ≡ sv.Code n) where
+    module _ (n : Coded) (w· : s ≡ Ok n) where
       spelled : Spelled l y p q n
-      spelled = rw w at h.is
+      spelled = rw w· at h.is
 
       pub due-few : n.size ≤ 41
       due-few = let f = spelled.gives.code.few in omega arith
@@ -400,7 +413,7 @@ module _ (l L X : List ℕ) (c : Spot) (N : List ℕ) (r : Ready L X N c) (y : T
       pub due-low : n.bits < 2 ^ n.size
       due-low = spelled.gives.code.code.low
 
-      pub due-noted : (x : ℕ) → Noted x (digits n.size n.bits) → (M : List ℕ) → M ≡ keeps N c.event x → Casts l L X y c N (cv.To p (record { event = c.event + 1; used = c.used; bits = c.bits + n.size })) M
+      pub due-noted : (x : ℕ) → Noted x (digits n.size n.bits) → (M : List ℕ) → M ≡ keeps N c.event x → Casts l L X y c N (Ok (p, record { event = c.event + 1; used = c.used; bits = c.bits + n.size })) M
       unfolding coded
       due-noted x o M m =
           let g = spelled.gives in
@@ -408,8 +421,8 @@ module _ (l L X : List ℕ) (c : Spot) (N : List ℕ) (r : Ready L X N c) (y : T
           let few = g.code.few in
           let long = coded-long n g.bits g.code.code in
           let is : note_bits X x ≡ g.bits = o.is X ∙ g.code.code.is in
-          let step = went (noted-got L X c N (wanted kinds.cast p q) (got (g.bits, texts_at X c.used)) r b j z g.bits x M e refl is m refl (omega arith) (omega arith) r.used (omega arith)) e refl in
-          let spelt : between X M c e ≡ g.bits = noted-spelt L X c N (wanted kinds.cast p q) (got (g.bits, texts_at X c.used)) r b j z g.bits x M e is m refl in
+          let step = went (noted-got L X c N (wanted kinds.cast p q) (got (g.bits, texts_at X c.used)) r z g.bits x M e refl is m refl (omega arith) (omega arith) r.used (omega arith)) e refl in
+          let spelt : between X M c e ≡ g.bits = noted-spelt L X c N (wanted kinds.cast p q) (got (g.bits, texts_at X c.used)) r z g.bits x M e is m refl in
           record {
             is = record {
               out = λ k. coded-is k ∙ rw (g.out, spelt);
@@ -423,7 +436,7 @@ module _ (l L X : List ℕ) (c : Spot) (N : List ℕ) (r : Ready L X N c) (y : T
           }
 
 module _ (L X : List ℕ) (c : Spot) (N : List ℕ) (r : Ready L X N c) where
-  pub due-fits : (l : List ℕ) (y : Types) (p q : ℕ) (s : spelling_t.Spelling) → Spells l y p q s → (n : Coded) → s ≡ sv.Code n → FitsIn w32 (c.bits + n.size)
+  pub due-fits : (l : List ℕ) (y : Types) (p q : ℕ) (s : Spelling) → Spells l y p q s → (n : Coded) → s ≡ Ok n → FitsIn w32 (c.bits + n.size)
   due-fits l y p q s h n w =
       let k : Spelled l y p q n = rw w at h.is in
       let f = k.gives.code.few in
@@ -432,17 +445,17 @@ module _ (L X : List ℕ) (c : Spot) (N : List ℕ) (r : Ready L X N c) where
       let i = r.inside in
       record { fits = omega arith }
 
-  pub due-next : (f : Bare) (b : ℕ) → b ≡ judged L c.event f → b ≤ 0 → FitsIn w64 (c.event + 1)
-  due-next f b e z = let k = judged-few L X N c f b r e z in record { fits = omega arith }
+  pub due-next : (k : ℕ) → KindJudged L c.event k 0 → FitsIn w64 (c.event + 1)
+  due-next k h = let i = h.there refl in let f = r.few in record { fits = omega arith }
 
-pub ruleset note-due-ways = (due-unlike, judged-few, judged-room, due-refused, due-few, due-low, due-noted)
+pub ruleset note_due_ways = (kind-fine, kind-faulty, word-first, word-second, kind-room, due-next, due-fits, due-unlike, due-refused, due-few, due-low, due-noted)
 
 -- note_codes
 module _ (l L X : List ℕ) (c : Choices) (t row : ℕ) (a : Spot) (N : List ℕ) (d : Bool) (e : d ≡ codes (types_by l c t row)) where
   pub codes-due : d ≡ true → codes (types_by l c t row) ≡ true
   codes-due f = sym e ∙ f
 
-  pub codes-none : d ≡ false → Ready L X N a → t < types_in l → Casts l L X (types_by l c t row) a N (cv.To t a) N
+  pub codes-none : d ≡ false → Ready L X N a → t < types_in l → Casts l L X (types_by l c t row) a N (Ok (t, a)) N
   codes-none f r k =
       let z : a.event - a.event ≡ 0 = omega arith in
       let n : between X N a a ≡ [] = rw z (spells-none X N a.event) in
@@ -458,4 +471,4 @@ module _ (l L X : List ℕ) (c : Choices) (t row : ℕ) (a : Spot) (N : List ℕ
         };
       }
 
-pub ruleset codes-ways = (codes-due, codes-none)
+pub ruleset codes_ways = (codes-due, codes-none)

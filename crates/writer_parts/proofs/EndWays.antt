@@ -14,29 +14,31 @@ use Rattle.model.specs.Write.{wrote, as_end, head_out, length_of, sealed}
 use Rattle.model.specs.Modes.{lengths_is}
 use Rattle.model.specs.declared.Lengths as lengths_t
 use Rattle.writer_parts.specs.declared.Spot.{Spot}
-use Rattle.writer_parts.specs.declared.Judgement.TheVariants.{Go, Refuse}
+use Rattle.std.specs.Prelude.{Ok, Err}
+use Rattle.numbers.specs.declared.refusal.Refusal.{Refusal}
+use Rattle.numbers.specs.Refused.{number_of}
 use Rattle.writer_parts.specs.Notes.{note_at, spells, keeps, Noted, Short}
 use Rattle.writer_parts.proofs.NoteLaws.{note-none, spells_one, spells-by, spells-same, kept-other, kept-note, kept-length}
 use Rattle.writer_parts.proofs.NoteWays.{coded-long}
 use Rattle.writer_parts.specs.Walk.{events_at, texts_at, Ready, between, past, Sealing, Walked, wanted, judged}
 use Rattle.writer_parts.proofs.WalkLaws.{judged-in, taken-like, taken-unlike}
-use Rattle.writer_parts.proofs.JudgingWays.{none}
+use Rattle.writer_parts.proofs.JudgingWays.{some, fine, faulty}
 
 -- close
-module _ (L X : List ℕ) (c e : Spot) (N : List ℕ) (lengths : lengths_t.Lengths) (q : ℕ) (r : Ready L X N c) (s : Sealing L X N c e) (b : ℕ) (j : b ≡ judged L e.event (wanted kinds.end 0 0)) where
+module _ (L X : List ℕ) (c e : Spot) (N : List ℕ) (lengths : lengths_t.Lengths) (q : ℕ) (r : Ready L X N c) (s : Sealing L X N c e) where
   abbrev inner : List ℕ
   inner = between X N (past c) e
 
-  pub close-unlike : 0 < b → Walked L X (sealed (lengths_is lengths) q [] (wrote inner (events_at L e.event) (texts_at X e.used))) c N (Refuse b e.event) N
+  pub close-unlike : (y : Refusal) → number_of y ≡ judged L e.event (wanted kinds.end 0 0) → Walked L X (sealed (lengths_is lengths) q [] (wrote inner (events_at L e.event) (texts_at X e.used))) c N (Err (record { why = y; at = e.event })) N
   unfolding sealed
-  close-unlike p = record { is = record { out = taken-unlike L e.event (wanted kinds.end 0 0) as_end _ refl b j p s.ready.inside; inside = s.ready.inside } }
+  close-unlike y j = record { is = record { out = taken-unlike L e.event (wanted kinds.end 0 0) as_end _ refl (number_of y) j (some y) s.ready.inside; inside = s.ready.inside } }
 
-  module _ (z : b ≤ 0) where
+  module _ (z : 0 ≡ judged L e.event (wanted kinds.end 0 0)) where
     pub close-in : e.event < most_events
-    close-in = let h = judged-in L e.event (wanted kinds.end 0 0) (sym j ∙ none z) in let g = r.few in omega arith
+    close-in = let h = judged-in L e.event (wanted kinds.end 0 0) (sym z) in let g = r.few in omega arith
 
     pub close-room : e.event < length N
-    close-room = let h = judged-in L e.event (wanted kinds.end 0 0) (sym j ∙ none z) in let g = r.sized in omega arith
+    close-room = let h = judged-in L e.event (wanted kinds.end 0 0) (sym z) in let g = r.sized in omega arith
 
     pub close-start : (M : List ℕ) → length M ≡ length N → c.event < length M
     close-start M k = let h = close-room in let g = s.started in omega arith
@@ -51,10 +53,10 @@ module _ (L X : List ℕ) (c e : Spot) (N : List ℕ) (lengths : lengths_t.Lengt
     close-fits h w g = let a = s.ready.small in let d = s.ready.few in let i = s.ready.inside in let k = g.few in record { fits = omega arith }
 
     pub close-go : (M : List ℕ) → M ≡ keeps N e.event 0 → (h : Coded) → Short 41 h (head_out (lengths_is lengths) (length_of q (e.bits - c.bits))) → (m : ℕ) → Noted m (digits h.size h.bits) → (K : List ℕ) → K ≡ keeps M c.event m
-        → Walked L X (sealed (lengths_is lengths) q [] (wrote inner (events_at L e.event) (texts_at X e.used))) c N (Go (record { event = e.event + 1; used = e.used; bits = e.bits + h.size })) K
+        → Walked L X (sealed (lengths_is lengths) q [] (wrote inner (events_at L e.event) (texts_at X e.used))) c N (Ok (record { event = e.event + 1; used = e.used; bits = e.bits + h.size })) K
     unfolding sealed
     close-go M k h g m o K y =
-        let i = judged-in L e.event (wanted kinds.end 0 0) (sym j ∙ none z) in
+        let i = judged-in L e.event (wanted kinds.end 0 0) (sym z) in
         let few = r.few in
         let len = r.sized in
         let st = s.started in
@@ -81,7 +83,7 @@ module _ (L X : List ℕ) (c e : Spot) (N : List ℕ) (lengths : lengths_t.Lengt
         let hs = g.few in
         record {
           is = record {
-            out = taken-like L e.event (wanted kinds.end 0 0) as_end _ refl (sym j ∙ none z) ∙ rw (← bound, whole);
+            out = taken-like L e.event (wanted kinds.end 0 0) as_end _ refl (sym z) ∙ rw (← bound, whole);
             counts = rw whole (omega arith);
             onward = omega arith;
             ready = record { sized = omega (arith, ap length y, kept-length M c.event m); few = few; inside = omega arith; used = s.ready.used; short = omega (arith, s.ready.short); small = omega (arith, s.ready.small) };
@@ -89,4 +91,4 @@ module _ (L X : List ℕ) (c e : Spot) (N : List ℕ) (lengths : lengths_t.Lengt
           };
         }
 
-pub ruleset close-ways = (close-unlike, close-in, close-room, close-start, close-less, close-next, close-fits, close-go)
+pub ruleset close_ways = (fine, faulty, close-unlike, close-in, close-room, close-start, close-less, close-next, close-fits, close-go)

@@ -1,5 +1,5 @@
 -- Each way through an element's Start judged, and its head as a code.
-use Prim.Native.Nat.{ℕ, suc, ◌+◌, ◌-◌, ◌*◌, ◌^◌, ◌<◌, ◌≤◌}
+use Prim.Native.Nat.{ℕ, suc, ◌+◌, ◌-◌, ◌*◌, ◌^◌, ◌<◌}
 use mathlib.Core.Path.{◌≡◌, refl, sym}
 use mathlib.Core.Bool.{Bool, true, false, not}
 use mathlib.Core.List.{List}
@@ -9,6 +9,8 @@ use lib.Dec.{ltb, eqb}
 use lib.ListN.{get_or}
 use Rattle.numbers.specs.Refusal.{no_reading}
 use Rattle.numbers.specs.Kind as kinds
+use Rattle.numbers.specs.declared.refusal.Refusal.{Refusal}
+use Rattle.numbers.specs.Refused.{number_of}
 use Rattle.wire.specs.Bits.{digits}
 use Rattle.wire.specs.Number.{code5}
 use Rattle.wire.specs.Coded.{Codes}
@@ -22,8 +24,9 @@ use Rattle.model.specs.Write.{head_out, length_of, flag_in}
 use Rattle.model.specs.Items.{Lengths}
 use Rattle.writer_parts.specs.Notes.{Short, Flagged}
 use Rattle.writer_parts.proofs.NoteWays.{five-few, five-under, flagged-five}
-use Rattle.writer_parts.proofs.JudgingWays.{unlike-first, unlike-second, like, kind-first, kind-second}
+use Rattle.writer_parts.proofs.JudgingWays.{some, kind-fine, kind-faulty, word-first, word-second, unlike-p, unlike-q, like-both}
 use Rattle.writer_parts.specs.Walk.{wanted, judged, KindJudged}
+use Rattle.writer_parts.specs.declared.judging.Words.{Words}
 use Rattle.writer_parts.specs.Heads.{FlagJudged}
 
 -- flag_wrong
@@ -40,25 +43,25 @@ module _ (k : lengths_t.Lengths) (q : ℕ) where
   unfolding lengths_is flag_in
   flag-always e = rw e (record { wrong = λ t z. eqb-false q 1 (not-true (eqb q 1) t) (sym z); fine = λ t. sym (eqb-true q 1 (not-false (eqb q 1) t)) })
 
-pub ruleset flag-wrong-ways = (flag-never, flag-optional, flag-always)
+pub ruleset flag_wrong_ways = (flag-never, flag-optional, flag-always)
 
 -- unlike_start
-module _ (L : List ℕ) (at name b : ℕ) (h : KindJudged L at kinds.start b) where
-  pub start-unlike : (q : ℕ) → 0 < b → b ≡ judged L at (wanted kinds.start name q)
-  start-unlike q p = h.wrong p name q
+module _ (L : List ℕ) (at name : ℕ) where
+  pub start-unlike : (q : ℕ) (e : Refusal) → KindJudged L at kinds.start (number_of e) → number_of e ≡ judged L at (wanted kinds.start name q)
+  start-unlike q e h = h.wrong (some e) name q
 
-  module _ (z : b ≤ 0) where
-    pub start-name : (q : ℕ) → (name ≡ get_or L (4 * at + 1) 0 → ⊥) → no_reading ≡ judged L at (wanted kinds.start name q)
-    start-name q e = unlike-first L at kinds.start name q (h.there (omega arith)) (h.same (omega arith)) e
+  module _ (h : KindJudged L at kinds.start 0) (w : Words) (x : w.p ≡ get_or L (4 * at + 1) 0) (y : w.q ≡ get_or L (4 * at + 2) 0) where
+    pub start-name : (q : ℕ) → (name ≡ w.p → ⊥) → no_reading ≡ judged L at (wanted kinds.start name q)
+    start-name q f = unlike-p L at kinds.start name q h w x y f
 
-    module _ (e : name ≡ get_or L (4 * at + 1) 0) (k : Lengths) (r : Bool) (f : FlagJudged k (get_or L (4 * at + 2) 0) r) where
+    module _ (e : name ≡ w.p) (k : Lengths) (r : Bool) (f : FlagJudged k w.q r) where
       pub start-flag : r ≡ true → no_reading ≡ judged L at (wanted kinds.start name (flag_in k (get_or L (4 * at + 2) 0)))
-      start-flag t = unlike-second L at kinds.start name (flag_in k (get_or L (4 * at + 2) 0)) (h.there (omega arith)) (h.same (omega arith)) e (f.wrong t)
+      start-flag t = rw (← y) (unlike-q L at kinds.start name (flag_in k w.q) h w x y e (f.wrong t))
 
       pub start-like : r ≡ false → 0 ≡ judged L at (wanted kinds.start name (flag_in k (get_or L (4 * at + 2) 0)))
-      start-like t = like L at kinds.start name (flag_in k (get_or L (4 * at + 2) 0)) (h.there (omega arith)) (h.same (omega arith)) e (f.fine t)
+      start-like t = rw (← y) (like-both L at kinds.start name (flag_in k w.q) h w x y e (f.fine t))
 
-pub ruleset start-ways = (start-unlike, start-name, start-flag, start-like, kind-first, kind-second)
+pub ruleset start_ways = (kind-fine, kind-faulty, word-first, word-second, start-unlike, start-name, start-flag, start-like)
 
 -- head
 module _ (lengths : lengths_t.Lengths) (q n : ℕ) where
@@ -86,4 +89,4 @@ module _ (lengths : lengths_t.Lengths) (q n : ℕ) where
     unfolding head_out lengths_is bits_of
     head_on m r f = rw (m, next, width_two) (flagged-five n small c e 1 r f)
 
-pub ruleset head-ways = (head_never, head-off, head-bare, head-long, head_on, five-few, five-under)
+pub ruleset head_ways = (head_never, head-off, head-bare, head-long, head_on, five-few, five-under)

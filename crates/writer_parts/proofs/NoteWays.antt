@@ -36,9 +36,11 @@ use Rattle.value.specs.declared.Inner as inner_t
 use Rattle.value.specs.declared.Inner.TheVariants as iv
 use Rattle.value.specs.declared.Code as code_t
 use Rattle.value.specs.declared.Code.TheVariants as cv
-use Rattle.writer_parts.specs.declared.Spelling as spelling_t
-use Rattle.writer_parts.specs.declared.Spelling.TheVariants as sv
-use Rattle.writer_parts.specs.Notes.{dates_from, Noted, Short, Flagged, Gives, Spelt, DateNote}
+use Rattle.std.specs.Prelude.{Ok, Err}
+use Rattle.numbers.specs.declared.refusal.Refusal.{Refusal}
+use Rattle.numbers.specs.declared.refusal.Refusal.TheVariants as why
+use Rattle.numbers.specs.Refused.{number_of}
+use Rattle.writer_parts.specs.Notes.{Spelling, dates_from, Noted, Short, Flagged, Gives, Spelt, DateNote}
 use Rattle.writer_parts.proofs.NoteLaws.{note-coded, note-dated}
 
 -- what a code is, is so long
@@ -79,7 +81,7 @@ module _ (flag : ℕ) (c : Coded) (small : flag < 2) (few : c.size ≤ 40) (low 
     };
   }
 
-pub ruleset flag-ways = (flag-fits, flag-long, flag-shift, flag-done)
+pub ruleset flag_ways = (flag-fits, flag-long, flag-shift, flag-done)
 
 -- a code that fits, or does not
 module _ (c : Code) (v : ℕ) where
@@ -92,18 +94,18 @@ module _ (c : Code) (v : ℕ) where
   code-fault t = tested-fault outside_row _ t
 
   module _ (most : ℕ) where
-    spelt-got : (k : Coded) → fits c v ≡ true → Short most k (bits_of c v) → Spelt most (code_out c v) (sv.Code k)
+    spelt-got : (k : Coded) → fits c v ≡ true → Short most k (bits_of c v) → Spelt most (code_out c v) (Ok k)
     spelt-got k t h = record { is = record { bits = bits_of c v; out = code_got t; code = h } }
 
-    spelt-fault : fits c v ≡ false → Spelt most (code_out c v) (sv.Refuse outside_row)
+    spelt-fault : fits c v ≡ false → Spelt most (code_out c v) (Err why.OutsideRow)
     spelt-fault t = record { is = code-fault t }
 
 -- what was spelt
-module _ {most : ℕ} {m : Res (List ℕ)} {r : spelling_t.Spelling} (h : Spelt most m r) where
-  pub spelt-code : (c : Coded) → r ≡ sv.Code c → Gives most m c
+module _ {most : ℕ} {m : Res (List ℕ)} {r : Spelling} (h : Spelt most m r) where
+  pub spelt-code : (c : Coded) → r ≡ Ok c → Gives most m c
   spelt-code c w = rw w at h.is
 
-  pub spelt-refuse : (n : ℕ) → r ≡ sv.Refuse n → m ≡ fault n
+  pub spelt-refuse : (n : Refusal) → r ≡ Err n → m ≡ fault (number_of n)
   spelt-refuse n w = rw w at h.is
 
 pub short-few : (most : ℕ) (c : Coded) (w : List ℕ) → Short most c w → c.size ≤ most
@@ -118,27 +120,27 @@ short-wider e c w h = let f = h.few in record { code = h.code; few = omega arith
 -- inner
 module _ (i : inner_t.Inner) (v : ℕ) where
   module _ (n : ℕ) (w : i ≡ iv.Choice n) where
-    pub inner-choice : (k x : ℕ) → v < n → n < 2 ^ 32 → k ≡ width n → x ≡ v → Spelt 40 (code_out (inner_is i) v) (sv.Code (record { size = k; bits = x }))
+    pub inner-choice : (k x : ℕ) → v < n → n < 2 ^ 32 → k ≡ width n → x ≡ v → Spelt 40 (code_out (inner_is i) v) (Ok (record { size = k; bits = x }))
     unfolding inner_is fits bits_of
     inner-choice k x h s e f =
         let u = width-under n 32 (omega arith) in
         let l : v < 2 ^ width n = omega (arith, width-holds n) in
         rw (w, e, f) (spelt-got (choice n) v 40 (record { size = width n; bits = v }) (lt-ltb v n h) (record { code = record { is = refl; low = l }; few = omega arith }))
 
-    pub inner-no-choice : n ≤ v → Spelt 40 (code_out (inner_is i) v) (sv.Refuse outside_row)
+    pub inner-no-choice : n ≤ v → Spelt 40 (code_out (inner_is i) v) (Err why.OutsideRow)
     unfolding inner_is fits
     inner-no-choice h = rw w (spelt-fault (choice n) v 40 (le-ltb v n h))
 
   module _ (m : ℕ) (w : i ≡ iv.Five m) (s : v < 2 ^ 32) where
-    pub inner-five : (c : Coded) → v ≤ m → Codes c (code5 v) → Spelt 40 (code_out (inner_is i) v) (sv.Code c)
+    pub inner-five : (c : Coded) → v ≤ m → Codes c (code5 v) → Spelt 40 (code_out (inner_is i) v) (Ok c)
     unfolding inner_is fits bits_of
     inner-five c h e = rw w (spelt-got (five m) v 40 c (le-leb v (min m (2 ^ 32 - 1)) (omega arith)) (record { code = e; few = omega (arith, coded-long c (code5 v) e, code5-short v s) }))
 
-    pub inner-no-five : m < v → Spelt 40 (code_out (inner_is i) v) (sv.Refuse outside_row)
+    pub inner-no-five : m < v → Spelt 40 (code_out (inner_is i) v) (Err why.OutsideRow)
     unfolding inner_is fits
     inner-no-five h = rw w (spelt-fault (five m) v 40 (lt-leb v (min m (2 ^ 32 - 1)) (omega arith)))
 
-pub ruleset inner-ways = (inner-choice, inner-no-choice, inner-five, inner-no-five)
+pub ruleset inner_ways = (inner-choice, inner-no-choice, inner-five, inner-no-five)
 
 -- a five before which a flag comes
 module _ (m : ℕ) (small : m < 2 ^ 32) (c : Coded) (h : Codes c (code5 m)) where
@@ -163,7 +165,7 @@ module _ (v : ℕ) (t : Bool) (m : ℕ) (h : Parts v t m) (small : m < 2 ^ 32) (
   pub signed-plus : t ≡ false → Flagged 0 c r → Short 41 r (bits_of signed v)
   signed-plus z f = signed-as 0 (met-plus h z) f
 
-pub ruleset signed-ways = (five-few, five-under, signed-minus, signed-plus)
+pub ruleset signed_ways = (five-few, five-under, signed-minus, signed-plus)
 
 -- none, or some
 pub some_is : (c : Code) (v : ℕ) → (v ≡ 0 → ⊥) → bits_of (some c) v ≡ digits 1 1 ++ bits_of c v
@@ -203,25 +205,25 @@ module _ (c : Code) (v : ℕ) where
       go false f g = (f, let h = tested-fault {t = false} outside_row (got (bits_of c v)) refl in cc)
 
 module _ (i : inner_t.Inner) (v : ℕ) where
-  pub some-none : v ≡ 0 → Spelt 41 (code_out (some (inner_is i)) v) (sv.Code (record { size = 1; bits = 0 }))
+  pub some-none : v ≡ 0 → Spelt 41 (code_out (some (inner_is i)) v) (Ok (record { size = 1; bits = 0 }))
   some-none z =
       spelt-got (some (inner_is i)) v 41 (record { size = 1; bits = 0 }) (none-fits (inner_is i) v z)
       (record { code = rw (none_is (inner_is i) v z) (record { is = refl; low = omega arith }); few = omega arith })
 
-  module _ (z : v ≡ 0 → ⊥) (r : spelling_t.Spelling) (h : Spelt 40 (code_out (inner_is i) v) r) where
-    pub some-refused : (n : ℕ) → r ≡ sv.Refuse n → Spelt 41 (code_out (some (inner_is i)) v) (sv.Refuse n)
+  module _ (z : v ≡ 0 → ⊥) (r : Spelling) (h : Spelt 40 (code_out (inner_is i) v) r) where
+    pub some-refused : (n : Refusal) → r ≡ Err n → Spelt 41 (code_out (some (inner_is i)) v) (Err n)
     some-refused n w =
-        let f = fault-fits (inner_is i) v n (spelt-refuse h n w) in
-        rw f.1 (spelt-fault (some (inner_is i)) v 41 (some_fits (inner_is i) v z ∙ f.0))
+        let f = fault-fits (inner_is i) v (number_of n) (spelt-refuse h n w) in
+        record { is = rw f.1 (code-fault (some (inner_is i)) v (some_fits (inner_is i) v z ∙ f.0)) }
 
-    module _ (c : Coded) (w : r ≡ sv.Code c) where
+    module _ (c : Coded) (w : r ≡ Ok c) where
       pub some-few : c.size ≤ 40
       some-few = (spelt-code h c w).code.few
 
       pub some-under : c.bits < 2 ^ c.size
       some-under = (spelt-code h c w).code.code.low
 
-      pub some-some : (k : Coded) → Flagged 1 c k → Spelt 41 (code_out (some (inner_is i)) v) (sv.Code k)
+      pub some-some : (k : Coded) → Flagged 1 c k → Spelt 41 (code_out (some (inner_is i)) v) (Ok k)
       some-some k f =
           let g = spelt-code h c w in
           let e = got-fits (inner_is i) v g.bits g.out in
@@ -230,14 +232,14 @@ module _ (i : inner_t.Inner) (v : ℕ) where
           spelt-got (some (inner_is i)) v 41 k (some_fits (inner_is i) v z ∙ e.0)
           (record { code = rw (some_is (inner_is i) v z, ← e.1) (f.is g.bits g.code.code); few = omega arith })
 
-pub ruleset some-ways = (some-none, some-refused, some-few, some-under, some-some)
+pub ruleset some_ways = (some-none, some-refused, some-few, some-under, some-some)
 
 -- number
-pub spelt-wider : (m : Res (List ℕ)) (r : spelling_t.Spelling) → Spelt 40 m r → Spelt 41 m r
-spelt-wider m (sv.Refuse n) h = record { is = h.is }
-spelt-wider m (sv.Code c) h = let g = h.is in record { is = record { bits = g.bits; out = g.out; code = short-wider (omega arith) c g.bits g.code } }
+pub spelt-wider : (m : Res (List ℕ)) (r : Spelling) → Spelt 40 m r → Spelt 41 m r
+spelt-wider m (Err n) h = record { is = h.is }
+spelt-wider m (Ok c) h = let g = h.is in record { is = record { bits = g.bits; out = g.out; code = short-wider (omega arith) c g.bits g.code } }
 
-module _ (c : code_t.Code) (v : ℕ) (r : spelling_t.Spelling) where
+module _ (c : code_t.Code) (v : ℕ) (r : Spelling) where
   pub number-plain : (i : inner_t.Inner) → c ≡ cv.Plain i → Spelt 40 (code_out (inner_is i) v) r → Spelt 41 (code_out (code_is c) v) r
   unfolding code_is
   number-plain i w h = rw w (spelt-wider _ r h)
@@ -255,16 +257,16 @@ module _ (c : code_t.Code) (v : ℕ) (r : spelling_t.Spelling) where
   number-shifted lo i k w h s e f = rw (w, ← shifted-out lo (inner_is i) h s, ← e) (spelt-wider _ r f)
 
 module _ (c : code_t.Code) (v : ℕ) (s : v < 2 ^ 32) where
-  pub number_word : (x : ℕ) → c ≡ cv.Word → x ≡ v → Spelt 41 (code_out (code_is c) v) (sv.Code (record { size = 32; bits = x }))
+  pub number_word : (x : ℕ) → c ≡ cv.Word → x ≡ v → Spelt 41 (code_out (code_is c) v) (Ok (record { size = 32; bits = x }))
   unfolding code_is fits bits_of
   number_word x w e =
       rw (w, e) (spelt-got (choice (2 ^ 32)) v 41 (record { size = 32; bits = v }) (lt-ltb v (2 ^ 32) s) (record { code = rw (width-pow 32) (record { is = refl; low = omega arith }); few = omega arith }))
 
-  pub number-signed : (k : Coded) → c ≡ cv.Signed → Short 41 k (bits_of signed v) → Spelt 41 (code_out (code_is c) v) (sv.Code k)
+  pub number-signed : (k : Coded) → c ≡ cv.Signed → Short 41 k (bits_of signed v) → Spelt 41 (code_out (code_is c) v) (Ok k)
   unfolding code_is fits
   number-signed k w h = rw w (spelt-got signed v 41 k (lt-ltb v (2 ^ 32) s) h)
 
-pub ruleset number-ways = (number-plain, number_word, number-signed, number-some, number-shifted)
+pub ruleset number_ways = (number-plain, number_word, number-signed, number-some, number-shifted)
 
 -- count: an occurs row has no code of a word or with a sign
 counts : Code → Bool
@@ -299,7 +301,7 @@ times-counts least most = first (ltb (min most most_times) least) (ltb unbounded
     first false false true = unbounded-counts least
     first false false false = bounded-counts least most
 
-module _ (least most v : ℕ) (c : code_t.Code) (e : code_is c ≡ times_code least most) (r : spelling_t.Spelling) where
+module _ (least most v : ℕ) (c : code_t.Code) (e : code_is c ≡ times_code least most) (r : Spelling) where
   pub count-plain : (i : inner_t.Inner) → c ≡ cv.Plain i → Spelt 40 (code_out (inner_is i) v) r → Spelt 41 (code_out (times_code least most) v) r
   count-plain i w h = rw (← e) (number-plain c v r i w h)
 
@@ -317,7 +319,7 @@ module _ (least most v : ℕ) (c : code_t.Code) (e : code_is c ≡ times_code le
   unfolding code_is counts
   count-signed w = absurd (true≢false (sym (times-counts least most) ∙ ap counts (sym e) ∙ ap (λ (d : code_t.Code). counts (code_is d)) w))
 
-pub ruleset count-ways = (count-plain, count-some, count-shifted, count_word, count-signed)
+pub ruleset count_ways = (count-plain, count-some, count-shifted, count_word, count-signed)
 
 -- note_of
 module _ (c : Coded) (few : c.size ≤ 41) (low : c.bits < 2 ^ c.size) where
@@ -333,7 +335,7 @@ module _ (c : Coded) (few : c.size ≤ 41) (low : c.bits < 2 ^ c.size) where
   pub note-of-done : Noted (c.size * 2199023255552 + c.bits) (digits c.size c.bits)
   note-of-done = record { is = λ X. note-coded c.size c.bits few low X }
 
-pub ruleset note-of-ways = (note-of-part, note-of-fits, note-of-done)
+pub ruleset note_of_ways = (note-of-part, note-of-fits, note-of-done)
 
 -- a date
 module _ (clock : Bool) (days ms : ℕ) where
@@ -353,4 +355,4 @@ module _ (clock : Bool) (days ms : ℕ) where
     short = omega arith;
   })
 
-pub ruleset date-note-ways = (date-timed, date-plain)
+pub ruleset date_note_ways = (date-timed, date-plain)

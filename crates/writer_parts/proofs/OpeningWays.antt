@@ -14,4 +14,4 @@ module _ (c : Choices) (row : ℕ) where
   pub choices-row : (row ≡ no_row → ⊥) → c ≡ row_choices c row
   choices-row e = rw (ne_eqb row no_row e)
 
-pub ruleset choices-ways = (choices-root, choices-row)
+pub ruleset choices_ways = (choices-root, choices-row)

@@ -8,7 +8,7 @@ use native.Mathlib.Decide.{dec_le}
 use mir.Val.{Fits as FitsIn}
 use mir.Syntax.{w8, w32, w64}
 use lib.ListN.{length, get_or, take, drop, length-append, length-take, length-drop}
-use lib.Seq.{take_all}
+use lib.Seq.{take_all, get_or-take}
 use lib.Pow.{pow_pos, pow_mono, pow-add, split, mod-mod-pow}
 use Rattle.wire.specs.Bits.{bit_at, num, digits, Has}
 use Rattle.wire.proofs.BitLaws.{bit-lt, length_digits, digits-num, has_left, has_right}
@@ -99,7 +99,7 @@ module _ (s : List ℕ) (p : Pen) (w v : ℕ) (r : Spare s p w) (h : w < 64) whe
           few = omega arith;
         }
 
-pub ruleset code-ways = (code-mask, code_fits, code-waits, code-rest, code_free, code-left, code-room, code-next, code-word, code_put)
+pub ruleset code_ways = (code-mask, code_fits, code-waits, code-rest, code_free, code-left, code-room, code-next, code-word, code_put)
 
 -- put_eight
 module _ (s : List ℕ) (p : Pen) (v : ℕ) (small : v < 2 ^ 64) (r : Spare s p 64) where
@@ -155,21 +155,22 @@ module _ (s : List ℕ) (p : Pen) (v : ℕ) (small : v < 2 ^ 64) (r : Spare s p 
         few = f;
       }
 
-pub ruleset eight-ways = (eight-count, eight-shift, eight-left, eight-room, eight-next, eight_fits, eight-put)
+pub ruleset eight_ways = (eight-count, eight-shift, eight-left, eight-room, eight-next, eight_fits, eight-put)
 
 -- few: the first i bytes are the number x
-module _ (X : List ℕ) (from : ℕ) where
-  pub few-start : digits (8 * 0) 0 ≡ bytes (take 0 (drop from X))
-  unfolding digits
-  few-start = sym (bytes-none X from)
+pub few-start : (X : List ℕ) → digits (8 * 0) 0 ≡ bytes (take 0 X)
+unfolding digits
+few-start X = sym (bytes-none X 0)
 
-  pub few-turn : (i x b : ℕ) → digits (8 * i) x ≡ bytes (take i (drop from X)) → b ≡ get_or X (from + i) 0 → b < 256 → from + i < length X → digits (8 * (i + 1)) (x * 256 + b) ≡ bytes (take (i + 1) (drop from X))
-  few-turn i x b f e l h =
-      let z : 8 * (i + 1) ≡ 8 * i + 8 = omega arith in
-      rw (z, digits-split (8 * i) 8 x b l, f, e) (sym (bytes_next X from i h))
+pub few-turn : (X : List ℕ) (i x b : ℕ) → digits (8 * i) x ≡ bytes (take i X) → b ≡ get_or X i 0 → b < 256 → i < length X → digits (8 * (i + 1)) (x * 256 + b) ≡ bytes (take (i + 1) X)
+few-turn X i x b f e l h =
+    let z : 8 * (i + 1) ≡ 8 * i + 8 = omega arith in
+    let y : 0 + i ≡ i = omega arith in
+    let g : get_or X (0 + i) 0 ≡ b = rw y (sym e) in
+    rw (z, digits-split (8 * i) 8 x b l, f) (sym (bytes_next X 0 i (omega arith) ∙ rw g))
 
-  pub few-end : (i n x : ℕ) → i ≤ n → n ≤ i → digits (8 * i) x ≡ bytes (take i (drop from X)) → digits (8 * n) x ≡ bytes (take n (drop from X))
-  few-end i n x h g f = let e : i ≡ n = omega arith in rw e at f
+pub few-end : (X : List ℕ) (i x : ℕ) → i ≤ length X → length X ≤ i → digits (8 * i) x ≡ bytes (take i X) → digits (8 * length X) x ≡ bytes X
+few-end X i x h g f = let e : i ≡ length X = omega arith in rw (e, take_all (length X) X (omega arith)) at f
 
 module _ (i n x : ℕ) (h : i < n) (k : n < 8) (f : x < 2 ^ (8 * i)) where
   under-48 : x < 281474976710656
@@ -189,7 +190,7 @@ few-small i x b f g =
 pub few-none : 0 < 2 ^ (8 * 0)
 few-none = omega arith
 
-pub ruleset few-ways = (few-start, few-turn, few-end, few-times, few-fits, few-small, few-none)
+pub ruleset few_ways = (few-start, few-turn, few-end, few-times, few-fits, few-small, few-none)
 
 -- put_text: the first i bytes are drawn
 module _ (s : List ℕ) (p : Pen) (X : List ℕ) (from n : ℕ) (room : Spare s p (8 * n)) (inside : from + n ≤ length X) where
@@ -203,42 +204,57 @@ module _ (s : List ℕ) (p : Pen) (X : List ℕ) (from n : ℕ) (room : Spare s 
   text-start = rw (bytes-none X from) (drawn-none s p room.few)
 
   module _ (t : List ℕ) (q : Pen) (i : ℕ) (e : length t ≡ length s) (d : Drawn s t p q (so_far i)) where
-    pub text-eight : i + 8 ≤ n → Spare t q 64
-    text-eight h = spare-on s t p q (so_far i) (8 * n) 64 d room e (omega (arith, long i (omega arith)))
+    -- the next m bytes, and then so many are drawn
+    on : (m j : ℕ) → j ≡ i + m → (u : List ℕ) (r : Pen) → Drawn t u q r (bytes (take m (drop (from + i) X))) → Drawn s u p r (so_far j)
+    on m j z u r g =
+        drawn-as s u p r (so_far i ++ bytes (take m (drop (from + i) X))) (so_far j) (sym (ap so_far z ∙ bytes_on X from i m))
+        (drawn-both s t u p q r (so_far i) (bytes (take m (drop (from + i) X))) d g)
 
-    pub text-turn : i + 8 ≤ n → ((j : ℕ) → FitsIn w8 (get_or X j 0)) → (x : ℕ) → x ≡ num (bit_at X) (8 * (from + i)) 64 → (u : List ℕ) (r : Pen) → Drawn t u q r (digits 64 x) → Drawn s u p r (so_far (i + 8))
-    text-turn h f x z u r g =
-        drawn-as s u p r (so_far i ++ digits 64 x) (so_far (i + 8)) (rw (bytes_on X from i 8, z) (ap (λ (k : List ℕ). so_far i ++ k) (bytes-number X f (from + i) 8 (omega arith))))
-        (drawn-both s t u p q r (so_far i) (digits 64 x) d g)
+    pub text-spare : (m : ℕ) → i + m ≤ n → Spare t q (8 * m)
+    text-spare m h = spare-on s t p q (so_far i) (8 * n) (8 * m) d room e (omega (arith, long i (omega arith)))
 
     pub text-done : i ≡ n → Drawn s t p q (so_far n)
     text-done z = rw z at d
 
-    module _ (h : i ≤ n) where
-      pub text-left : Spare t q (8 * (n - i))
-      text-left = spare-on s t p q (so_far i) (8 * n) (8 * (n - i)) d room e (omega (arith, long i h))
+    -- the last bytes
+    module _ (m : ℕ) (z : i + m ≡ n) where
+      last-from : from + i ≡ from + n - m
+      last-from = omega arith
 
-      pub text-rest : (x : ℕ) → digits (8 * (n - i)) x ≡ bytes (take (n - i) (drop (from + i) X)) → (u : List ℕ) (r : Pen) → Drawn t u q r (digits (8 * (n - i)) x) → Drawn s u p r (so_far n)
-      text-rest x f u r g =
-          let z : n ≡ i + (n - i) = omega arith in
-          drawn-as s u p r (so_far i ++ digits (8 * (n - i)) x) (so_far n) (rw f (sym (bytes_on X from i (n - i)) ∙ ap so_far (sym z)))
-          (drawn-both s t u p q r (so_far i) (digits (8 * (n - i)) x) d g)
+      pub text-last : (u : List ℕ) (r : Pen) → Drawn t u q r (bytes (take m (drop (from + n - m) X))) → Drawn s u p r (so_far n)
+      text-last u r g = on m n (sym z) u r (rw last-from g)
 
-    pub text-sixteen : i + 16 ≤ n → Spare t q 128
-    text-sixteen h = spare-on s t p q (so_far i) (8 * n) 128 d room e (omega (arith, long i (omega arith)))
+      pub text-few : (x : ℕ) → digits (8 * m) x ≡ bytes (take m (drop (from + n - m) X)) → (u : List ℕ) (r : Pen) → Drawn t u q r (digits (8 * m) x) → Drawn s u p r (so_far n)
+      text-few x f u r g = text-last u r (drawn-as t u q r (digits (8 * m) x) (bytes (take m (drop (from + n - m) X))) f g)
 
-    module _ (m : ℕ) (h : i + m ≤ n) where
-      pub text-part : (u : List ℕ) (r : Pen) → Drawn t u q r (bytes (take m (drop (from + i) X))) → Drawn s u p r (so_far (i + m))
-      text-part u r g =
-          drawn-as s u p r (so_far i ++ bytes (take m (drop (from + i) X))) (so_far (i + m)) (sym (bytes_on X from i m))
-          (drawn-both s t u p q r (so_far i) (bytes (take m (drop (from + i) X))) d g)
+  -- k times eight, or sixteen
+  module _ (t : List ℕ) (q : Pen) (k : ℕ) (e : length t ≡ length s) where
+    module _ (d : Drawn s t p q (so_far (8 * k))) where
+      pub text-eight : k < n / 8 → Spare t q 64
+      text-eight h = text-spare t q (8 * k) e d 8 (omega arith)
 
-    pub text-all : i ≤ n → (u : List ℕ) (r : Pen) → Drawn t u q r (bytes (take (n - i) (drop (from + i) X))) → Drawn s u p r (so_far n)
-    text-all h u r g =
-        let z : i + (n - i) ≡ n = omega arith in
-        drawn-as s u p r (so_far (i + (n - i))) (so_far n) (ap so_far z) (text-part (n - i) (omega arith) u r g)
+      pub text-turn : k < n / 8 → ((j : ℕ) → FitsIn w8 (get_or X j 0)) → (x : ℕ) → x ≡ num (bit_at X) (8 * (from + 8 * k)) 64 → (u : List ℕ) (r : Pen) → Drawn t u q r (digits 64 x)
+          → Drawn s u p r (so_far (8 * (k + 1)))
+      text-turn h f x z u r g =
+          on t q (8 * k) e d 8 (8 * (k + 1)) (omega arith) u r
+          (drawn-as t u q r (digits 64 x) (bytes (take 8 (drop (from + 8 * k) X))) (rw z (bytes-number X f (from + 8 * k) 8 (omega arith))) g)
 
-pub ruleset rest-ways = (text-start, text-eight, text-turn, text-done, text-left, text-rest)
+    module _ (d : Drawn s t p q (so_far (16 * k))) where
+      pub text-sixteen : k < n / 16 → Spare t q 128
+      text-sixteen h = text-spare t q (16 * k) e d 16 (omega arith)
+
+      pub text-part : (u : List ℕ) (r : Pen) → Drawn t u q r (bytes (take 16 (drop (from + 16 * k) X))) → Drawn s u p r (so_far (16 * (k + 1)))
+      text-part u r g = on t q (16 * k) e d 16 (16 * (k + 1)) (omega arith) u r g
+
+-- the last bytes as one number
+pub few-cut : (X : List ℕ) (to m x : ℕ) → m ≤ to → to ≤ length X → digits (8 * length (take (to - (to - m)) (drop (to - m) X))) x ≡ bytes (take (to - (to - m)) (drop (to - m) X)) → digits (8 * m) x ≡ bytes (take m (drop (to - m) X))
+few-cut X to m x h k f =
+    let a : to - (to - m) ≡ m = omega arith in
+    let l : length (take m (drop (to - m) X)) ≡ m = length-take m (drop (to - m) X) ∙ omega (arith, length-drop (to - m) X) in
+    let g : digits (8 * length (take m (drop (to - m) X))) x ≡ bytes (take m (drop (to - m) X)) = rw a at f in
+    ap (λ (i : ℕ). digits (8 * i) x) (sym l) ∙ g
+
+pub ruleset rest_ways = (text-start, text-eight, text-turn, text-done, text-spare, text-few)
 
 -- put_sixteen: two words
 module _ (s : List ℕ) (p : Pen) (X : List ℕ) (at : ℕ) (room : Spare s p 128) (inside : at + 16 ≤ length X) where
@@ -255,9 +271,9 @@ module _ (s : List ℕ) (p : Pen) (X : List ℕ) (at : ℕ) (room : Spare s p 12
         (rw (bytes_on X at 8 8, z, w, bytes-number X f at 8 (omega arith), bytes-number X f (at + 8) 8 (omega arith)) refl)
         (drawn-both s t u p q r (digits 64 x) (digits 64 y) g h)
 
-pub ruleset sixteen-ways = (sixteen-first, sixteen-second, sixteen-done)
+pub ruleset sixteen_ways = (sixteen-first, sixteen-second, sixteen-done)
 
-pub ruleset text-pen-ways = (text-start, text-sixteen, text-left, text-part, text-all)
+pub ruleset text_pen_ways = (text-start, text-sixteen, text-part, text-spare, text-last)
 
 -- put_counted: a part of the texts, as far as there are such
 none_left : (n : ℕ) (l : List ℕ) → length l ≤ n → drop n l ≡ []
@@ -316,7 +332,7 @@ module _ (s : List ℕ) (p : Pen) (X : List ℕ) (y n : ℕ) (e : n ≡ y % 4096
         drawn-as s u p r (digits c.size c.bits ++ bytes (take m (drop from X))) (code5 (y % 4096) ++ bytes part) (rw (f.is, same-part, e))
         (drawn-both s t u p q r (digits c.size c.bits) (bytes (take m (drop from X))) d b)
 
-pub ruleset counted-ways = (counted-short, counted-room, counted-inside, counted-spare, counted-done)
+pub ruleset counted_ways = (counted-short, counted-room, counted-inside, counted-spare, counted-done)
 
 -- put_date
 module _ (s : List ℕ) (p : Pen) (y : ℕ) (r : Spare s p 64) where
@@ -331,7 +347,7 @@ module _ (s : List ℕ) (p : Pen) (y : ℕ) (r : Spare s p 64) where
     unfolding date_bits
     date-drawn u k g = drawn-both s t u p q k (digits 32 (y / 134217728)) (digits 32 (y % 134217728)) d g
 
-pub ruleset date-pen-ways = (date-days, date-clock, date-drawn)
+pub ruleset date_pen_ways = (date-days, date-clock, date-drawn)
 
 -- put_note
 module _ (s : List ℕ) (p : Pen) (X : List ℕ) (x : ℕ) (r : Spare s p (length (note_bits X x))) where
@@ -366,7 +382,7 @@ module _ (s : List ℕ) (p : Pen) (X : List ℕ) (x : ℕ) (r : Spare s p (lengt
       pub note-date-drawn : (t : List ℕ) (q : Pen) → Drawn s t p q (date_bits (x - dates_from)) → Drawn s t p q (note_bits X x)
       note-date-drawn t q d = rw (note-date X x h g) d
 
-pub ruleset put-note-ways = (note-width, note-room, note-drawn, note-text-room, note-text-drawn, note-date-room, note-date-drawn)
+pub ruleset put_note_ways = (note-width, note-room, note-drawn, note-text-room, note-text-drawn, note-date-room, note-date-drawn)
 
 -- begin
 module _ (s : List ℕ) (a : ℕ) where
@@ -382,7 +398,7 @@ module _ (s : List ℕ) (a : ℕ) where
       ap (λ (y : ℕ). y / 2 ^ (8 - a % 8)) (sym n ∙ ap (num (bit_at s) (8 * (a / 8))) f) ∙ num-high (bit_at s) (bit-lt s) (8 * (a / 8)) (a % 8) (8 - a % 8) in
       record { place = omega arith; few = omega arith; stands = rw k (digits-num (bit_at s) (bit-lt s) (8 * (a / 8)) (a % 8)) }
 
-pub ruleset begin-ways = (begin-whole, begin-part)
+pub ruleset begin_ways = (begin-whole, begin-part)
 
 -- put_last
 module _ (s : List ℕ) (p : Pen) (r : Spare s p 0) where
@@ -414,7 +430,7 @@ module _ (s : List ℕ) (p : Pen) (r : Spare s p 0) where
           ap (λ (n : ℕ). digits n p.waiting) e ∙ ap (digits (p.count - 32 + 32)) (sym (split p.waiting 32)) ∙ digits-split (p.count - 32) 32 (p.waiting / 2 ^ 32) (p.waiting % 2 ^ 32) (mod-lt p.waiting (pow_pos 32)) in
           rw d (wrote-both s t u (8 * p.next) q z (digits (p.count - 32) (p.waiting / 2 ^ 32)) (digits 32 (p.waiting % 2 ^ 32)) w v)
 
-pub ruleset last-ways = (last-place, last-high, last-room, last_done, last-first, last-second, last-both)
+pub ruleset last_ways = (last-place, last-high, last-room, last_done, last-first, last-second, last-both)
 
 -- end: bits that stand already behind what waits may be written with it
 put_first : (b c : ℕ → ℕ) (at : ℕ) (l m : List ℕ) → Has b (at + length l) m → Put b c at (l ++ m) → Put b c at l
@@ -468,7 +484,7 @@ module _ (s : List ℕ) (p : Pen) (r : Spare s p 0) where
           rw (l ∙ sym (length_digits p.count (x / 2 ^ free))) (has_right (bit_at s) (8 * p.next) (digits p.count (x / 2 ^ free)) (digits free x) (rw cut at all)) in
           record { bits = put_first (bit_at s) (bit_at t) (8 * p.next) (waits p) (digits free x) behind (rw word-digits at b); next = omega (arith, l) }
 
-pub ruleset end-ways = (end_none, end-mask, end_fits, end-word)
+pub ruleset end_ways = (end_none, end-mask, end_fits, end-word)
 
 -- bits that stand already need not be written
 put_rest : (b c : ℕ → ℕ) (at : ℕ) (l m : List ℕ) → Has b at l → Put b c at (l ++ m) → Put b c (at + length l) m
@@ -486,6 +502,9 @@ put_rest b c at l m h f = record {
     ])
 
 -- put_notes: the first i notes are drawn
+taken-at : (N : List ℕ) (n i : ℕ) → i < length (take n N) → get_or (take n N) i 0 ≡ get_or N i 0
+taken-at N n i h = let f : i < n = omega (arith, length-take n N) in get_or-take n N i 0 f
+
 module _ (s : List ℕ) (at : ℕ) (X N : List ℕ) (p : Pen) (b : Begun s at p) where
   pub notes-start : Drawn s s p p (spells X N 0 0)
   notes-start = let f = b.few in rw (spells-none X N 0) (drawn-none s p (omega arith))
@@ -494,36 +513,47 @@ module _ (s : List ℕ) (at : ℕ) (X N : List ℕ) (p : Pen) (b : Begun s at p)
   begun-room n r = let f = b.few in let k = b.place in record { few = omega arith; fits = omega (arith, r.0); near = omega (arith, r.1) }
 
   module _ (n : ℕ) (r : Room s at (length (spells X N 0 n))) (t : List ℕ) (q : Pen) (i : ℕ) (e : length t ≡ length s) (d : Drawn s t p q (spells X N 0 i)) where
-    pub notes-room : i < n → (x : ℕ) → x ≡ get_or N i 0 → Spare t q (length (note_bits X x))
+    pub notes-room : i < length (take n N) → Spare t q (length (note_bits X (get_or (take n N) i 0)))
     unfolding note_at
-    notes-room h x z =
+    notes-room f =
+        let h : i < n = omega (arith, length-take n N) in
+        let x = get_or (take n N) i 0 in
+        let z : get_or (take n N) i 0 ≡ get_or N i 0 = taken-at N n i f in
         let split : spells X N 0 n ≡ spells X N 0 (i + 1) ++ spells X N (0 + (i + 1)) (n - (i + 1)) =
         let z : n ≡ (i + 1) + (n - (i + 1)) = omega arith in ap (spells X N 0) z ∙ spells-both X N 0 (i + 1) (n - (i + 1)) in
         let a = ap length split ∙ length-append (spells X N 0 (i + 1)) (spells X N (0 + (i + 1)) (n - (i + 1))) in
         let b = ap length (spells-last X N i) ∙ length-append (spells X N 0 i) (note_at X N i) in
         spare-on s t p q (spells X N 0 i) (length (spells X N 0 n)) (length (note_bits X x)) d (begun-room (length (spells X N 0 n)) r) e (rw z (omega arith))
 
-    pub notes-turn : (x : ℕ) → x ≡ get_or N i 0 → (u : List ℕ) (k : Pen) → Drawn t u q k (note_bits X x) → Drawn s u p k (spells X N 0 (i + 1))
+    notes-on : (x : ℕ) → x ≡ get_or N i 0 → (u : List ℕ) (k : Pen) → Drawn t u q k (note_bits X x) → Drawn s u p k (spells X N 0 (i + 1))
     unfolding note_at
-    notes-turn x z u k g =
+    notes-on x z u k g =
         drawn-as s u p k (spells X N 0 i ++ note_bits X x) (spells X N 0 (i + 1)) (sym (spells-last X N i ∙ rw (← z))) (drawn-both s t u p q k (spells X N 0 i) (note_bits X x) d g)
 
-    pub notes-pass : (x : ℕ) → x ≡ get_or N i 0 → x ≤ 0 → Drawn s t p q (spells X N 0 (i + 1))
-    notes-pass x z h = let o : x ≡ 0 = omega arith in notes-turn x z t q (rw (o, note-none X) (drawn-none t q d.few))
+    module _ (f : i < length (take n N)) where
+      pub notes-turn : (u : List ℕ) (k : Pen) → Drawn t u q k (note_bits X (get_or (take n N) i 0)) → Drawn s u p k (spells X N 0 (i + 1))
+      notes-turn u k g = notes-on (get_or (take n N) i 0) (taken-at N n i f) u k g
 
-    pub notes-left : i ≤ n → n ≤ i → Spare t q 0
-    notes-left h g = let z : i ≡ n = omega arith in spare-on s t p q (spells X N 0 i) (length (spells X N 0 n)) 0 d (begun-room (length (spells X N 0 n)) r) e (rw z (omega arith))
+      pub notes-pass : get_or (take n N) i 0 ≤ 0 → Drawn s t p q (spells X N 0 (i + 1))
+      notes-pass h = let o : get_or (take n N) i 0 ≡ 0 = omega arith in notes-turn t q (rw (o, note-none X) (drawn-none t q d.few))
 
-    pub notes-end : i ≤ n → n ≤ i → (u : List ℕ) (z : ℕ) → Wrote t u (8 * q.next) (waits q) z → Wrote s u at (spells X N 0 n) z
-    notes-end h g u z w =
-        let y : i ≡ n = omega arith in
-        let all = wrote-both s t u (8 * p.next) (8 * q.next) z d.put (waits q) d.stands w in
-        let whole : Wrote s u (8 * p.next) (waits p ++ spells X N 0 n) z = rw (← d.same, y) at all in
-        let l = length_digits p.count p.waiting in
-        let at-is : 8 * p.next + length (waits p) ≡ at = omega (arith, b.place) in
-        record {
-          bits = rw at-is at (put_rest (bit_at s) (bit_at u) (8 * p.next) (waits p) (spells X N 0 n) b.stands whole.bits);
-          next = omega (arith, whole.next, length-append (waits p) (spells X N 0 n), at-is);
-        }
+    module _ (a : n ≤ length N) (h : i ≤ length (take n N)) (g : length (take n N) ≤ i) where
+      all-drawn : i ≡ n
+      all-drawn = omega (arith, length-take n N)
 
-pub ruleset put-notes-ways = (notes-start, notes-room, notes-turn, notes-left, notes-end)
+      pub notes-left : Spare t q 0
+      notes-left = let z = all-drawn in spare-on s t p q (spells X N 0 i) (length (spells X N 0 n)) 0 d (begun-room (length (spells X N 0 n)) r) e (rw z (omega arith))
+
+      pub notes-end : (u : List ℕ) (z : ℕ) → Wrote t u (8 * q.next) (waits q) z → Wrote s u at (spells X N 0 n) z
+      notes-end u z w =
+          let y = all-drawn in
+          let all = wrote-both s t u (8 * p.next) (8 * q.next) z d.put (waits q) d.stands w in
+          let whole : Wrote s u (8 * p.next) (waits p ++ spells X N 0 n) z = rw (← d.same, y) at all in
+          let l = length_digits p.count p.waiting in
+          let at-is : 8 * p.next + length (waits p) ≡ at = omega (arith, b.place) in
+          record {
+            bits = rw at-is at (put_rest (bit_at s) (bit_at u) (8 * p.next) (waits p) (spells X N 0 n) b.stands whole.bits);
+            next = omega (arith, whole.next, length-append (waits p) (spells X N 0 n), at-is);
+          }
+
+pub ruleset put_notes_ways = (notes-start, notes-room, notes-turn, notes-left, notes-end)

@@ -21,18 +21,16 @@ use Rattle.wire.specs.Bits.{digits}
 use Rattle.wire.proofs.BitLaws.{length_digits}
 use Rattle.wire.specs.declared.Coded.{Coded}
 use Rattle.wire.specs.Number.{code5}
-use Rattle.calendar.specs.declared.Day.{Day}
-use Rattle.calendar.specs.declared.Day.TheVariants.{Number, Nothing}
+use Rattle.std.specs.Prelude.{Option, Some, None}
 use Rattle.utf8.specs.Text.{text_fault}
 use Rattle.value.specs.Code.{stamp, bits_of, fits, code_out, choice}
 use Rattle.value.specs.Dates.{joined, stamp_bits, day_in, clock_in, day_bits, day_fits}
 use Rattle.value.specs.Simple.{plain, text, dated, bytes, Simple, first_word, second_word, value_of, simple_of, times_code}
 use Rattle.value.proofs.SimpleLaws.{length-bytes, passes_then, passes-fault}
-use Rattle.value.specs.Answer.{code_is, stamp_is, inner_is, form_is}
+use Rattle.value.specs.Answer.{Stamping, code_is, stamp_is, inner_is, form_is}
 use Rattle.value.proofs.WriteWays.{code5-short}
 use Rattle.value.specs.declared.Code as code_t
-use Rattle.value.specs.declared.Stamp as stamp_t
-use Rattle.value.specs.declared.Stamp.TheVariants as tv
+use Rattle.value.specs.declared.Stamp.{Stamp}
 use Rattle.value.proofs.DateLaws.{joined-parts}
 use Rattle.value.specs.declared.Inner.TheVariants as iv
 use Rattle.value.specs.declared.Code.TheVariants as cv
@@ -44,26 +42,25 @@ use Rattle.model.specs.Model.Item.{valued, picked, counted}
 use Rattle.model.proofs.WriteSteps.{out-valued, out-picked, out-counted}
 use Rattle.model.specs.Whole.{event_at}
 use Rattle.writer_parts.specs.declared.SizedNote.{SizedNote}
-use Rattle.writer_parts.specs.declared.Spelling as spelling_t
-use Rattle.writer_parts.specs.declared.Spelling.TheVariants as sv
+use Rattle.std.specs.Prelude.{Ok, Err}
+use Rattle.numbers.specs.declared.refusal.Refusal.{Refusal}
+use Rattle.numbers.specs.Refused.{number_of}
 use Rattle.writer_parts.specs.declared.Spot.{Spot}
-use Rattle.writer_parts.specs.declared.Judgement.TheVariants.{Go, Refuse}
-use Rattle.writer_parts.specs.Notes.{keeps, text_note, Noted, Gives, Spelt, DateNote}
+use Rattle.writer_parts.specs.Notes.{Spelling, keeps, text_note, Noted, Gives, Spelt, DateNote}
 use Rattle.writer_parts.proofs.NoteLaws.{note-counted}
 use Rattle.writer_parts.proofs.NoteWays.{coded-long, spelt-code, spelt-refuse, got-fits, number-plain}
-use Rattle.writer_parts.specs.Walk.{events_at, texts_at, Ready, Walked, wanted, judged, KindJudged, noted, text_wrong, Walks, alone}
-use Rattle.writer_parts.specs.declared.Judgement.{Judgement}
+use Rattle.writer_parts.specs.Walk.{Judgement, events_at, texts_at, Ready, Walked, wanted, judged, KindJudged, noted, text_wrong, Walks, alone}
 use Rattle.writer_parts.proofs.WalkLaws.{walked_as, alone-noted}
-use Rattle.writer_parts.proofs.JudgingWays.{none, judged-few, judged-room, noted-unlike, noted-fault, noted-got, kind-first, kind-second}
+use Rattle.writer_parts.proofs.JudgingWays.{fine, faulty, kind-fine, kind-faulty, some, judged-few, judged-room, noted-unlike, noted-fault, noted-got, word-first, word-second}
 
 -- coded: a value as a number, noted
-module _ (L X : List ℕ) (c : Spot) (N : List ℕ) (f : Bare) (r : Ready L X N c) (b : ℕ) (j : b ≡ judged L c.event f) (z : b ≤ 0)
-    (k : code_t.Code) (v : ℕ) (s : spelling_t.Spelling) (e : Spelt 41 (code_out (code_is k) v) s) where
-  pub coded-fault : (n : ℕ) → s ≡ sv.Refuse n → Walked L X (noted f (simple_out (plain (code_is k)) v (texts_at X c.used)) (events_at L c.event)) c N (Refuse n c.event) N
+module _ (L X : List ℕ) (c : Spot) (N : List ℕ) (f : Bare) (r : Ready L X N c) (z : 0 ≡ judged L c.event f)
+    (k : code_t.Code) (v : ℕ) (s : Spelling) (e : Spelt 41 (code_out (code_is k) v) s) where
+  pub coded-fault : (n : Refusal) → s ≡ Err n → Walked L X (noted f (simple_out (plain (code_is k)) v (texts_at X c.used)) (events_at L c.event)) c N (Err (record { why = n; at = c.event })) N
   unfolding simple_out
-  coded-fault n w = noted-fault L X c N f _ r b j z n (then-fault _ (spelt-refuse e n w))
+  coded-fault n w = noted-fault L X c N f _ r z n (then-fault _ (spelt-refuse e n w))
 
-  module _ (n : Coded) (w : s ≡ sv.Code n) where
+  module _ (n : Coded) (w : s ≡ Ok n) where
     given : Gives 41 (code_out (code_is k) v) n
     given = spelt-code e n w
 
@@ -77,15 +74,15 @@ module _ (L X : List ℕ) (c : Spot) (N : List ℕ) (f : Bare) (r : Ready L X N 
     coded-fits = let few = coded-few in let a = r.small in let d = r.few in let i = r.inside in record { fits = omega arith }
 
     pub coded-go : (m : ℕ) → Noted m (digits n.size n.bits) → (M : List ℕ) → M ≡ keeps N c.event m
-        → Walked L X (noted f (simple_out (plain (code_is k)) v (texts_at X c.used)) (events_at L c.event)) c N (Go (record { event = c.event + 1; used = c.used; bits = c.bits + n.size })) M
+        → Walked L X (noted f (simple_out (plain (code_is k)) v (texts_at X c.used)) (events_at L c.event)) c N (Ok (record { event = c.event + 1; used = c.used; bits = c.bits + n.size })) M
     unfolding simple_out
     coded-go m i M g =
         let y = given in
         let long = coded-long n y.bits y.code.code in
         let few = coded-few in
-        noted-got L X c N f _ r b j z y.bits m M (record { event = c.event + 1; used = c.used; bits = c.bits + n.size }) (then _ y.out refl) (i.is X ∙ y.code.code.is) g refl (omega arith) (omega arith) r.used (omega arith)
+        noted-got L X c N f _ r z y.bits m M (record { event = c.event + 1; used = c.used; bits = c.bits + n.size }) (then _ y.out refl) (i.is X ∙ y.code.code.is) g refl (omega arith) (omega arith) r.used (omega arith)
 
-pub ruleset coded-ways = (noted-unlike, judged-few, judged-room, coded-fault, coded-few, coded-low, coded-go, coded-fits)
+pub ruleset coded_ways = (fine, faulty, noted-unlike, judged-few, judged-room, coded-fault, coded-few, coded-low, coded-go, coded-fits)
 
 -- text_fault
 module _ (X : List ℕ) (used v : ℕ) where
@@ -105,7 +102,7 @@ module _ (X : List ℕ) (used v : ℕ) where
           let z : used + v - used ≡ v = omega arith in
           rw (le-leb v most_text h, le-leb v (length (drop used X)) (omega (arith, length-drop used X))) (e ∙ ap text_fault (f ∙ rw z))
 
-pub ruleset text-fault-ways = (text-long, text-short, text-checked)
+pub ruleset text_fault_ways = (text-long, text-short, text-checked)
 
 -- text_value
 text-tested : (v : ℕ) (T : List ℕ) (w : ℕ) → w ≡ cond (leb v most_text) (cond (leb v (length T)) (text_fault (take v T)) text_bytes) outside_row
@@ -135,32 +132,32 @@ drop-drop zero b l = let e : 0 + b ≡ b = omega arith in rw e
 drop-drop (suc a) b [] = drop-nil b ∙ sym (drop-nil (suc a + b))
 drop-drop (suc a) b (x ∷ l) = drop-drop a b l ∙ let e : suc a + b ≡ suc (a + b) = omega arith in rw e
 
-module _ (L X : List ℕ) (c : Spot) (N : List ℕ) (v : ℕ) (r : Ready L X N c) (b : ℕ) (j : b ≡ judged L c.event (wanted kinds.value v 0)) (z : b ≤ 0) (w : ℕ) (e : w ≡ text_wrong X c.used v) where
-  tested : (0 < w → simple_out text v (texts_at X c.used) ≡ fault w)
+module _ (L X : List ℕ) (c : Spot) (N : List ℕ) (v : ℕ) (r : Ready L X N c) (z : 0 ≡ judged L c.event (wanted kinds.value v 0)) where
+  tested : (w : ℕ) → w ≡ text_wrong X c.used v → (0 < w → simple_out text v (texts_at X c.used) ≡ fault w)
       × (w ≡ 0 → (simple_out text v (texts_at X c.used) ≡ got (code5 v ++ bytes (take v (texts_at X c.used)), drop v (texts_at X c.used))) × (v ≤ most_text) × (v ≤ length (texts_at X c.used)))
   unfolding text_wrong
-  tested = text-tested v (texts_at X c.used) w e
+  tested w e = text-tested v (texts_at X c.used) w e
 
-  pub text-refused : 0 < w → Walked L X (noted (wanted kinds.value v 0) (simple_out text v (texts_at X c.used)) (events_at L c.event)) c N (Refuse w c.event) N
-  text-refused p = noted-fault L X c N (wanted kinds.value v 0) _ r b j z w (tested.0 p)
+  pub text-refused : (e : Refusal) → number_of e ≡ text_wrong X c.used v → Walked L X (noted (wanted kinds.value v 0) (simple_out text v (texts_at X c.used)) (events_at L c.event)) c N (Err (record { why = e; at = c.event })) N
+  text-refused e p = noted-fault L X c N (wanted kinds.value v 0) _ r z e ((tested (number_of e) p).0 (some e))
 
-  module _ (y : w ≤ 0) where
-    fine : (v ≤ most_text) × (c.used + v ≤ length X)
+  module _ (y : 0 ≡ text_wrong X c.used v) where
+    text-fine : (v ≤ most_text) × (c.used + v ≤ length X)
     unfolding texts_at
-    fine = let t = tested.1 (none y) in let u = r.used in (t.1, omega (arith, t.2, length-drop c.used X))
+    text-fine = let t = (tested 0 y).1 refl in let u = r.used in (t.1, omega (arith, t.2, length-drop c.used X))
 
     pub text-small : v ≤ most_text
-    text-small = fine.0
+    text-small = text-fine.0
 
     pub text-place : c.used < 2 ^ 32
     text-place = let a = r.short in let d = r.few in let i = r.inside in omega arith
 
     pub text-end : FitsIn w64 (c.used + v)
-    text-end = let a = r.short in let d = r.few in let i = r.inside in let f = fine.0 in record { fits = omega arith }
+    text-end = let a = r.short in let d = r.few in let i = r.inside in let f = text-fine.0 in record { fits = omega arith }
 
     module _ (k : Bits) (l : k.0 ≡ length (code5 v)) (s : v < 2 ^ 32) where
       text-sum : c.bits + k.0 + 8 * v < 2 ^ 32
-      text-sum = let f = fine.0 in let a = r.small in let d = r.few in let i = r.inside in let g = code5-short v s in omega arith
+      text-sum = let f = text-fine.0 in let a = r.small in let d = r.few in let i = r.inside in let g = code5-short v s in omega arith
 
       pub text-part : FitsIn w32 (c.bits + k.0)
       text-part = let t = text-sum in record { fits = omega arith }
@@ -172,22 +169,22 @@ module _ (L X : List ℕ) (c : Spot) (N : List ℕ) (v : ℕ) (r : Ready L X N c
       text-bits = let t = text-sum in record { fits = omega arith }
 
       pub text-go : (n : ℕ) (M : List ℕ) → n ≡ text_note v c.used → M ≡ keeps N c.event n
-          → Walked L X (noted (wanted kinds.value v 0) (simple_out text v (texts_at X c.used)) (events_at L c.event)) c N (Go (record { event = c.event + 1; used = c.used + v; bits = c.bits + k.0 + 8 * v })) M
+          → Walked L X (noted (wanted kinds.value v 0) (simple_out text v (texts_at X c.used)) (events_at L c.event)) c N (Ok (record { event = c.event + 1; used = c.used + v; bits = c.bits + k.0 + 8 * v })) M
       unfolding texts_at
       text-go n M m p =
-          let t = tested.1 (none y) in
-          let f = fine in
+          let t = (tested 0 y).1 refl in
+          let f = text-fine in
           let few = t.1 in
           let long : length (take v (drop c.used X)) ≡ v = length-take v (drop c.used X) ∙ omega (arith, t.2) in
           let size = length-append (code5 v) (bytes (take v (drop c.used X))) in
           let size8 = length-bytes (take v (drop c.used X)) in
           let five5 = code5-short v s in
-          noted-got L X c N (wanted kinds.value v 0) _ r b j z (code5 v ++ bytes (take v (drop c.used X))) n M (record { event = c.event + 1; used = c.used + v; bits = c.bits + k.0 + 8 * v })
+          noted-got L X c N (wanted kinds.value v 0) _ r z (code5 v ++ bytes (take v (drop c.used X))) n M (record { event = c.event + 1; used = c.used + v; bits = c.bits + k.0 + 8 * v })
           (t.0 ∙ ap (λ (u : List ℕ). got (code5 v ++ bytes (take v (drop c.used X)), u)) (drop-drop c.used v X))
           (rw m (note-counted X v c.used few text-place))
           p refl (omega arith) (omega arith) f.1 (omega arith)
 
-pub ruleset text-ways = (noted-unlike, judged-few, judged-room, text-refused, text-small, text-place, text-end, text-eight, text-part, text-bits, text-go)
+pub ruleset text_ways = (fine, faulty, noted-unlike, judged-few, judged-room, text-refused, text-small, text-place, text-end, text-eight, text-part, text-bits, text-go)
 
 -- note_date: the milliseconds are those of the event's second word
 cut_off : (l m a b : List ℕ) → length l ≡ length m → l ++ a ≡ m ++ b → a ≡ b
@@ -203,37 +200,37 @@ same-clock true days ms p q s e =
     let g = got-fits (stamp true) (joined p q) (digits 32 days ++ digits 32 ms) (sym e) in
     go (day_in (joined p q)) refl g.0 g.1
   where
-    go : (d : Day) → day_in (joined p q) ≡ d → fits (stamp true) (joined p q) ≡ true → digits 32 days ++ digits 32 ms ≡ bits_of (stamp true) (joined p q) → digits 32 days ++ digits 32 (q % 134217728) ≡ digits 32 days ++ digits 32 ms
-    go (Number n) w f g =
+    go : (d : Option ℕ) → day_in (joined p q) ≡ d → fits (stamp true) (joined p q) ≡ true → digits 32 days ++ digits 32 ms ≡ bits_of (stamp true) (joined p q) → digits 32 days ++ digits 32 (q % 134217728) ≡ digits 32 days ++ digits 32 ms
+    go (Some n) w f g =
         let k : clock_in (joined p q) ≡ q % 134217728 = omega arith in
         let h : digits 32 days ++ digits 32 ms ≡ digits 32 n ++ digits 32 (q % 134217728) = g ∙ rw (w, k) in
         ap (λ (l : List ℕ). digits 32 days ++ l) (sym (cut_off (digits 32 days) (digits 32 n) (digits 32 ms) (digits 32 (q % 134217728)) (length_digits 32 days ∙ sym (length_digits 32 n)) h))
-    go Nothing w f g = absurd (let z : false ≡ true = sym (rw w) ∙ f in true≢false (sym z))
+    go None w f g = absurd (let z : false ≡ true = sym (rw w) ∙ f in true≢false (sym z))
 
-module _ (L X : List ℕ) (c : Spot) (N : List ℕ) (clock : Bool) (p q : ℕ) (r : Ready L X N c) (b : ℕ) (j : b ≡ judged L c.event (wanted kinds.value p q)) (z : b ≤ 0)
-    (s : stamp_t.Stamp) (e : stamp_is clock s ≡ code_out (stamp clock) (joined p q)) where
-  pub date-refused : (n : ℕ) → s ≡ tv.Refuse n
-      → Walked L X (noted (wanted kinds.value p q) (simple_out (dated (stamp clock)) (joined p q) (texts_at X c.used)) (events_at L c.event)) c N (Refuse n c.event) N
+module _ (L X : List ℕ) (c : Spot) (N : List ℕ) (clock : Bool) (p q : ℕ) (r : Ready L X N c) (z : 0 ≡ judged L c.event (wanted kinds.value p q))
+    (s : Stamping) (e : stamp_is clock s ≡ code_out (stamp clock) (joined p q)) where
+  pub date-refused : (n : Refusal) → s ≡ Err n
+      → Walked L X (noted (wanted kinds.value p q) (simple_out (dated (stamp clock)) (joined p q) (texts_at X c.used)) (events_at L c.event)) c N (Err (record { why = n; at = c.event })) N
   unfolding simple_out stamp_is
-  date-refused n w = noted-fault L X c N (wanted kinds.value p q) _ r b j z n (then-fault _ (sym e ∙ rw w))
+  date-refused n w = noted-fault L X c N (wanted kinds.value p q) _ r z n (then-fault _ (sym e ∙ rw w))
 
-  module _ (days ms : ℕ) (w : s ≡ tv.Takes days ms) (h : SizedNote) (g : DateNote h (stamp_bits clock days (q % 134217728))) where
+  module _ (day : Stamp) (w : s ≡ Ok day) (h : SizedNote) (g : DateNote h (stamp_bits clock day.days (q % 134217728))) where
     pub date-fits : FitsIn w32 (c.bits + h.bits)
     date-fits = let k = g.short in let a = r.small in let d = r.few in let i = r.inside in record { fits = omega arith }
 
     pub date-go : (n : ℕ) (M : List ℕ) → q < 2 ^ 32 → n ≡ h.note → M ≡ keeps N c.event n
         → Walked L X (noted (wanted kinds.value p q) (simple_out (dated (stamp clock)) (joined p q) (texts_at X c.used)) (events_at L c.event)) c N
-        (Go (record { event = c.event + 1; used = c.used; bits = c.bits + h.bits })) M
+        (Ok (record { event = c.event + 1; used = c.used; bits = c.bits + h.bits })) M
     unfolding simple_out stamp_is
     date-go n M small m k =
-        let out : code_out (stamp clock) (joined p q) ≡ got (stamp_bits clock days ms) = sym e ∙ rw w in
-        let same = same-clock clock days ms p q small (sym out) in
-        let long : h.bits ≡ length (stamp_bits clock days ms) = g.long ∙ ap length same in
+        let out : code_out (stamp clock) (joined p q) ≡ got (stamp_bits clock day.days day.ms) = sym e ∙ rw w in
+        let same = same-clock clock day.days day.ms p q small (sym out) in
+        let long : h.bits ≡ length (stamp_bits clock day.days day.ms) = g.long ∙ ap length same in
         let few = g.short in
-        noted-got L X c N (wanted kinds.value p q) _ r b j z (stamp_bits clock days ms) n M (record { event = c.event + 1; used = c.used; bits = c.bits + h.bits })
+        noted-got L X c N (wanted kinds.value p q) _ r z (stamp_bits clock day.days day.ms) n M (record { event = c.event + 1; used = c.used; bits = c.bits + h.bits })
         (then _ out refl) (rw m (g.note.is X ∙ same)) k refl (omega arith) (omega arith) r.used (omega arith)
 
-pub ruleset date-ways = (noted-unlike, judged-few, judged-room, date-refused, date-fits, date-go)
+pub ruleset date_ways = (fine, faulty, noted-unlike, judged-few, judged-room, date-refused, date-fits, date-go)
 
 -- value, pick, count: an item by itself is an event noted
 module _ (L X : List ℕ) (c : Spot) (N : List ℕ) (s : Judgement) (M : List ℕ) where
@@ -284,32 +281,32 @@ module _ (L X : List ℕ) (c : Spot) (N : List ℕ) (s : Judgement) (M : List �
 
 -- where a kind is judged, so is every item of that kind; else its words are there
 module _ (L X : List ℕ) (c : Spot) (N : List ℕ) (r : Ready L X N c) where
-  pub item-unlike : (i : Item) (k b : ℕ) → (as_item i (event_at L c.event)).kind ≡ k → KindJudged L c.event k b → 0 < b → Walks L X (alone i) c N (Refuse b c.event) N
-  item-unlike i k b e h p =
+  pub item-unlike : (i : Item) (k : ℕ) (y : Refusal) → (as_item i (event_at L c.event)).kind ≡ k → KindJudged L c.event k (number_of y) → Walks L X (alone i) c N (Err (record { why = y; at = c.event })) N
+  item-unlike i k y e h =
       let f = as_item i (event_at L c.event) in
-      let j : b ≡ judged L c.event f = h.wrong p f.p f.q ∙ ap (λ (x : ℕ). judged L c.event (wanted x f.p f.q)) (sym e) in
-      item-as L X c N (Refuse b c.event) N i f _ refl refl (noted-unlike L X c N f _ r b j p)
+      let j : number_of y ≡ judged L c.event f = h.wrong (some y) f.p f.q ∙ ap (λ (x : ℕ). judged L c.event (wanted x f.p f.q)) (sym e) in
+      item-as L X c N (Err (record { why = y; at = c.event })) N i f _ refl refl (noted-unlike L X c N f _ r y j)
 
-  pub value-unlike : (simple b d n : ℕ) → KindJudged L c.event 3 n → 0 < n → Walks L X (alone (valued simple b d)) c N (Refuse n c.event) N
+  pub value-unlike : (simple b d : ℕ) (y : Refusal) → KindJudged L c.event 3 (number_of y) → Walks L X (alone (valued simple b d)) c N (Err (record { why = y; at = c.event })) N
   unfolding event_of
-  value-unlike simple b d n h p = item-unlike (valued simple b d) 3 n refl h p
+  value-unlike simple b d y h = item-unlike (valued simple b d) 3 y refl h
 
-  pub picked-unlike : (m n : ℕ) → KindJudged L c.event 4 n → 0 < n → Walks L X (alone (picked m)) c N (Refuse n c.event) N
+  pub picked-unlike : (m : ℕ) (y : Refusal) → KindJudged L c.event 4 (number_of y) → Walks L X (alone (picked m)) c N (Err (record { why = y; at = c.event })) N
   unfolding event_of
-  picked-unlike m n h p = item-unlike (picked m) 4 n refl h p
+  picked-unlike m y h = item-unlike (picked m) 4 y refl h
 
-  pub counted-unlike : (least most n : ℕ) → KindJudged L c.event 5 n → 0 < n → Walks L X (alone (counted least most)) c N (Refuse n c.event) N
+  pub counted-unlike : (least most : ℕ) (y : Refusal) → KindJudged L c.event 5 (number_of y) → Walks L X (alone (counted least most)) c N (Err (record { why = y; at = c.event })) N
   unfolding event_of
-  counted-unlike least most n h p = item-unlike (counted least most) 5 n refl h p
+  counted-unlike least most y h = item-unlike (counted least most) 5 y refl h
 
-pub picked-spelt : (n v : ℕ) (s : spelling_t.Spelling) → Spelt 40 (code_out (inner_is (iv.Choice n)) v) s → Spelt 41 (code_out (code_is (cv.Plain (iv.Choice n))) v) s
+pub picked-spelt : (n v : ℕ) (s : Spelling) → Spelt 40 (code_out (inner_is (iv.Choice n)) v) s → Spelt 41 (code_out (code_is (cv.Plain (iv.Choice n))) v) s
 picked-spelt n v s h = number-plain (cv.Plain (iv.Choice n)) v s (iv.Choice n) refl h
 
-pub counted-spelt : (least most v : ℕ) (code : code_t.Code) → code_is code ≡ times_code least most → (s : spelling_t.Spelling) → Spelt 41 (code_out (times_code least most) v) s → Spelt 41 (code_out (code_is code) v) s
+pub counted-spelt : (least most v : ℕ) (code : code_t.Code) → code_is code ≡ times_code least most → (s : Spelling) → Spelt 41 (code_out (times_code least most) v) s → Spelt 41 (code_out (code_is code) v) s
 counted-spelt least most v code e s h = rw e h
 
-pub ruleset value-ways = (value-unlike, kind-first, kind-second, value-number, value-text, value-dated)
+pub ruleset value_ways = (kind-fine, kind-faulty, value-unlike, word-first, word-second, value-number, value-text, value-dated)
 
-pub ruleset pick-ways = (picked-unlike, kind-first, kind-second, picked-spelt, picked-way)
+pub ruleset pick_ways = (kind-fine, kind-faulty, picked-unlike, word-first, word-second, picked-spelt, picked-way)
 
-pub ruleset count-ways = (counted-unlike, kind-first, kind-second, counted-spelt, counted-way)
+pub ruleset count_ways = (kind-fine, kind-faulty, counted-unlike, word-first, word-second, counted-spelt, counted-way)

@@ -13,26 +13,27 @@ use Rattle.model.proofs.OutLaws.{along_then, put_then}
 use Rattle.model.specs.WriteSteps.{item_then}
 use Rattle.model.specs.Whole.{event_at, events_from}
 use Rattle.writer_parts.specs.declared.Spot.{Spot}
-use Rattle.writer_parts.specs.declared.Judgement.{Judgement}
-use Rattle.writer_parts.specs.declared.Judgement.TheVariants.{Go, Refuse}
+use Rattle.std.specs.Prelude.{Ok, Err}
+use Rattle.numbers.specs.declared.refusal.Fault.{Fault}
+use Rattle.numbers.specs.Refused.{number_of}
 use Rattle.writer_parts.specs.Notes.{spells}
 use Rattle.writer_parts.proofs.NoteLaws.{spells-none, spells-by, spells-same}
-use Rattle.writer_parts.specs.Walk.{events_in, events_at, texts_at, Ready, between, Went, Stopped, Walked, judged, noted, alone}
+use Rattle.writer_parts.specs.Walk.{Judgement, events_in, events_at, texts_at, Ready, between, Went, Stopped, Walked, judged, noted, alone}
 
 -- an answer that goes on, or stops
 module _ {L X : List ℕ} {o : Out} {c : Spot} {N : List ℕ} {r : Judgement} {M : List ℕ} (h : Walked L X o c N r M) where
-  pub went : (e : Spot) → r ≡ Go e → Went L X o c N e M
+  pub went : (e : Spot) → r ≡ Ok e → Went L X o c N e M
   went e w = rw w at h.is
 
-  pub stopped : (n at : ℕ) → r ≡ Refuse n at → Stopped L o n at
-  stopped n at w = rw w at h.is
+  pub stopped : (f : Fault ℕ) → r ≡ Err f → Stopped L o (number_of f.why) f.at
+  stopped f w = rw w at h.is
 
 -- the same meaning in other words
 pub walked_as : {L X : List ℕ} {o p : Out} {c : Spot} {N : List ℕ} (r : Judgement) {M : List ℕ} → o ≡ p → Walked L X p c N r M → Walked L X o c N r M
 walked_as r e h = rw e h
 
 -- nothing is walked
-pub stays : (L X : List ℕ) (c : Spot) (N : List ℕ) → Ready L X N c → Walked L X (wrote [] (events_at L c.event) (texts_at X c.used)) c N (Go c) N
+pub stays : (L X : List ℕ) (c : Spot) (N : List ℕ) → Ready L X N c → Walked L X (wrote [] (events_at L c.event) (texts_at X c.used)) c N (Ok c) N
 stays L X c N r =
     let z : c.event - c.event ≡ 0 = omega arith in
     let e : between X N c c ≡ [] = rw z (spells-none X N c.event) in
@@ -40,13 +41,13 @@ stays L X c N r =
 
 -- one part after another
 module _ (L X : List ℕ) (o : Out) (k : List Bare → List ℕ → Out) (c : Spot) (N : List ℕ) (r : Judgement) (M : List ℕ) (h : Walked L X o c N r M) where
-  pub along-stop : (n at : ℕ) → r ≡ Refuse n at → Walked L X (along o k) c N r M
+  pub along-stop : (f : Fault ℕ) → r ≡ Err f → Walked L X (along o k) c N r M
   unfolding along
-  along-stop n at w = let s = stopped h n at w in rw w (record { is = record { out = rw s.out; inside = s.inside } })
+  along-stop f w = let s = stopped h f w in rw w (record { is = record { out = rw s.out; inside = s.inside } })
 
-  pub along-go : (e : Spot) → r ≡ Go e → (s : Judgement) (K : List ℕ) → Walked L X (k (events_at L e.event) (texts_at X e.used)) e M s K → Walked L X (along o k) c N s K
+  pub along-go : (e : Spot) → r ≡ Ok e → (s : Judgement) (K : List ℕ) → Walked L X (k (events_at L e.event) (texts_at X e.used)) e M s K → Walked L X (along o k) c N s K
   unfolding put
-  along-go e w (Go f) K y =
+  along-go e w (Ok f) K y =
       let b = y.is in
       let a = went h e w in
       let same : spells X K c.event (e.event - c.event) ≡ spells X M c.event (e.event - c.event) = spells-same X M K c.event (e.event - c.event) (λ j g i. b.before j (omega arith)) in
@@ -60,7 +61,7 @@ module _ (L X : List ℕ) (o : Out) (k : List Bare → List ℕ → Out) (c : Sp
           before = λ j g. b.before j (omega (arith, a.onward)) ∙ a.before j g;
         };
       }
-  along-go e w (Refuse n at) K y =
+  along-go e w (Err f) K y =
       let a = went h e w in
       let b = y.is in
       record { is = record { out = along_then k a.out (rw b.out); inside = b.inside } }

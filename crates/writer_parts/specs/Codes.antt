@@ -1,4 +1,7 @@
 -- What the functions of an element's codes promise: what there is to choose from, both codes as a note, and the walk past them.
+use Rattle.std.specs.Prelude.{Result, Ok, Err}
+use Rattle.numbers.specs.declared.refusal.Fault.{Fault}
+use Rattle.numbers.specs.Refused.{number_of}
 use Rattle.std.specs.Prelude.{ℕ, ◌+◌, ◌-◌, ◌<◌, ◌≤◌, ◌≡◌, true, false, List, length, get_or}
 use Rattle.wire.specs.Res.{fault}
 use Rattle.wire.specs.declared.Coded.{Coded}
@@ -9,11 +12,7 @@ use Rattle.model.specs.Model.{Types, chosen, codes}
 use Rattle.model.specs.Write.{Bare, Out, refused, place_in, standing, codes_out, casts}
 use Rattle.model.specs.declared.Choices.{Choices}
 use Rattle.writer_parts.specs.declared.Spot.{Spot}
-use Rattle.writer_parts.specs.declared.Spelling as spelling_t
-use Rattle.writer_parts.specs.declared.Spelling.TheVariants as sv
-use Rattle.writer_parts.specs.declared.Cast as cast_t
-use Rattle.writer_parts.specs.declared.Cast.TheVariants as cv
-use Rattle.writer_parts.specs.Notes.{Gives}
+use Rattle.writer_parts.specs.Notes.{Gives, Spelling}
 use Rattle.writer_parts.specs.Walk.{events_in, events_at, between, Ready}
 
 -- who looks for a row's substitutes has a row of the table; who looks for nothing, for neither
@@ -41,11 +40,11 @@ pub record Spelled (l : List ℕ) (y : Types) (type k : ℕ) (c : Coded) : Type 
   pub gives : Gives 22 (codes_out y type k) c
   pub known : type < types_in l
 
-abbrev pub SpellsIs : List ℕ → Types → (type k : ℕ) → spelling_t.Spelling → Type 0
-SpellsIs l y type k (sv.Refuse n) = codes_out y type k ≡ fault n
-SpellsIs l y type k (sv.Code c) = Spelled l y type k c
+abbrev pub SpellsIs : List ℕ → Types → (type k : ℕ) → Spelling → Type 0
+SpellsIs l y type k (Err e) = codes_out y type k ≡ fault (number_of e)
+SpellsIs l y type k (Ok c) = Spelled l y type k c
 
-pub record Spells (l : List ℕ) (y : Types) (type k : ℕ) (r : spelling_t.Spelling) : Type 0 where
+pub record Spells (l : List ℕ) (y : Types) (type k : ℕ) (r : Spelling) : Type 0 where
   pub is : SpellsIs l y type k r
 
 -- past the codes of an element from the cursor c on: whatever comes of its effective type, the codes' bits and the events left
@@ -63,10 +62,13 @@ pub record Stopped (L : List ℕ) (y : Types) (c : Spot) (number at : ℕ) : Typ
   pub out : (k : ℕ → List ℕ → List Bare → Out) → casts (codes y) y (events_at L c.event) k ≡ refused number (events_in L - at)
   pub inside : at ≤ events_in L
 
-abbrev pub CastsIs : (l L X : List ℕ) → Types → Spot → List ℕ → cast_t.Cast → List ℕ → Type 0
-CastsIs l L X y c N (cv.To type e) M = Went l L X y c N type e M
-CastsIs l L X y c N (cv.Refuse n at) M = Stopped L y c n at
+abbrev pub Cast : Type 0
+Cast = Result (ℕ × Spot) (Fault ℕ)
+
+abbrev pub CastsIs : (l L X : List ℕ) → Types → Spot → List ℕ → Cast → List ℕ → Type 0
+CastsIs l L X y c N (Ok (type, e)) M = Went l L X y c N type e M
+CastsIs l L X y c N (Err f) M = Stopped L y c (number_of f.why) f.at
 
 -- table, words, texts, what there is to choose from, cursor and notes before, answer, notes after
-pub record Casts (l L X : List ℕ) (y : Types) (c : Spot) (N : List ℕ) (r : cast_t.Cast) (M : List ℕ) : Type 0 where
+pub record Casts (l L X : List ℕ) (y : Types) (c : Spot) (N : List ℕ) (r : Cast) (M : List ℕ) : Type 0 where
   pub is : CastsIs l L X y c N r M

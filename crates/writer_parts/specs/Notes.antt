@@ -1,4 +1,7 @@
 -- What notes spell: the bits of a note, and of the notes of n events from event i on. X are all the texts.
+use Rattle.std.specs.Prelude.{Result, Ok, Err}
+use Rattle.numbers.specs.declared.refusal.Refusal.{Refusal}
+use Rattle.numbers.specs.Refused.{number_of}
 use Rattle.std.specs.Prelude.{ℕ, zero, suc, ◌+◌, ◌-◌, ◌*◌, ◌/◌, ◌%◌, ◌^◌, ◌≤◌, ◌≡◌, cond, List, [], ◌++◌, ltb, length, get_or, set, take, drop}
 use Rattle.wire.specs.Res.{Res, got, fault}
 use Rattle.wire.specs.Bits.{digits}
@@ -8,8 +11,6 @@ use Rattle.wire.specs.declared.Coded.{Coded}
 use Rattle.value.specs.Simple.{bytes}
 use Rattle.numbers.specs.Limit.{most_derivations}
 use Rattle.writer_parts.specs.declared.SizedNote.{SizedNote}
-use Rattle.writer_parts.specs.declared.Spelling as spelling_t
-use Rattle.writer_parts.specs.declared.Spelling.TheVariants as sv
 
 -- where the notes of texts begin, and those of dates with a clock
 abbrev pub texts_from : ℕ
@@ -70,11 +71,14 @@ pub record Gives (most : ℕ) (m : Res (List ℕ)) (c : Coded) : Type 0 where
   pub out : m ≡ got bits
   pub code : Short most c bits
 
-abbrev pub SpeltIs : ℕ → Res (List ℕ) → spelling_t.Spelling → Type 0
-SpeltIs most m (sv.Refuse n) = m ≡ fault n
-SpeltIs most m (sv.Code c) = Gives most m c
+abbrev pub Spelling : Type 0
+Spelling = Result Coded Refusal
 
-pub record Spelt (most : ℕ) (m : Res (List ℕ)) (r : spelling_t.Spelling) : Type 0 where
+abbrev pub SpeltIs : ℕ → Res (List ℕ) → Spelling → Type 0
+SpeltIs most m (Err e) = m ≡ fault (number_of e)
+SpeltIs most m (Ok c) = Gives most m c
+
+pub record Spelt (most : ℕ) (m : Res (List ℕ)) (r : Spelling) : Type 0 where
   pub is : SpeltIs most m r
 
 -- a text's note

@@ -1,5 +1,7 @@
 -- What stands before an element's rows: its attributes, with the value of one that is present, then its own value; and these as slots, as the code goes
 -- through them.
+use Rattle.std.specs.Prelude.{Result, Ok, Err}
+use Rattle.numbers.specs.declared.refusal.Fault.{Fault}
 use Rattle.std.specs.Prelude.{ℕ, zero, suc, ◌+◌, ◌≡◌, Bool, true, false, cond, List, [], ◌∷◌, ltb}
 use Rattle.table.specs.Rows.{Attribute, Content, table_of, attribute_of}
 use Rattle.table.specs.Rows.Content.{empty, simple, particles}
@@ -7,13 +9,11 @@ use Rattle.model.specs.Model.{Item}
 use Rattle.model.specs.Model.Item.{required, optional, valued}
 use Rattle.model.specs.Write.{Bare, Out, wrote, along}
 use Rattle.model.specs.WriteSteps.{item_then}
-use Rattle.writer_parts.specs.declared.Judgement.{Judgement}
-use Rattle.writer_parts.specs.declared.Judgement.TheVariants.{Go, Refuse}
 use Rattle.writer_parts.specs.declared.Spot.{Spot}
 use Rattle.writer_parts.specs.declared.attributes.Slot.{Slot}
 use Rattle.writer_parts.specs.declared.attributes.Marked.{Marked}
 use Rattle.writer_parts.specs.declared.attributes.Marked.TheVariants as mv
-use Rattle.writer_parts.specs.Walk.{Ready, Walks, alone}
+use Rattle.writer_parts.specs.Walk.{Judgement, Ready, Walks, alone}
 
 -- the value of an attribute that is there, or nothing
 unfoldable pub present : ℕ → (simple b c : ℕ) → List Bare → List ℕ → Out
@@ -65,11 +65,11 @@ pub record Slots (t : List ℕ) (ty first n i : ℕ) (s : Slot) : Type 0 where
   pub is : (M : List Bare) (X : List ℕ) → slot· s M X ≡ slot_at· t ty first n i M X
 
 -- past a slot's flag: whatever its value comes to, or that none comes
-abbrev pub MarksIs : (L X : List ℕ) → Slot → Spot → List ℕ → Marked → List ℕ → Type 0
-MarksIs L X s c N (mv.Value e) M =
+abbrev pub MarksIs : (L X : List ℕ) → Slot → Spot → List ℕ → Result Marked (Fault ℕ) → List ℕ → Type 0
+MarksIs L X s c N (Ok (mv.Value e)) M =
     (Ready L X M e) × ((r : Judgement) (K : List ℕ) → Walks L X (alone (valued s.simple s.b s.c)) e M r K → Walks L X (slot· s) c N r K)
-MarksIs L X s c N (mv.Nothing e) M = Walks L X (slot· s) c N (Go e) M
-MarksIs L X s c N (mv.Refuse n i) M = Walks L X (slot· s) c N (Refuse n i) M
+MarksIs L X s c N (Ok (mv.Nothing e)) M = Walks L X (slot· s) c N (Ok e) M
+MarksIs L X s c N (Err f) M = Walks L X (slot· s) c N (Err f) M
 
-pub record Marks (L X : List ℕ) (s : Slot) (c : Spot) (N : List ℕ) (r : Marked) (M : List ℕ) : Type 0 where
+pub record Marks (L X : List ℕ) (s : Slot) (c : Spot) (N : List ℕ) (r : Result Marked (Fault ℕ)) (M : List ℕ) : Type 0 where
   pub is : MarksIs L X s c N r M

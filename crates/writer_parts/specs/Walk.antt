@@ -1,5 +1,10 @@
 -- What a function of the walk promises: where it goes on, the writing gave bits which the notes now spell, with the events and texts from there
 -- on left over; where it stops, the writing was refused so.
+use Rattle.std.specs.Prelude.{Result, Ok, Err}
+use Rattle.numbers.specs.declared.refusal.Fault.{Fault}
+use Rattle.numbers.specs.declared.refusal.Refusal.{Refusal}
+use Rattle.writer_parts.specs.declared.judging.Words.{Words}
+use Rattle.numbers.specs.Refused.{number_of}
 use Rattle.std.specs.Prelude.{ℕ, suc, ◌+◌, ◌-◌, ◌*◌, ◌/◌, ◌<◌, ◌≤◌, ◌≡◌, cond, List, [], ltb, leb, length, get_or, take, drop}
 use Rattle.numbers.specs.Refusal.{no_reading, outside_row, text_bytes}
 use Rattle.numbers.specs.Limit.{most_events, most_text}
@@ -10,8 +15,6 @@ use Rattle.model.specs.Write.{Bare, Out, wrote, refused, unlike, taken, coded}
 use Rattle.model.specs.WriteSteps.{item_then}
 use Rattle.model.specs.Whole.{event_at, events_from}
 use Rattle.writer_parts.specs.declared.Spot.{Spot}
-use Rattle.writer_parts.specs.declared.Judgement.{Judgement}
-use Rattle.writer_parts.specs.declared.Judgement.TheVariants.{Go, Refuse}
 use Rattle.writer_parts.specs.Notes.{spells}
 
 -- how many events the words L are; events and texts from a cursor on
@@ -48,9 +51,13 @@ pub record Stopped (L : List ℕ) (o : Out) (number at : ℕ) : Type 0 where
   pub out : o ≡ refused number (events_in L - at)
   pub inside : at ≤ events_in L
 
+-- where the walk goes on, or what is refused and where
+abbrev pub Judgement : Type 0
+Judgement = Result Spot (Fault ℕ)
+
 abbrev pub Ended : List ℕ → List ℕ → Out → Spot → List ℕ → Judgement → List ℕ → Type 0
-Ended L X o c N (Go e) M = Went L X o c N e M
-Ended L X o c N (Refuse n at) M = Stopped L o n at
+Ended L X o c N (Ok e) M = Went L X o c N e M
+Ended L X o c N (Err f) M = Stopped L o (number_of f.why) f.at
 
 -- words, texts, what was to be written, cursor and notes before, answer, notes after
 pub record Walked (L X : List ℕ) (o : Out) (c : Spot) (N : List ℕ) (r : Judgement) (M : List ℕ) : Type 0 where
@@ -82,6 +89,14 @@ pub record KindJudged (L : List ℕ) (i kind b : ℕ) : Type 0 where
   pub wrong : 0 < b → (p q : ℕ) → b ≡ judged L i (wanted kind p q)
   pub there : b ≡ 0 → i < events_in L
   pub same : b ≡ 0 → kind ≡ get_or L (4 * i) 0
+
+-- the words of event i, where they were read
+abbrev pub WordsIs : (L : List ℕ) (i : ℕ) → Result Words Refusal → Type 0
+WordsIs L i (Ok e) = (e.p ≡ get_or L (4 * i + 1) 0) × (e.q ≡ get_or L (4 * i + 2) 0)
+WordsIs L i (Err e) = Unit {0}
+
+pub record WordsOf (L : List ℕ) (i : ℕ) (r : Result Words Refusal) : Type 0 where
+  pub is : WordsIs L i r
 
 -- one event taken as f, and bits and texts left as they were worked out, or their fault
 unfoldable pub noted : Bare → Res (List ℕ × List ℕ) → List Bare → Out

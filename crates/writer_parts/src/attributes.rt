@@ -7,10 +7,11 @@ ghost use Rattle.table.specs.Words.{types_in, attributes_in};
 ghost use Rattle.writer_parts.specs.Walk.{Ready, Walks, alone};
 ghost use Rattle.writer_parts.specs.Parts.{flag_item, slot·, values·, Slots, Marks};
 
-use crate::judging::{keep, unlike_kind};
+use crate::judging::{keep, of_kind};
 use crate::values::value;
 use crate::{Judgement, Spot};
-use numbers::{kind, refusal};
+use numbers::kind;
+use numbers::refusal::{Fault, Refusal};
 use table::{Content, inside};
 
 // An attribute with a flag event, of a name; or the type's own value, which has no flag. It is valued where a value may come.
@@ -25,15 +26,15 @@ pub struct Slot {
     pub c: u32,
 }
 
-// A slot's flag judged: its value comes next, or none; or number and event of a refusal.
+// A slot's flag judged: its value comes next, or none.
 #[derive(Clone, Copy)]
 pub enum Marked {
     Value(Spot),
     Nothing(Spot),
-    Refuse(u32, usize),
 }
 
 // The flag event of an attribute of a name: of one that must be there it takes no bits.
+#[tactic(auto, using(crate::proofs::AttributeWays::note_attribute_ways))]
 fn note_attribute(
     events: &[u32],
     texts: &[u8],
@@ -47,38 +48,41 @@ fn note_attribute(
         notes.new }
 {
     let at = c.event;
-    let bad = unlike_kind(events, at, kind::ATTRIBUTE);
-    if 0 < bad {
-        return Judgement::Refuse(bad, at);
-    }
-    let x = events[4 * at + 1];
-    let q = events[4 * at + 2];
-    if x != name {
-        return Judgement::Refuse(refusal::NO_READING, at);
+    let e = match of_kind(events, at, kind::ATTRIBUTE) {
+        Ok(e) => e,
+        Err(why) => {
+            return Err(Fault { why, at });
+        }
+    };
+    let q = e.q;
+    if e.p != name {
+        return Err(Fault {
+            why: Refusal::NoReading,
+            at,
+        });
     }
     if 1 < q {
-        return Judgement::Refuse(refusal::NO_READING, at);
+        return Err(Fault {
+            why: Refusal::NoReading,
+            at,
+        });
     }
-    let past = at + 1;
     if must {
         if q == 0 {
-            return Judgement::Refuse(refusal::NO_READING, at);
+            return Err(Fault {
+                why: Refusal::NoReading,
+                at,
+            });
         }
         keep(notes, at, 0);
-        let next = Spot {
-            event: past,
-            used: c.used,
-            bits: c.bits,
-        };
-        return Judgement::Go(next);
+        return Ok(Spot { event: at + 1, ..c });
     }
     keep(notes, at, 2199023255552 + (q as u64));
-    let next = Spot {
-        event: past,
-        used: c.used,
+    Ok(Spot {
+        event: at + 1,
         bits: c.bits + 1,
-    };
-    Judgement::Go(next)
+        ..c
+    })
 }
 
 // A type's own value where it has none.
@@ -97,6 +101,7 @@ fn no_value() -> Slot
 }
 
 // The slot i of type t, which has n attribute rows from first on: the last one is its own value.
+#[tactic(auto, using(crate::proofs::AttributeWays::slot_ways))]
 fn slot_at(table: &[u32], t: u32, first: u32, n: u32, i: u32) -> Slot
     requires { (verdict table.now ≡ right) × (t < types_in table.now) × (first + n ≤ attributes_in table.now) }
     ensures { Slots table.now t first n i result }
@@ -129,44 +134,52 @@ fn slot_at(table: &[u32], t: u32, first: u32, n: u32, i: u32) -> Slot
 }
 
 // A slot up to its value: its flag, where it has one.
-fn before_value(events: &[u32], texts: &[u8], notes: &mut [u64], c: Spot, s: Slot) -> Marked
+#[tactic(auto, using(crate::proofs::AttributeWays::before_value_ways))]
+fn before_value(
+    events: &[u32],
+    texts: &[u8],
+    notes: &mut [u64],
+    c: Spot,
+    s: Slot,
+) -> Result<Marked, Fault<usize>>
     requires { Ready events.now texts.now notes.old c }
     ensures { Marks events.now texts.now s c notes.old result notes.new }
 {
     if s.flagged {
         let at = c.event;
-        match note_attribute(events, texts, notes, c, s.name, s.must) {
-            Judgement::Refuse(n, i) => {
-                return Marked::Refuse(n, i);
-            }
-            Judgement::Go(e) => {
+        // No `?` here and below: with three of them 2,048 events written cost 9 in 100 more.
+        return match note_attribute(events, texts, notes, c, s.name, s.must) {
+            Err(fault) => Err(fault),
+            Ok(e) => {
                 let q = events[4 * at + 2];
                 if q == 1 {
-                    return Marked::Value(e);
+                    return Ok(Marked::Value(e));
                 }
-                return Marked::Nothing(e);
+                Ok(Marked::Nothing(e))
             }
-        }
+        };
     }
     if s.valued {
-        return Marked::Value(c);
+        return Ok(Marked::Value(c));
     }
-    Marked::Nothing(c)
+    Ok(Marked::Nothing(c))
 }
 
 // A slot: its flag, then its value if it is there.
+#[tactic(auto, using(crate::proofs::AttributeWays::part_ways))]
 fn part(events: &[u32], texts: &[u8], notes: &mut [u64], c: Spot, s: Slot) -> Judgement
     requires { Ready events.now texts.now notes.old c }
     ensures { Walks events.now texts.now (slot· s) c notes.old result notes.new }
 {
     match before_value(events, texts, notes, c, s) {
-        Marked::Refuse(n, i) => Judgement::Refuse(n, i),
-        Marked::Nothing(e) => Judgement::Go(e),
-        Marked::Value(e) => value(events, texts, notes, e, s.simple, s.b, s.c),
+        Err(fault) => Err(fault),
+        Ok(Marked::Nothing(e)) => Ok(e),
+        Ok(Marked::Value(e)) => value(events, texts, notes, e, s.simple, s.b, s.c),
     }
 }
 
 // What stands before the rows of an element of type t: its attributes, then its own value.
+#[tactic(auto, using(crate::proofs::AttributeWays::before_rows_ways))]
 pub fn before_rows(
     table: &[u32],
     events: &[u32],
@@ -185,15 +198,13 @@ pub fn before_rows(
     let first = s.first;
     let n = s.count;
     let mut cursor = c;
-    let mut i: u32 = 0;
-    while i <= n {
+    for i in 0..n + 1 {
         let z = slot_at(table, t, first, n, i);
         let r = part(events, texts, notes, cursor, z);
-        let Judgement::Go(e) = r else {
+        let Ok(e) = r else {
             return r;
         };
         cursor = e;
-        i += 1;
     }
-    Judgement::Go(cursor)
+    Ok(cursor)
 }

@@ -13,16 +13,18 @@ ghost use Rattle.writer_parts.specs.Notes.{Short, most_choices};
 ghost use Rattle.writer_parts.specs.Walk.{Ready};
 ghost use Rattle.writer_parts.specs.Codes.{Rowed, Lists, Chosen, Placed, Stands, Spells, Casts};
 
-use crate::judging::{keep, unlike};
+use crate::judging::{keep, of_kind};
 use crate::notes::{flagged, note_of};
 use crate::{Cast, Spelling, Spot};
 use model::Choices;
-use numbers::{kind, refusal};
+use numbers::kind;
+use numbers::refusal::{Fault, Refusal};
 use table::{TypeList, rows};
 use wire::Coded;
 use wire::choices::width;
 
 // None, or one of n, counted from 1: a bit for none, or a bit and the number less one; no bits where there are none.
+#[tactic(auto, using(crate::proofs::CodeWays::one_of_ways))]
 pub fn one_of(n: u32, k: u32) -> Coded
     requires { (n ≤ most_choices) × (k ≤ n) }
     ensures { Short 11 result (bits_of (one_of n) k) }
@@ -40,6 +42,7 @@ pub fn one_of(n: u32, k: u32) -> Coded
 }
 
 // One code behind another.
+#[tactic(auto, using(crate::proofs::CodeWays::pair_ways))]
 pub fn pair(a: Coded, b: Coded) -> Coded
     requires { (a.size ≤ 11) × (b.size ≤ 11) × (a.bits < 2 ^ a.size) × (b.bits < 2 ^ b.size) }
     ensures { Short 22 result (digits a.size a.bits ++ digits b.size b.bits) }
@@ -50,6 +53,7 @@ pub fn pair(a: Coded, b: Coded) -> Coded
 }
 
 // The type of substitute q, counted from 1; t where there is none.
+#[tactic(auto, using(crate::proofs::CodeWays::default_ways))]
 fn default_type(table: &[u32], swaps: TypeList, t: u32, q: u32) -> u32
     requires { (swaps.first < 4398046511104) × (q ≤ swaps.count) }
     ensures { Chosen table.now swaps t q result }
@@ -61,23 +65,21 @@ fn default_type(table: &[u32], swaps: TypeList, t: u32, q: u32) -> u32
 }
 
 // Where type p stands in a list, counted from 1; past the list where it is nowhere.
+#[tactic(auto, using(crate::proofs::CodeWays::place_ways))]
 fn place_in(table: &[u32], types: TypeList, p: u32) -> u32
     requires { (types.first < 4398046511104) × (types.count ≤ most_choices) }
     ensures { Placed table.now types p result }
 {
-    let n = types.count;
-    let mut i: u32 = 0;
-    while i < n {
-        let one = rows::listed(table, types, i);
-        if p == one {
+    for i in 0..types.count {
+        if p == rows::listed(table, types, i) {
             return i + 1;
         }
-        i += 1;
     }
-    n + 1
+    types.count + 1
 }
 
 // The same where a type t comes before the list, as 0.
+#[tactic(auto, using(crate::proofs::CodeWays::standing_ways))]
 fn standing(table: &[u32], types: TypeList, t: u32, p: u32) -> u32
     requires { (types.first < 4398046511104) × (types.count ≤ most_choices) }
     ensures { Stands table.now types t p result }
@@ -100,6 +102,7 @@ fn nothing() -> TypeList
 }
 
 // The types of a row's substitutes, where the table has any.
+#[tactic(auto, using(crate::proofs::CodeWays::lists_ways))]
 fn substitutes(table: &[u32], choices: Choices, row: u32) -> TypeList
     ensures { Lists table.now (cond choices.substitutes ((table_of table.now).substitutes row) [])
         result }
@@ -111,6 +114,7 @@ fn substitutes(table: &[u32], choices: Choices, row: u32) -> TypeList
 }
 
 // The derived types of type t, where type codes are sent.
+#[tactic(auto, using(crate::proofs::CodeWays::lists_ways))]
 fn derived(table: &[u32], choices: Choices, t: u32) -> TypeList
     ensures { Lists table.now (cond choices.derived ((table_of table.now).derived t) []) result }
 {
@@ -121,6 +125,7 @@ fn derived(table: &[u32], choices: Choices, t: u32) -> TypeList
 }
 
 // Whether an element of a row and a type has codes.
+#[tactic(auto, using(crate::proofs::CodeWays::due_ways))]
 fn due(table: &[u32], choices: Choices, t: u32, row: u32) -> bool
     requires { Rowed table.now choices row }
     ensures { result ≡ codes (types_by table.now choices t row) }
@@ -137,6 +142,7 @@ fn due(table: &[u32], choices: Choices, t: u32, row: u32) -> bool
 }
 
 // The codes of substitute q and effective type p; OUTSIDE_ROW where there is no such substitute, or p is neither its type nor derived from that.
+#[tactic(auto, using(crate::proofs::CodeWays::spell_ways))]
 fn spell(table: &[u32], choices: Choices, t: u32, row: u32, p: u32, q: u32) -> Spelling
     requires { (verdict table.now ≡ right) × (t < types_in table.now) × (Rowed table.now choices row) }
     ensures { Spells table.now (types_by table.now choices t row) p q result }
@@ -144,22 +150,23 @@ fn spell(table: &[u32], choices: Choices, t: u32, row: u32, p: u32, q: u32) -> S
     let swaps = substitutes(table, choices, row);
     let n = swaps.count;
     if n < q {
-        return Spelling::Refuse(refusal::OUTSIDE_ROW);
+        return Err(Refusal::OutsideRow);
     }
     let own = default_type(table, swaps, t, q);
     let types = derived(table, choices, own);
     let m = types.count;
     let k = standing(table, types, own, p);
     if m < k {
-        return Spelling::Refuse(refusal::OUTSIDE_ROW);
+        return Err(Refusal::OutsideRow);
     }
     let one = one_of(n, q);
     let two = one_of(m, k);
     let both = pair(one, two);
-    Spelling::Code(both)
+    Ok(both)
 }
 
 // The codes' event, where it is due: judged and noted.
+#[tactic(auto, using(crate::proofs::CodeWays::note_due_ways))]
 fn note_due(
     table: &[u32],
     events: &[u32],
@@ -179,30 +186,30 @@ fn note_due(
         (types_by table.now choices t row) c notes.old result notes.new }
 {
     let at = c.event;
-    let p = rows::word(events, 4 * at + 1);
-    let q = rows::word(events, 4 * at + 2);
-    let bad = unlike(events, at, kind::CAST, p, q);
-    if 0 < bad {
-        return Cast::Refuse(bad, at);
-    }
-    match spell(table, choices, t, row, p, q) {
-        Spelling::Refuse(e) => Cast::Refuse(e, at),
-        Spelling::Code(both) => {
+    let e = match of_kind(events, at, kind::CAST) {
+        Ok(e) => e,
+        Err(why) => {
+            return Err(Fault { why, at });
+        }
+    };
+    let p = e.p;
+    match spell(table, choices, t, row, p, e.q) {
+        Err(why) => Err(Fault { why, at }),
+        Ok(both) => {
             let note = note_of(both);
             keep(notes, at, note);
-            let past = at + 1;
-            let bits = c.bits + both.size;
             let next = Spot {
-                event: past,
-                used: c.used,
-                bits,
+                event: at + 1,
+                bits: c.bits + both.size,
+                ..c
             };
-            Cast::To(p, next)
+            Ok((p, next))
         }
     }
 }
 
 // The codes of an element of a row and a type whose Start was taken.
+#[tactic(auto, using(crate::proofs::CodeWays::codes_ways))]
 pub fn note_codes(
     table: &[u32],
     events: &[u32],
@@ -223,5 +230,5 @@ pub fn note_codes(
     if due(table, choices, t, row) {
         return note_due(table, events, texts, notes, choices, c, t, row);
     }
-    Cast::To(t, c)
+    Ok((t, c))
 }

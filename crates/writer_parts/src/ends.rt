@@ -10,8 +10,10 @@ use crate::notes::note_of;
 use crate::{Judgement, Spot};
 use model::Lengths;
 use numbers::kind;
+use numbers::refusal::Fault;
 
 // The end of an element whose Start, with the second word q, is at c, and inside which the walk went on to e: End, then the head noted at Start.
+#[tactic(auto, using(crate::proofs::EndWays::close_ways))]
 pub fn close(
     events: &[u32],
     texts: &[u8],
@@ -30,19 +32,16 @@ pub fn close(
 {
     let at = c.event;
     let to = e.event;
-    let bad = unlike(events, to, kind::END, 0, 0);
-    if 0 < bad {
-        return Judgement::Refuse(bad, to);
+    if let Err(why) = unlike(events, to, kind::END, 0, 0) {
+        return Err(Fault { why, at: to });
     }
     keep(notes, to, 0);
     let h = head(lengths, q, e.bits - c.bits);
     let note = note_of(h);
     keep(notes, at, note);
-    let bits = e.bits + h.size;
-    let next = Spot {
+    Ok(Spot {
         event: to + 1,
-        used: e.used,
-        bits,
-    };
-    Judgement::Go(next)
+        bits: e.bits + h.size,
+        ..e
+    })
 }

@@ -2,20 +2,23 @@
 ghost use Rattle.std.specs.Prelude.{◌≡◌, ◌+◌, ◌*◌, ◌≤◌, get_or};
 ghost use Rattle.numbers.specs.Limit.{most_events};
 ghost use Rattle.numbers.specs.Kind as kinds;
+ghost use Rattle.numbers.specs.Refused.{answered};
 ghost use Rattle.model.specs.Modes.{lengths_is};
 ghost use Rattle.model.specs.Write.{flag_in, head_out, length_of};
 ghost use Rattle.writer_parts.specs.Notes.{Short};
 ghost use Rattle.writer_parts.specs.Heads.{FlagJudged};
 ghost use Rattle.writer_parts.specs.Walk.{wanted, judged};
 
-use crate::judging::unlike_kind;
+use crate::judging::of_kind;
 use crate::notes::flagged;
 use model::Lengths;
-use numbers::{kind, refusal};
+use numbers::kind;
+use numbers::refusal::Refusal;
 use wire::Coded;
 use wire::writing::coded5;
 
 // Whether a Start's second word is not one that it may have.
+#[tactic(auto, using(crate::proofs::HeadWays::flag_wrong_ways))]
 fn flag_wrong(lengths: Lengths, q: u32) -> bool
     ensures { FlagJudged (lengths_is lengths) q result }
 {
@@ -27,28 +30,25 @@ fn flag_wrong(lengths: Lengths, q: u32) -> bool
 }
 
 // What is wrong with event at where the Start of an element of a name is wanted.
-pub fn unlike_start(events: &[u32], lengths: Lengths, at: usize, name: u32) -> u32
+#[tactic(auto, using(crate::proofs::HeadWays::start_ways))]
+pub fn unlike_start(events: &[u32], lengths: Lengths, at: usize, name: u32) -> Result<(), Refusal>
     requires { at ≤ most_events }
-    ensures { result
+    ensures { answered result
         ≡ judged events.now at
         (wanted kinds.start name (flag_in (lengths_is lengths) (get_or events.now (4 * at + 2) 0))) }
 {
-    let other = unlike_kind(events, at, kind::START);
-    if 0 < other {
-        return other;
+    let e = of_kind(events, at, kind::START)?;
+    if name != e.p {
+        return Err(Refusal::NoReading);
     }
-    let x = events[4 * at + 1];
-    let q = events[4 * at + 2];
-    if name != x {
-        return refusal::NO_READING;
+    if flag_wrong(lengths, e.q) {
+        return Err(Refusal::NoReading);
     }
-    if flag_wrong(lengths, q) {
-        return refusal::NO_READING;
-    }
-    refusal::ACCEPTED
+    Ok(())
 }
 
 // An element's flag and TheLength, over n bits inside it; q is its Start's second word.
+#[tactic(auto, using(crate::proofs::HeadWays::head_ways))]
 pub fn head(lengths: Lengths, q: u32, n: u32) -> Coded
     ensures { Short 41 result (head_out (lengths_is lengths) (length_of q n)) }
 {

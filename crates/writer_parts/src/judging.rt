@@ -1,51 +1,51 @@
 // One event judged against what is wanted, and its note kept.
 ghost use Rattle.std.specs.Prelude.{◌≡◌, ◌<◌, length};
+ghost use Rattle.numbers.specs.Refused.{answered};
 ghost use Rattle.writer_parts.specs.Notes.{keeps};
-ghost use Rattle.writer_parts.specs.Walk.{wanted, judged, KindJudged};
+ghost use Rattle.writer_parts.specs.Walk.{wanted, judged, KindJudged, WordsOf};
 
-use numbers::{kind, refusal};
+use numbers::kind;
+use numbers::refusal::Refusal;
 
-// What is wrong with event at where one of these words is wanted; NO_READING where there is none.
-pub fn unlike(events: &[u32], at: usize, kind: u32, p: u32, q: u32) -> u32
-    ensures { result ≡ judged events.now at (wanted kind p q) }
+// An event's words but the first, its kind.
+#[derive(Clone, Copy)]
+pub struct Words {
+    pub p: u32,
+    pub q: u32,
+}
+
+// The words of event at, where it is of a kind; what is judged first, so that they are read without a test. NoReading where there is none.
+#[tactic(auto, using(crate::proofs::JudgingWays::kind_ways))]
+pub fn of_kind(events: &[u32], at: usize, kind: u32) -> Result<Words, Refusal>
+    ensures { (KindJudged events.now at kind (answered result)) × WordsOf events.now at result }
 {
     if events.len() / 4 <= at {
-        return refusal::NO_READING;
+        return Err(Refusal::NoReading);
     }
     let i = 4 * at;
     let k = events[i];
-    let x = events[i + 1];
-    let y = events[i + 2];
     if kind != k {
         if k == kind::BLANK {
-            return refusal::BLANK;
+            return Err(Refusal::Blank);
         }
-        return refusal::NO_READING;
+        return Err(Refusal::NoReading);
     }
-    if p != x {
-        return refusal::NO_READING;
-    }
-    if q != y {
-        return refusal::NO_READING;
-    }
-    refusal::ACCEPTED
+    Ok(Words {
+        p: events[i + 1],
+        q: events[i + 2],
+    })
 }
 
-// What is wrong with event at where one of a kind is wanted, whatever its words: what is judged first, so that its words are read without a test.
-pub fn unlike_kind(events: &[u32], at: usize, kind: u32) -> u32
-    ensures { KindJudged events.now at kind result }
+// What is wrong with event at where one of these words is wanted.
+#[tactic(auto, using(crate::proofs::JudgingWays::unlike_ways))]
+pub fn unlike(events: &[u32], at: usize, kind: u32, p: u32, q: u32) -> Result<(), Refusal>
+    ensures { answered result ≡ judged events.now at (wanted kind p q) }
 {
-    if events.len() / 4 <= at {
-        return refusal::NO_READING;
+    let e = of_kind(events, at, kind)?;
+    if p != e.p || q != e.q {
+        return Err(Refusal::NoReading);
     }
-    let k = events[4 * at];
-    if kind != k {
-        if k == kind::BLANK {
-            return refusal::BLANK;
-        }
-        return refusal::NO_READING;
-    }
-    refusal::ACCEPTED
+    Ok(())
 }
 
 // The note of event at.

@@ -12,9 +12,12 @@ use crate::notes::number;
 use crate::values::note_number;
 pub use crate::values::{note_date, note_text};
 use crate::{Judgement, Spot};
+use numbers::kind;
+use numbers::refusal::Fault;
 use value::Code;
 
 // An event that takes no bits.
+#[tactic(auto, using(crate::proofs::LeafWays::mark_ways))]
 pub fn mark(
     events: &[u32],
     texts: &[u8],
@@ -31,17 +34,11 @@ pub fn mark(
         c notes.old result notes.new }
 {
     let at = c.event;
-    let bad = unlike(events, at, kind, p, q);
-    if 0 < bad {
-        return Judgement::Refuse(bad, at);
+    if let Err(why) = unlike(events, at, kind, p, q) {
+        return Err(Fault { why, at });
     }
     keep(notes, at, 0);
-    let next = Spot {
-        event: at + 1,
-        used: c.used,
-        bits: c.bits,
-    };
-    Judgement::Go(next)
+    Ok(Spot { event: at + 1, ..c })
 }
 
 // An event whose value v is written in a code, which may have no such value.

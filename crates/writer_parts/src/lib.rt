@@ -12,14 +12,11 @@ pub mod opening; // opening.rt: what an element has to choose from
 pub mod pen; // pen.rt: notes into a lent buffer
 pub mod values; // values.rt: a simple value with its text, a branch, a count
 
+use numbers::refusal::{Fault, Refusal};
 use wire::Coded;
 
-// A code as a number, or the number of a refusal.
-#[derive(Clone, Copy)]
-pub enum Spelling {
-    Code(Coded),
-    Refuse(u32),
-}
+// A code as a number, or why there is none.
+pub type Spelling = Result<Coded, Refusal>;
 
 // A date's note, and how many bits that is.
 #[derive(Clone, Copy)]
@@ -36,16 +33,9 @@ pub struct Spot {
     pub bits: u32,
 }
 
-// One event judged, or several: where the walk goes on; or number and event of a refusal.
-#[derive(Clone, Copy)]
-pub enum Judgement {
-    Go(Spot),
-    Refuse(u32, usize),
-}
+// One event judged, or several: where the walk goes on; or what is refused, and its event. Each function puts a refusal at its event by hand:
+// what the closure of a `map_err` answers stays hidden in the proof.
+pub type Judgement = Result<Spot, Fault<usize>>;
 
-// An element's codes judged: its effective type, and where the walk goes on; or number and event of a refusal.
-#[derive(Clone, Copy)]
-pub enum Cast {
-    To(u32, Spot),
-    Refuse(u32, usize),
-}
+// An element's codes judged: its effective type, and where the walk goes on; or what is refused, and its event.
+pub type Cast = Result<(u32, Spot), Fault<usize>>;

@@ -10,7 +10,7 @@ ghost use Rattle.writer_parts.specs.Notes.{Spelt, Short, Flagged, Noted, DateNot
 pub use crate::codes::{one_of, pair};
 pub use crate::heads::head;
 use crate::{SizedNote, Spelling};
-use numbers::refusal;
+use numbers::refusal::Refusal;
 use signed::{lowered, magnitude};
 use value::forms::times;
 use value::{Code, Inner};
@@ -19,6 +19,7 @@ use wire::choices::width;
 use wire::writing::coded5;
 
 // A flag before a code.
+#[tactic(auto, using(crate::proofs::NoteWays::flag_ways))]
 pub fn flagged(flag: u32, c: Coded) -> Coded
     requires { (flag < 2) × (c.size ≤ 40) × (c.bits < 2 ^ c.size) }
     ensures { Flagged flag c result }
@@ -29,6 +30,7 @@ pub fn flagged(flag: u32, c: Coded) -> Coded
 }
 
 // A code that another holds.
+#[tactic(auto, using(crate::proofs::NoteWays::inner_ways))]
 pub fn inner(i: Inner, v: u32) -> Spelling
     ensures { Spelt 40 (code_out (inner_is i) v) result }
 {
@@ -38,21 +40,22 @@ pub fn inner(i: Inner, v: u32) -> Spelling
                 let size = width(n);
                 let bits = v as u64;
                 let c = Coded { size, bits };
-                return Spelling::Code(c);
+                return Ok(c);
             }
-            Spelling::Refuse(refusal::OUTSIDE_ROW)
+            Err(Refusal::OutsideRow)
         }
         Inner::Five(most) => {
             if v <= most {
                 let c = coded5(v);
-                return Spelling::Code(c);
+                return Ok(c);
             }
-            Spelling::Refuse(refusal::OUTSIDE_ROW)
+            Err(Refusal::OutsideRow)
         }
     }
 }
 
 // A sign bit and a magnitude.
+#[tactic(auto, using(crate::proofs::NoteWays::signed_ways))]
 fn signed_number(v: u32) -> Coded
     ensures { Short 41 result (bits_of signed v) }
 {
@@ -65,23 +68,20 @@ fn signed_number(v: u32) -> Coded
 }
 
 // None, or some and how many.
+#[tactic(auto, using(crate::proofs::NoteWays::some_ways))]
 fn some_number(i: Inner, v: u32) -> Spelling
     ensures { Spelt 41 (code_out (some (inner_is i)) v) result }
 {
     if v == 0 {
         let none = Coded { size: 1, bits: 0 };
-        return Spelling::Code(none);
+        return Ok(none);
     }
-    match inner(i, v) {
-        Spelling::Refuse(e) => Spelling::Refuse(e),
-        Spelling::Code(c) => {
-            let more = flagged(1, c);
-            Spelling::Code(more)
-        }
-    }
+    let c = inner(i, v)?;
+    Ok(flagged(1, c))
 }
 
 // A value by its code, which may have no such value.
+#[tactic(auto, using(crate::proofs::NoteWays::number_ways))]
 pub fn number(c: Code, v: u32) -> Spelling
     ensures { Spelt 41 (code_out (code_is c) v) result }
 {
@@ -90,18 +90,16 @@ pub fn number(c: Code, v: u32) -> Spelling
         Code::Word => {
             let bits = v as u64;
             let word = Coded { size: 32, bits };
-            Spelling::Code(word)
+            Ok(word)
         }
-        Code::Signed => {
-            let n = signed_number(v);
-            Spelling::Code(n)
-        }
+        Code::Signed => Ok(signed_number(v)),
         Code::Some(i) => some_number(i, v),
         Code::Shifted(lo, i) => inner(i, lowered(lo, v)),
     }
 }
 
 // A count of an occurs row, which may let no such count come. A code of its own, so that `number` is called at one place.
+#[tactic(auto, using(crate::proofs::NoteWays::count_ways))]
 pub fn count(least: u32, most: u32, v: u32) -> Spelling
     ensures { Spelt 41 (code_out (times_code least most) v) result }
 {
@@ -109,12 +107,13 @@ pub fn count(least: u32, most: u32, v: u32) -> Spelling
         Code::Plain(i) => inner(i, v),
         Code::Some(i) => some_number(i, v),
         Code::Shifted(lo, i) => inner(i, lowered(lo, v)),
-        Code::Word => Spelling::Refuse(refusal::OUTSIDE_ROW),
-        Code::Signed => Spelling::Refuse(refusal::OUTSIDE_ROW),
+        Code::Word => Err(Refusal::OutsideRow),
+        Code::Signed => Err(Refusal::OutsideRow),
     }
 }
 
 // The note of a code.
+#[tactic(auto, using(crate::proofs::NoteWays::note_of_ways))]
 pub fn note_of(c: Coded) -> u64
     requires { (c.size ≤ 41) × (c.bits < 2 ^ c.size) }
     ensures { Noted result (digits c.size c.bits) }
@@ -123,6 +122,7 @@ pub fn note_of(c: Coded) -> u64
 }
 
 // The days of a date and, with a clock, its milliseconds.
+#[tactic(auto, using(crate::proofs::NoteWays::date_note_ways))]
 pub fn date(clocked: bool, days: u32, ms: u32) -> SizedNote
     requires { ms < 2 ^ 27 }
     ensures { DateNote result (stamp_bits clocked days ms) }

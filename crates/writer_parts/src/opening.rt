@@ -9,6 +9,7 @@ use numbers::limit;
 pub const NO_ROW: u32 = limit::MOST_WORD;
 
 // What an element of a row has to choose from: the root has nothing.
+#[tactic(auto, using(crate::proofs::OpeningWays::choices_ways))]
 pub fn choices_of(choices: Choices, row: u32) -> Choices
     ensures { result ≡ row_choices choices row }
 {

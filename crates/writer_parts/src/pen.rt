@@ -1,5 +1,5 @@
 // Notes into a lent buffer, one after another, by whole words: bits wait until there are 64 of them.
-ghost use Rattle.std.specs.Prelude.{◌≡◌, ◌+◌, ◌*◌, ◌≤◌, ◌<◌, min, length, take, drop};
+ghost use Rattle.std.specs.Prelude.{◌≡◌, ◌+◌, ◌*◌, ◌≤◌, ◌<◌, length, take, drop};
 ghost use Rattle.wire.specs.Bits.{bit_at, num, digits};
 ghost use Rattle.wire.specs.Put.{Room, Wrote};
 ghost use Rattle.value.specs.Simple.{bytes};
@@ -17,14 +17,8 @@ pub struct Pen {
     pub count: u64,
 }
 
-// A byte as a word.
-fn wide(x: u8) -> u64
-    ensures { (result ≡ x) × (result < 256) }
-{
-    x as u64
-}
-
 // At a place: the bits of its byte before it wait.
+#[tactic(auto, using(crate::proofs::PenWays::begin_ways))]
 fn begin(payload: &[u8], at: Bits) -> Pen
     requires { at.0 ≤ 8 * length payload.now }
     ensures { Begun payload.now at.0 result }
@@ -39,7 +33,7 @@ fn begin(payload: &[u8], at: Bits) -> Pen
             count,
         };
     }
-    let x = wide(payload[next]);
+    let x = u64::from(payload[next]);
     Pen {
         next,
         waiting: x >> (8 - count),
@@ -48,6 +42,7 @@ fn begin(payload: &[u8], at: Bits) -> Pen
 }
 
 // The w lowest bits of v.
+#[tactic(auto, using(crate::proofs::PenWays::code_ways))]
 fn put_code(payload: &mut [u8], p: Pen, w: u64, v: u64) -> Pen
     requires { (Spare payload.old p w) × (w < 64) }
     ensures { Drawn payload.old payload.new p result (digits w v) }
@@ -72,6 +67,7 @@ fn put_code(payload: &mut [u8], p: Pen, w: u64, v: u64) -> Pen
 }
 
 // The 64 bits of v.
+#[tactic(auto, using(crate::proofs::PenWays::eight_ways))]
 fn put_eight(payload: &mut [u8], p: Pen, v: u64) -> Pen
     requires { Spare payload.old p 64 }
     ensures { Drawn payload.old payload.new p result (digits 64 v) }
@@ -85,41 +81,42 @@ fn put_eight(payload: &mut [u8], p: Pen, v: u64) -> Pen
     }
 }
 
-// The number that n bytes are, fewer than eight.
-fn few(texts: &[u8], from: usize, n: usize) -> u64
-    requires { (from + n ≤ length texts.now) × (n < 8) }
-    ensures { digits (8 * n) result ≡ bytes (take n (drop from texts.now)) }
+// The number that fewer than eight bytes are.
+#[tactic(auto, using(crate::proofs::PenWays::few_ways))]
+fn few(text: &[u8]) -> u64
+    requires { length text.now < 8 }
+    ensures { digits (8 * length text.now) result ≡ bytes text.now }
 {
     let mut x: u64 = 0;
-    let mut i: usize = 0;
-    while i < n {
-        x = x * 256 + wide(texts[from + i]);
-        i += 1;
+    for &b in text {
+        x = x * 256 + u64::from(b);
     }
     x
 }
 
-// n bytes of the texts from a place on, eight at once as long as there are eight.
+// n bytes of the texts from a place on, eight at once as long as there are eight. No chunks of a slice: `whole` reads at a place.
+#[tactic(auto, using(crate::proofs::PenWays::rest_ways))]
 fn put_rest(payload: &mut [u8], p: Pen, texts: &[u8], from: usize, n: usize) -> Pen
     requires { (Spare payload.old p (8 * n)) × (from + n ≤ length texts.now) }
     ensures { Drawn payload.old payload.new p result (bytes (take n (drop from texts.now))) }
 {
     let mut q = p;
-    let mut i: usize = 0;
-    while i + 8 <= n {
-        let x = whole(texts, from + i);
+    for i in 0..n / 8 {
+        let x = whole(texts, from + 8 * i);
         q = put_eight(payload, q, x);
-        i += 8;
     }
-    if i == n {
+    let left = n % 8;
+    if left == 0 {
         return q;
     }
-    let x = few(texts, from + i, n - i);
-    put_code(payload, q, (8 * (n - i)) as u64, x)
+    let end = from + n;
+    let x = few(&texts[end - left..end]);
+    put_code(payload, q, (8 * left) as u64, x)
 }
 
 // Sixteen bytes of the texts, by two words. The second is loaded when the first is stored: of two stores in a row the compiler
 // makes sixteen.
+#[tactic(auto, using(crate::proofs::PenWays::sixteen_ways))]
 fn put_sixteen(payload: &mut [u8], p: Pen, texts: &[u8], at: usize) -> Pen
     requires { (Spare payload.old p 128) × (at + 16 ≤ length texts.now) }
     ensures { Drawn payload.old payload.new p result (bytes (take 16 (drop at texts.now))) }
@@ -131,26 +128,21 @@ fn put_sixteen(payload: &mut [u8], p: Pen, texts: &[u8], at: usize) -> Pen
 }
 
 // n bytes of the texts, sixteen at once as long as there are sixteen.
+#[tactic(auto, using(crate::proofs::PenWays::text_pen_ways))]
 fn put_text(payload: &mut [u8], p: Pen, texts: &[u8], from: usize, n: usize) -> Pen
     requires { (Spare payload.old p (8 * n)) × (from + n ≤ length texts.now) }
     ensures { Drawn payload.old payload.new p result (bytes (take n (drop from texts.now))) }
 {
     let mut q = p;
-    let mut i: usize = 0;
-    while i + 16 <= n {
-        q = put_sixteen(payload, q, texts, from + i);
-        i += 16;
+    for i in 0..n / 16 {
+        q = put_sixteen(payload, q, texts, from + 16 * i);
     }
-    put_rest(payload, q, texts, from + i, n - i)
-}
-
-fn least(a: usize, b: usize) -> usize
-    ensures { result ≡ min a b }
-{
-    if a < b { a } else { b }
+    let left = n % 16;
+    put_rest(payload, q, texts, from + n - left, left)
 }
 
 // A text's count, then its bytes, as far as there are such.
+#[tactic(auto, using(crate::proofs::PenWays::counted_ways))]
 fn put_counted(payload: &mut [u8], p: Pen, texts: &[u8], y: u64) -> Pen
     requires { Spare payload.old p (length (text_bits texts.now y)) }
     ensures { Drawn payload.old payload.new p result (text_bits texts.now y) }
@@ -158,12 +150,13 @@ fn put_counted(payload: &mut [u8], p: Pen, texts: &[u8], y: u64) -> Pen
     let n = (y % 4096) as u32;
     let count = coded5(n);
     let q = put_code(payload, p, count.size as u64, count.bits);
-    let from = least((y / 4096) as usize, texts.len());
-    let m = least(n as usize, texts.len() - from);
+    let from = ((y / 4096) as usize).min(texts.len());
+    let m = (n as usize).min(texts.len() - from);
     put_text(payload, q, texts, from, m)
 }
 
 // The days of a date and its milliseconds.
+#[tactic(auto, using(crate::proofs::PenWays::date_pen_ways))]
 fn put_date(payload: &mut [u8], p: Pen, y: u64) -> Pen
     requires { Spare payload.old p 64 }
     ensures { Drawn payload.old payload.new p result (date_bits y) }
@@ -173,6 +166,7 @@ fn put_date(payload: &mut [u8], p: Pen, y: u64) -> Pen
 }
 
 // A note. Most are a code of few bits.
+#[tactic(auto, using(crate::proofs::PenWays::put_note_ways))]
 fn put_note(payload: &mut [u8], p: Pen, texts: &[u8], x: u64) -> Pen
     requires { Spare payload.old p (length (note_bits texts.now x)) }
     ensures { Drawn payload.old payload.new p result (note_bits texts.now x) }
@@ -187,6 +181,7 @@ fn put_note(payload: &mut [u8], p: Pen, texts: &[u8], x: u64) -> Pen
 }
 
 // What waits, bit by bit where fewer than eight bytes are left, and the place past it.
+#[tactic(auto, using(crate::proofs::PenWays::last_ways))]
 fn put_last(payload: &mut [u8], p: Pen) -> Bits
     requires { Spare payload.old p 0 }
     ensures { Wrote payload.old payload.new (8 * p.next) (waits p) result.0 }
@@ -203,6 +198,7 @@ fn put_last(payload: &mut [u8], p: Pen) -> Bits
 }
 
 // What waits, and the place past it. Where eight bytes are left, what stands behind it is put once more with it.
+#[tactic(auto, using(crate::proofs::PenWays::end_ways))]
 fn end(payload: &mut [u8], p: Pen) -> Bits
     requires { Spare payload.old p 0 }
     ensures { Wrote payload.old payload.new (8 * p.next) (waits p) result.0 }
@@ -223,6 +219,7 @@ fn end(payload: &mut [u8], p: Pen) -> Bits
 }
 
 // The notes of the first n events, and the place past them.
+#[tactic(auto, using(crate::proofs::PenWays::put_notes_ways))]
 pub fn put_notes(payload: &mut [u8], at: Bits, texts: &[u8], notes: &[u64], n: usize) -> Bits
     requires { (Room payload.old at.0 (length (spells texts.now notes.now 0 n)))
         × (n ≤ length notes.now) }
@@ -230,13 +227,10 @@ pub fn put_notes(payload: &mut [u8], at: Bits, texts: &[u8], notes: &[u64], n: u
         (spells texts.now notes.now 0 n) result.0 }
 {
     let mut p = begin(payload, at);
-    let mut i: usize = 0;
-    while i < n {
-        let x = notes[i];
+    for &x in &notes[..n] {
         if 0 < x {
             p = put_note(payload, p, texts, x);
         }
-        i += 1;
     }
     end(payload, p)
 }

@@ -2,6 +2,7 @@
 ghost use Rattle.std.specs.Prelude.{◌≡◌, ◌^◌, ◌≤◌, ◌<◌, length};
 ghost use Rattle.numbers.specs.Kind as kinds;
 ghost use Rattle.numbers.specs.Limit.{most_text};
+ghost use Rattle.numbers.specs.Refused.{answered};
 ghost use Rattle.value.specs.Code.{stamp, code_out};
 ghost use Rattle.value.specs.Dates.{joined};
 ghost use Rattle.value.specs.Simple.{plain, text, dated};
@@ -11,26 +12,28 @@ ghost use Rattle.model.specs.Write.{simple_out};
 ghost use Rattle.writer_parts.specs.Notes.{text_note, Spelt};
 ghost use Rattle.writer_parts.specs.Walk.{events_at, texts_at, Ready, Walked, Walks, wanted, noted, text_wrong, alone};
 
-use crate::judging::{keep, unlike, unlike_kind};
+use crate::judging::{keep, of_kind, unlike};
 use crate::notes::{date, note_of};
 use crate::{Judgement, Spelling, Spot, notes};
-use numbers::{kind, limit, refusal};
+use numbers::refusal::{Fault, Refusal};
+use numbers::{kind, limit};
 use utf8::check;
 use value::dates::stamp_of;
-use value::{Code, Form, Inner, Stamp, forms};
+use value::{Code, Form, Inner, forms};
 use wire::writing::size5;
 
 // What is wrong with a text of n bytes at a place of the texts: too many bytes, more than are left, no UTF-8, a control character, in this order.
-fn text_fault(texts: &[u8], used: usize, v: u32) -> u32
+#[tactic(auto, using(crate::proofs::ValueWays::text_fault_ways))]
+fn text_fault(texts: &[u8], used: usize, v: u32) -> Result<(), Refusal>
     requires { used ≤ length texts.now }
-    ensures { result ≡ text_wrong texts.now used v }
+    ensures { answered result ≡ text_wrong texts.now used v }
 {
     if limit::MOST_TEXT < v {
-        return refusal::OUTSIDE_ROW;
+        return Err(Refusal::OutsideRow);
     }
     let n = v as usize;
     if texts.len() - used < n {
-        return refusal::TEXT_BYTES;
+        return Err(Refusal::TextBytes);
     }
     let to = used + n;
     check(&texts[used..to])
@@ -45,6 +48,7 @@ fn text_note(v: u32, from: usize) -> u64
 }
 
 // A text's event, of v bytes.
+#[tactic(auto, using(crate::proofs::ValueWays::text_ways))]
 pub fn note_text(events: &[u32], texts: &[u8], notes: &mut [u64], c: Spot, v: u32) -> Judgement
     requires { Ready events.now texts.now notes.old c }
     ensures { Walked events.now texts.now
@@ -54,27 +58,24 @@ pub fn note_text(events: &[u32], texts: &[u8], notes: &mut [u64], c: Spot, v: u3
 {
     let at = c.event;
     let used = c.used;
-    let bad = unlike(events, at, kind::VALUE, v, 0);
-    if 0 < bad {
-        return Judgement::Refuse(bad, at);
+    if let Err(why) = unlike(events, at, kind::VALUE, v, 0) {
+        return Err(Fault { why, at });
     }
-    let wrong = text_fault(texts, used, v);
-    if 0 < wrong {
-        return Judgement::Refuse(wrong, at);
+    if let Err(why) = text_fault(texts, used, v) {
+        return Err(Fault { why, at });
     }
     let note = text_note(v, used);
     keep(notes, at, note);
     let count = size5(v);
-    let bits = c.bits + count.0 + 8 * v;
-    let next = Spot {
+    Ok(Spot {
         event: at + 1,
         used: used + (v as usize),
-        bits,
-    };
-    Judgement::Go(next)
+        bits: c.bits + count.0 + 8 * v,
+    })
 }
 
 // An event whose value v is written in a code, as was worked out: the code may have no such value.
+#[tactic(auto, using(crate::proofs::ValueWays::coded_ways))]
 pub fn note_number(
     events: &[u32],
     texts: &[u8],
@@ -94,27 +95,25 @@ pub fn note_number(
         c notes.old result notes.new }
 {
     let at = c.event;
-    let bad = unlike(events, at, kind, p, q);
-    if 0 < bad {
-        return Judgement::Refuse(bad, at);
+    if let Err(why) = unlike(events, at, kind, p, q) {
+        return Err(Fault { why, at });
     }
     match s {
-        Spelling::Refuse(e) => Judgement::Refuse(e, at),
-        Spelling::Code(n) => {
+        Err(why) => Err(Fault { why, at }),
+        Ok(n) => {
             let note = note_of(n);
             keep(notes, at, note);
-            let bits = c.bits + n.size;
-            let next = Spot {
+            Ok(Spot {
                 event: at + 1,
-                used: c.used,
-                bits,
-            };
-            Judgement::Go(next)
+                bits: c.bits + n.size,
+                ..c
+            })
         }
     }
 }
 
 // A date's event, of the words p and q, which may be no date.
+#[tactic(auto, using(crate::proofs::ValueWays::date_ways))]
 pub fn note_date(
     events: &[u32],
     texts: &[u8],
@@ -131,28 +130,26 @@ pub fn note_date(
         notes.old result notes.new }
 {
     let at = c.event;
-    let bad = unlike(events, at, kind::VALUE, p, q);
-    if 0 < bad {
-        return Judgement::Refuse(bad, at);
+    if let Err(why) = unlike(events, at, kind::VALUE, p, q) {
+        return Err(Fault { why, at });
     }
     match stamp_of(clocked, p, q) {
-        Stamp::Refuse(e) => Judgement::Refuse(e, at),
-        Stamp::Takes { days, ms } => {
-            let h = date(clocked, days, q % 134217728);
+        Err(why) => Err(Fault { why, at }),
+        Ok(stamp) => {
+            let h = date(clocked, stamp.days, q % 134217728);
             let note = h.note;
             keep(notes, at, note);
-            let bits = c.bits + h.bits;
-            let next = Spot {
+            Ok(Spot {
                 event: at + 1,
-                used: c.used,
-                bits,
-            };
-            Judgement::Go(next)
+                bits: c.bits + h.bits,
+                ..c
+            })
         }
     }
 }
 
 // A simple value.
+#[tactic(auto, using(crate::proofs::ValueWays::value_ways))]
 pub fn value(
     events: &[u32],
     texts: &[u8],
@@ -167,42 +164,45 @@ pub fn value(
         notes.new }
 {
     let at = c.event;
-    let bad = unlike_kind(events, at, kind::VALUE);
-    if 0 < bad {
-        return Judgement::Refuse(bad, at);
-    }
-    let v = events[4 * at + 1];
+    let e = match of_kind(events, at, kind::VALUE) {
+        Ok(e) => e,
+        Err(why) => {
+            return Err(Fault { why, at });
+        }
+    };
+    let v = e.p;
     match forms::simple(simple, x, y) {
         Form::Number(code) => {
             let s = notes::number(code, v);
             note_number(events, texts, notes, c, kind::VALUE, v, 0, code, v, s)
         }
         Form::Text => note_text(events, texts, notes, c, v),
-        Form::Dated(clocked) => {
-            let q = events[4 * at + 2];
-            note_date(events, texts, notes, c, clocked, v, q)
-        }
+        Form::Dated(clocked) => note_date(events, texts, notes, c, clocked, v, e.q),
     }
 }
 
 // A branch of a choice of n.
+#[tactic(auto, using(crate::proofs::ValueWays::pick_ways))]
 pub fn pick(events: &[u32], texts: &[u8], notes: &mut [u64], c: Spot, n: u32) -> Judgement
     requires { Ready events.now texts.now notes.old c }
     ensures { Walks events.now texts.now (alone (picked n)) c notes.old result
         notes.new }
 {
     let at = c.event;
-    let bad = unlike_kind(events, at, kind::PICK);
-    if 0 < bad {
-        return Judgement::Refuse(bad, at);
-    }
-    let v = events[4 * at + 1];
+    let e = match of_kind(events, at, kind::PICK) {
+        Ok(e) => e,
+        Err(why) => {
+            return Err(Fault { why, at });
+        }
+    };
+    let v = e.p;
     let code = Code::Plain(Inner::Choice(n));
     let s = notes::inner(Inner::Choice(n), v);
     note_number(events, texts, notes, c, kind::PICK, v, 0, code, v, s)
 }
 
 // A count of an occurs row.
+#[tactic(auto, using(crate::proofs::ValueWays::count_ways))]
 pub fn count(
     events: &[u32],
     texts: &[u8],
@@ -216,11 +216,13 @@ pub fn count(
         notes.new }
 {
     let at = c.event;
-    let bad = unlike_kind(events, at, kind::TIMES);
-    if 0 < bad {
-        return Judgement::Refuse(bad, at);
-    }
-    let v = events[4 * at + 1];
+    let e = match of_kind(events, at, kind::TIMES) {
+        Ok(e) => e,
+        Err(why) => {
+            return Err(Fault { why, at });
+        }
+    };
+    let v = e.p;
     let code = forms::times(least, most);
     let s = notes::count(least, most, v);
     note_number(events, texts, notes, c, kind::TIMES, v, 0, code, v, s)

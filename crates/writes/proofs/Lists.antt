@@ -11,8 +11,9 @@ use Rattle.model.specs.Whole.{Made, Outcome, declines, outcome_made, verdict_mad
 use Rattle.model.specs.Whole.Made.{unmade}
 use Rattle.buffers.specs.Bytes.{words_of}
 use Rattle.buffers.proofs.BytesLaws.{words-length}
-use Rattle.writer.specs.Answers.{answer_is, Writes}
-use Rattle.writer.specs.declared.Answer.{Answer}
+use Rattle.std.specs.Prelude.{Err}
+use Rattle.numbers.specs.declared.refusal.Refusal.TheVariants as refusal
+use Rattle.writer.specs.Answers.{Answer, answer_is, Writes}
 use Rattle.call_parts.specs.Area.{area_of}
 use Rattle.call_parts.specs.Calls.{zeros, table_verdict, judged, unlisted, write_list, write_bytes}
 use Rattle.writes.specs.Promises.{WrittenBack}
@@ -20,11 +21,9 @@ use Rattle.call_parts.specs.TableRoom.{is_whole}
 use Rattle.call_parts.proofs.TableLaws.{not-whole}
 use Rattle.writes.proofs.WriteLaws.{too_many, no-list, whole-list, one_word, Unlisted, early, late, unlisted-is, whole-writes}
 
-abbrev pub move_to : ℕ → Answer → Answer
-move_to p a = record { number = a.number; place = p; mode = a.mode; events = a.events; text = a.text; bits = a.bits }
-
-abbrev at_place : ℕ → Outcome → Outcome
-at_place p o = record { number = o.number; place = p; mode = o.mode; events = o.events; text = o.text; bits = o.bits; path = o.path }
+-- no_reading, at a place
+abbrev pub none_at : ℕ → Answer
+none_at p = Err (record { why = refusal.NoReading; at = p })
 
 -- bytes that are no list, by one word that is none
 module _ (l : List ℕ) (party name type mode : ℕ) (x : List ℕ) (room w n E T : ℕ) (a : Answer) (P : List ℕ)
@@ -37,16 +36,15 @@ module _ (l : List ℕ) (party name type mode : ℕ) (x : List ℕ) (room w n E 
   unfolding payload_left
   left-zero k p k' p' e f = h.left ∙ ap (payload_left room) (one_word l party name type mode w x room ∙ e) ∙ sym (ap (payload_left room) f)
 
-  pub none-late : a.number ≡ no_reading → Writes (unlisted l party name type mode n) mode n T room (move_to n a) P
+  pub none-late : (p : ℕ) → a ≡ none_at p → Writes (unlisted l party name type mode n) mode n T room (none_at n) P
   unfolding outcome_made
-  none-late z = go (unlisted-is l party name type mode)
+  none-late p z = go (unlisted-is l party name type mode)
     where
-      go : Unlisted l party name type mode → Writes (unlisted l party name type mode n) mode n T room (move_to n a) P
-      go (early k p ne f) = absurd (ne (sym (ap (λ (o : Outcome). o.number) (said k p (f 0))) ∙ z))
-      go (late f) =
-          record { answer = ap (at_place n) (said no_reading 0 (f 0)) ∙ sym (ap (outcome_made mode n T) (f n)); left = left-zero no_reading 0 no_reading n (f 0) (f n) }
+      go : Unlisted l party name type mode → Writes (unlisted l party name type mode n) mode n T room (none_at n) P
+      go (early k q ne f) = absurd (ne (sym (ap (λ (o : Outcome). o.number) (said k q (f 0))) ∙ ap (λ (x : Answer). (answer_is x).number) z))
+      go (late f) = record { answer = sym (ap (outcome_made mode n T) (f n)); left = left-zero no_reading 0 no_reading n (f 0) (f n) }
 
-  pub none-early : (a.number ≡ no_reading → ⊥) → Writes (unlisted l party name type mode n) mode n T room a P
+  pub none-early : ((answer_is a).number ≡ no_reading → ⊥) → Writes (unlisted l party name type mode n) mode n T room a P
   unfolding outcome_made
   none-early z = go (unlisted-is l party name type mode)
     where
@@ -55,7 +53,7 @@ module _ (l : List ℕ) (party name type mode : ℕ) (x : List ℕ) (room w n E 
       go (late f) = absurd (z (ap (λ (o : Outcome). o.number) (said no_reading 0 (f 0))))
 
 -- what was written, told
-pub written-told : (M : Made) (mode n x p : ℕ) (a : Answer) (r : ℕ) (A P : List ℕ) → Writes M mode n x p a P → (r ≡ a.number) × (A ≡ area_of (answer_is a)) → WrittenBack M mode n x p r A P
+pub written-told : (M : Made) (mode n x p : ℕ) (a : Answer) (r : ℕ) (A P : List ℕ) → Writes M mode n x p a P → (r ≡ (answer_is a).number) × (A ≡ area_of (answer_is a)) → WrittenBack M mode n x p r A P
 written-told M mode n x p a r A P h (b, c) = record { number = b ∙ ap (λ (o : Outcome). o.number) h.answer; area = c ∙ ap area_of h.answer; payload = h.left }
 
 -- a list's bytes
@@ -76,7 +74,7 @@ module _ (l : List ℕ) (party name type mode : ℕ) (e x : List ℕ) (room T r 
   list-long z g h = listed _ (too_many l party name type mode e x room z g) h
 
   pub list-whole : (words : List ℕ) (a : Answer) → let k = length e / 4 in length e % limit.event ≡ 0 → take k words ≡ words_of e
-      → Writes (writing l party name type mode (take k words) x room) mode (length (take k words) / 4) T room a P → (r ≡ a.number) × (A ≡ area_of (answer_is a))
+      → Writes (writing l party name type mode (take k words) x room) mode (length (take k words) / 4) T room a P → (r ≡ (answer_is a).number) × (A ≡ area_of (answer_is a))
       → Listed (write_list l party name type mode e x room)
   list-whole words a z all h t =
       let k = length e / 4 in

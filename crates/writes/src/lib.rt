@@ -1,36 +1,41 @@
 // A list written over bytes: by the bytes of a table, from events as bytes and texts, with the answer told in the area.
 #![tactic(auto)]
 
-ghost use Rattle.std.specs.Prelude.{◌≡◌, length};
+ghost use Rattle.std.specs.Prelude.{◌≡◌, ◌≤◌, length};
 ghost use Rattle.numbers.specs.Limit as limit;
 ghost use Rattle.numbers.specs.Limit.{most_event_words, most_table_words};
 ghost use Rattle.writer.specs.Answers.{answer_is};
 ghost use Rattle.call_parts.specs.Promises.{Fits, Told};
-ghost use Rattle.call_parts.specs.EventRoom.{some_event_words, many_event_words};
-ghost use Rattle.call_parts.specs.TableRoom.{some_words, form1_words};
 ghost use Rattle.writes.specs.Promises.{Unlisted, WrittenByBytes, WrittenByWords};
 
 use buffers::{clear, load};
-use call_parts::area::tell;
+use call_parts::area::{tell, tell_place};
 use call_parts::asked::{In, Order, Out, Room, Words};
 use call_parts::rooms::{
-    FEW_EVENT_WORDS, FEW_WORDS, FIRST_RUNG, FORM_1_WORDS, LEAST_EVENT_WORDS, LEAST_WORDS,
-    MANY_EVENT_WORDS, SOME_EVENT_WORDS, SOME_WORDS,
+    FEW_EVENT_WORDS, FEW_WORDS, FORM_1_WORDS, LEAST_EVENT_WORDS, LEAST_WORDS, MANY_EVENT_WORDS,
+    SOME_EVENT_WORDS, SOME_WORDS,
 };
 use call_parts::tables::{is_whole, judge_and_tell};
+use numbers::limit::{MOST_EVENT_WORDS, MOST_TABLE_WORDS};
+use numbers::refusal::{Fault, Refusal};
 use numbers::{limit, refusal};
-use writer::{Answer, write};
+use writer::{Written, write};
 
 // What the writer answered, which has no path.
-fn tell_written(area: &mut [u8], a: Answer) -> u32
+fn tell_written(area: &mut [u8], a: Result<Written, Fault<usize>>) -> u32
     requires { length area.old ≡ limit.area }
     ensures { Told area (answer_is a) result }
 {
-    let none = [0u16; limit::MOST_NAMES];
-    let text = a.text.0;
-    let bits = a.bits.0;
-    tell(area, a.place, a.mode, a.events, text, bits, &none, 0);
-    a.number
+    match a {
+        Ok(w) => {
+            tell(area, 0, w.mode, w.events, w.text.0, w.bits.0, &[], 0);
+            refusal::ACCEPTED
+        }
+        Err(f) => {
+            tell_place(area, f.at);
+            f.why.number()
+        }
+    }
 }
 
 // Refuses bytes that are no list: one word is none either, and is refused where they are. The place of NO_READING is n.
@@ -39,14 +44,16 @@ fn refuse_unlisted(n: usize, words: Words, by: Order, texts: In, payload: Out, a
     ensures { Unlisted n words by texts payload area result }
 {
     let none = [0u32; 1];
-    let mut a = write(
+    let a = write(
         words, by.party, by.name, by.ty, by.mode, &none, texts, payload,
     );
-    if a.number == refusal::NO_READING {
-        a.place = n;
+    let Err(fault) = a else {
         return tell_written(area, a);
+    };
+    match fault.why {
+        Refusal::NoReading => tell_written(area, Err(Fault { at: n, ..fault })),
+        _ => tell_written(area, a),
     }
-    tell_written(area, a)
 }
 
 // Loads a list's bytes as words, in room lent for them, writes them, and tells the answer.
@@ -77,39 +84,9 @@ fn write_in_room(
     tell_written(area, a)
 }
 
-// Writes a list's bytes, in room for some events.
+// Writes a list's bytes, in room for N words of events.
 #[inline(never)]
-fn write_some_events(words: Words, by: Order, events: In, texts: In, payload: Out, area: Out) -> u32
-    requires { Fits limit.event events area some_event_words }
-    ensures { WrittenByWords words by events texts payload area result }
-{
-    let mut room = [0u32; SOME_EVENT_WORDS];
-    write_in_room(words, by, events, &mut room, texts, payload, area)
-}
-
-// The same in room for many.
-#[inline(never)]
-fn write_many_events(words: Words, by: Order, events: In, texts: In, payload: Out, area: Out) -> u32
-    requires { Fits limit.event events area many_event_words }
-    ensures { WrittenByWords words by events texts payload area result }
-{
-    let mut room = [0u32; MANY_EVENT_WORDS];
-    write_in_room(words, by, events, &mut room, texts, payload, area)
-}
-
-// The same in room for every one that it can have.
-#[inline(never)]
-fn write_most_events(words: Words, by: Order, events: In, texts: In, payload: Out, area: Out) -> u32
-    requires { Fits limit.event events area most_event_words }
-    ensures { WrittenByWords words by events texts payload area result }
-{
-    let mut room = [0u32; limit::MOST_EVENT_WORDS];
-    write_in_room(words, by, events, &mut room, texts, payload, area)
-}
-
-// Writes a list's bytes on this rung if its events fit there, or on a later one.
-fn write_events_by_rungs(
-    rung: u32,
+fn write_events_in<const N: usize>(
     words: Words,
     by: Order,
     events: In,
@@ -117,27 +94,15 @@ fn write_events_by_rungs(
     payload: Out,
     area: Out,
 ) -> u32
-    requires { Fits limit.event events area most_event_words }
+    requires lent { Fits limit.event events area N }
+    requires few { N ≤ most_event_words }
     ensures { WrittenByWords words by events texts payload area result }
 {
-    let n = events.len() / 4;
-    if rung == 0 {
-        return write_most_events(words, by, events, texts, payload, area);
-    }
-    if rung == 1 {
-        if n <= MANY_EVENT_WORDS {
-            return write_many_events(words, by, events, texts, payload, area);
-        }
-    }
-    if rung == 2 {
-        if n <= SOME_EVENT_WORDS {
-            return write_some_events(words, by, events, texts, payload, area);
-        }
-    }
-    write_events_by_rungs(rung - 1, words, by, events, texts, payload, area)
+    let mut room = [0u32; N];
+    write_in_room(words, by, events, &mut room, texts, payload, area)
 }
 
-// Writes a list's bytes by a table's words, in room for few events, or on the rung that fits.
+// Writes a list's bytes by a table's words, in room for few events, or on the least rung that has room.
 fn write_with_event_room(
     words: Words,
     by: Order,
@@ -167,7 +132,13 @@ fn write_with_event_room(
         let mut few = [0u32; FEW_EVENT_WORDS];
         return write_in_room(words, by, events, &mut few, texts, payload, area);
     }
-    write_events_by_rungs(FIRST_RUNG, words, by, events, texts, payload, area)
+    if k <= SOME_EVENT_WORDS {
+        return write_events_in::<SOME_EVENT_WORDS>(words, by, events, texts, payload, area);
+    }
+    if k <= MANY_EVENT_WORDS {
+        return write_events_in::<MANY_EVENT_WORDS>(words, by, events, texts, payload, area);
+    }
+    write_events_in::<MOST_EVENT_WORDS>(words, by, events, texts, payload, area)
 }
 
 // Writes by a table's bytes, in room lent for its words.
@@ -188,39 +159,9 @@ fn write_with_table_room(
     write_with_event_room(&room[..n], by, events, texts, payload, area)
 }
 
-// Writes by a table's bytes, in room for some words of it.
+// Writes by a table's bytes, in room for N words of it.
 #[inline(never)]
-fn write_in_some(table: In, by: Order, events: In, texts: In, payload: Out, area: Out) -> u32
-    requires { Fits 4 table area some_words }
-    ensures { WrittenByBytes table by events texts payload area result }
-{
-    let mut room = [0u32; SOME_WORDS];
-    write_with_table_room(table, &mut room, by, events, texts, payload, area)
-}
-
-// The same in room for as many words as a table of form 1 can have.
-#[inline(never)]
-fn write_in_form_1(table: In, by: Order, events: In, texts: In, payload: Out, area: Out) -> u32
-    requires { Fits 4 table area form1_words }
-    ensures { WrittenByBytes table by events texts payload area result }
-{
-    let mut room = [0u32; FORM_1_WORDS];
-    write_with_table_room(table, &mut room, by, events, texts, payload, area)
-}
-
-// The same in room for every word that a table can have.
-#[inline(never)]
-fn write_in_all(table: In, by: Order, events: In, texts: In, payload: Out, area: Out) -> u32
-    requires { Fits 4 table area most_table_words }
-    ensures { WrittenByBytes table by events texts payload area result }
-{
-    let mut room = [0u32; limit::MOST_TABLE_WORDS];
-    write_with_table_room(table, &mut room, by, events, texts, payload, area)
-}
-
-// Writes by a table's bytes, on this rung if its words fit there, or on a later one.
-fn write_by_rungs(
-    rung: u32,
+fn write_in<const N: usize>(
     table: In,
     by: Order,
     events: In,
@@ -228,27 +169,15 @@ fn write_by_rungs(
     payload: Out,
     area: Out,
 ) -> u32
-    requires { Fits 4 table area most_table_words }
+    requires lent { Fits 4 table area N }
+    requires few { N ≤ most_table_words }
     ensures { WrittenByBytes table by events texts payload area result }
 {
-    let n = table.len() / 4;
-    if rung == 0 {
-        return write_in_all(table, by, events, texts, payload, area);
-    }
-    if rung == 1 {
-        if n <= FORM_1_WORDS {
-            return write_in_form_1(table, by, events, texts, payload, area);
-        }
-    }
-    if rung == 2 {
-        if n <= SOME_WORDS {
-            return write_in_some(table, by, events, texts, payload, area);
-        }
-    }
-    write_by_rungs(rung - 1, table, by, events, texts, payload, area)
+    let mut room = [0u32; N];
+    write_with_table_room(table, &mut room, by, events, texts, payload, area)
 }
 
-// Writes by a table's bytes, in room for few words of it, or on the rung that fits.
+// Writes by a table's bytes, in room for few words of it, or on the least rung that has room.
 fn write_whole(table: In, by: Order, events: In, texts: In, payload: Out, area: Out) -> u32
     requires { Fits 4 table area most_table_words }
     ensures { WrittenByBytes table by events texts payload area result }
@@ -262,7 +191,13 @@ fn write_whole(table: In, by: Order, events: In, texts: In, payload: Out, area: 
         let mut few = [0u32; FEW_WORDS];
         return write_with_table_room(table, &mut few, by, events, texts, payload, area);
     }
-    write_by_rungs(FIRST_RUNG, table, by, events, texts, payload, area)
+    if n <= SOME_WORDS {
+        return write_in::<SOME_WORDS>(table, by, events, texts, payload, area);
+    }
+    if n <= FORM_1_WORDS {
+        return write_in::<FORM_1_WORDS>(table, by, events, texts, payload, area);
+    }
+    write_in::<MOST_TABLE_WORDS>(table, by, events, texts, payload, area)
 }
 
 // Writes by a table's bytes, and refuses those of which there are too many, or no whole words.

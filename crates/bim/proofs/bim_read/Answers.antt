@@ -7,8 +7,8 @@ use Rattle.bim.proofs.bim_read.Goals as goal
 pub returns-then-area-ne-AREA : goal.returns-then-area-ne-AREA
 returns-then-area-ne-AREA c = let a = c.args in
     let k = c.shared_slice_known-2-1 in record {
-      answer = read-unlent _ _ _ _ _ a.events.now a.texts.now a.area.now _ _ _ c.if-area-ne-AREA.true c.clear.ensures
-          c.clear-then-area-ne-AREA.ensures c.clear-then-area-ne-AREA-2.ensures;
+      answer = rw c.number.ensures (read-unlent _ _ _ _ _ a.events.now a.texts.now a.area.now _ _ _ c.if-area-ne-AREA.true c.clear.ensures
+          c.clear-then-area-ne-AREA.ensures c.clear-then-area-ne-AREA-2.ensures);
       octets = octets a.payload.now (λ i. omega (arith, k.given i));
     }
 

@@ -1,22 +1,12 @@
--- The bytes one after another are a run of stores.
-use Prim.Native.Nat.{suc, ◌+◌}
-use mathlib.Core.Path.{◌≡◌}
+-- The four bytes of a word, the highest first.
+use Prim.Native.Nat.{◌+◌, ◌/◌, ◌%◌}
+use mathlib.Core.Path.{◌≡◌, refl, ◌∙◌}
 use native.Mathlib.Omega.{arith}
-use native.Mathlib.Numerals.{add-one}
-use lib.ListN.{length-set}
+use Rattle.buffers.specs.Bytes.{four}
+use Rattle.buffers.proofs.Loops.{part_put}
 use Rattle.buffers.proofs.put_word.Goals as goal
 
-pub bounds-s-at-2 : goal.bounds-s-at-2
-bounds-s-at-2 c = simp length-set (omega arith)
-
-pub bounds-s-at-3 : goal.bounds-s-at-3
-bounds-s-at-3 c = simp length-set (omega arith)
-
-pub bounds-s-at-4 : goal.bounds-s-at-4
-bounds-s-at-4 c = simp length-set (omega arith)
-
 pub returns : goal.returns
-returns c = let at = c.args.at in
-    let e₂ : at + 2 ≡ suc (suc at) = omega arith in
-    let e₃ : at + 3 ≡ suc (suc (suc at)) = omega arith in
-    rw (add-one at, e₂, e₃)
+returns c = let a = c.args in
+    let q : a.w / 16777216 % 256 ≡ a.w / 16777216 = omega arith in
+    part_put a.s.now (four a.w) _ a.at (a.at + 4) (omega arith) refl (c.copy_from_slice.ensures.after ∙ c.to_be_bytes.ensures ∙ rw q)

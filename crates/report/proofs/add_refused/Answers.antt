@@ -2,14 +2,15 @@
 use mathlib.Core.List.{[]}
 use native.Mathlib.Omega.{arith}
 use Rattle.report.proofs.Adding.{refused-stops, refused-counts, refused-nowhere}
-use borrow.Author.Rules.{rules}
 use Rattle.report.proofs.add_refused.Goals as goal
 
-pub returns-then-was : goal.returns-then-was
-returns-then-was c = search (rules, refused-stops)
+pub returns-in-None : goal.returns-in-None
+returns-in-None c = let p = c.requires in refused-stops _ p.size (λ k. grind arith) p.goes _ p.refused 0 0 [] _ _ c.if-answer-lt-ANSWERS.true c.number.ensures (omega (arith, c.in-None.ensures)) c.put_number.ensures.bytes
 
-pub returns-else-was : goal.returns-else-was
-returns-else-was c = search (rules, refused-counts)
+pub returns-in-Some : goal.returns-in-Some
+returns-in-Some c = let p = c.requires in
+    let m = c.in-Some.ensures in
+    refused-counts _ p.size (λ k. grind arith) p.goes _ p.refused 0 0 [] _ _ _ c.if-answer-lt-ANSWERS.true c.number.ensures m.0 m.1 c.put_number-in-Some.ensures.bytes
 
 pub returns-else-answer-lt-ANSWERS : goal.returns-else-answer-lt-ANSWERS
-returns-else-answer-lt-ANSWERS c = let p = c.requires in refused-nowhere _ p.size (λ i. omega (arith, c.slice_known-1.given i)) p.goes _ p.refused 0 0 [] (omega arith)
+returns-else-answer-lt-ANSWERS c = let p = c.requires in refused-nowhere _ p.size (λ k. grind arith) p.goes _ p.refused 0 0 [] c.if-answer-lt-ANSWERS.false

@@ -8,10 +8,10 @@ returns-then-file-m c = search (rules, write-small)
 pub returns-then-m-gt-MOST_BLOCKS : goal.returns-then-m-gt-MOST_BLOCKS
 returns-then-m-gt-MOST_BLOCKS c = search (rules, write-many)
 
-pub returns-in-Faulty : goal.returns-in-Faulty
-returns-in-Faulty c = search (rules, write-undone)
+pub returns-in-Err : goal.returns-in-Err
+returns-in-Err c = search (rules, write-undone)
 
-pub returns-in-Sound : goal.returns-in-Sound
-returns-in-Sound c = let a = c.args in
-    write_done a.records.now c.judged.ensures (length a.file.now) c.in-Sound.is c.blocks_for-m.ensures a.file.now _ _ _ refl
-    (omega arith) (omega arith) c.cut_blocks-w.ensures.made refl c.clear-in-Sound.ensures
+pub returns-in-Ok : goal.returns-in-Ok
+returns-in-Ok c = let a = c.args in
+    write_done a.records.now c.judged.ensures (length a.file.now) c.in-Ok.is c.blocks_for-m.ensures a.file.now _ _ _ refl
+    (omega arith) (omega arith) c.cut_blocks-w.ensures.made refl c.clear-in-Ok.ensures

@@ -1,22 +1,11 @@
--- `word`: the remainder by 2 ^ 32, raised by 2 ^ 32 where it is negative.
-use borrow.Author.Rules.{rules}
-use Rattle.signed.proofs.Ways.{word-ways}
+-- `word`: the low half of the bits.
+use mathlib.Core.Path.{ap, ◌∙◌}
+use Prim.Native.Nat.{◌%◌, ◌^◌}
+use mir.Syntax.{w64}
+use mir.Val.{of_z}
+use mir.Facts.{to_z-of_z}
+use Rattle.signed.proofs.Ways.{word_bits}
 use Rattle.signed.proofs.word.Goals as goal
 
-pub nonzero_rem-rest : goal.nonzero_rem-rest
-nonzero_rem-rest c = search (rules, word-ways)
-
-pub overflow_add-result : goal.overflow_add-result
-overflow_add-result c = search (rules, word-ways)
-
-pub overflow_cast-result : goal.overflow_cast-result
-overflow_cast-result c = search (rules, word-ways)
-
-pub overflow_cast-result-else-rest-lt0 : goal.overflow_cast-result-else-rest-lt0
-overflow_cast-result-else-rest-lt0 c = search (rules, word-ways)
-
-pub returns-then-rest-lt0 : goal.returns-then-rest-lt0
-returns-then-rest-lt0 c = search (rules, word-ways)
-
-pub returns-else-rest-lt0 : goal.returns-else-rest-lt0
-returns-else-rest-lt0 c = search (rules, word-ways)
+pub returns : goal.returns
+returns c = ap (λ n. n % 2 ^ 32) (c.cast_unsigned.ensures ∙ ap (of_z w64) (to_z-of_z c.ranges.v)) ∙ word_bits _ c.ranges.v

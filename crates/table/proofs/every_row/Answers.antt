@@ -1,22 +1,16 @@
 -- `every_row`: the three kinds of rows, one after the other.
-use Rattle.table.proofs.Order.{rows-ways}
-use native.Mathlib.Omega.{arith}
+use Rattle.table.specs.Words.{word_at}
+use Rattle.table.proofs.FirstLaws.{told}
+use Rattle.table.proofs.Order.{types-wrong, attributes-wrong, particles-last}
 use Rattle.table.proofs.every_row.Goals as goal
 
-pub all-t-requires : goal.all-t-requires
-all-t-requires c = omega arith
+pub returns-in_err-all : goal.returns-in_err-all
+returns-in_err-all c = told _ _ _ c.from_residual.ensures.1 (types-wrong (word_at c.args.table.now) _ _ _ _ c.all.ensures _ c.in_err-all.was)
 
-pub returns-in_default : goal.returns-in_default
-returns-in_default c = search rows-ways
-
-pub all-a-requires : goal.all-a-requires
-all-a-requires c = omega arith
-
-pub returns-in_default-a : goal.returns-in_default-a
-returns-in_default-a c = search rows-ways
-
-pub all-requires : goal.all-requires
-all-requires c = omega arith
+pub returns-in_err-all-2 : goal.returns-in_err-all-2
+returns-in_err-all-2 c =
+    told _ _ _ c.from_residual-in_err-all-2.ensures.1
+    (attributes-wrong (word_at c.args.table.now) _ _ _ _ c.all.ensures c.in_ok-all.was _ c.all-2.ensures _ c.in_err-all-2.was)
 
 pub returns : goal.returns
-returns c = search rows-ways
+returns c = particles-last (word_at c.args.table.now) _ _ _ _ c.all.ensures c.in_ok-all.was _ c.all-2.ensures c.in_ok-all-2.was _ c.all-3.ensures

@@ -1,31 +1,13 @@
 -- A refusal after the walk, or the payload drawn.
-use Rattle.writer.proofs.EntryWays.{finish-ways}
+use Rattle.std.proofs.lemmas.Result.{err_from_is_err_and}
+use Rattle.writer.proofs.EntryWays.{finish-ways, finish-done}
 use borrow.Author.Rules.{rules}
 use Rattle.writer.proofs.finish.Goals as goal
 
-pub judge_after-f-requires : goal.judge_after-f-requires
-judge_after-f-requires c = search (rules, finish-ways)
-
-pub refused-requires : goal.refused-requires
-refused-requires c = search (rules, finish-ways)
-
-pub returns-in-At : goal.returns-in-At
-returns-in-At c = search (rules, finish-ways)
-
-pub draw-requires : goal.draw-requires
-draw-requires c = search (rules, finish-ways)
-
-pub overflow_cast-n : goal.overflow_cast-n
-overflow_cast-n c = search (rules, finish-ways)
-
-pub overflow_cast-c : goal.overflow_cast-c
-overflow_cast-c c = search (rules, finish-ways)
-
-pub overflow_add-c : goal.overflow_add-c
-overflow_add-c c = search (rules, finish-ways)
-
-pub accepted-requires : goal.accepted-requires
-accepted-requires c = search (rules, finish-ways)
+pub returns-in_err-judge_after : goal.returns-in_err-judge_after
+returns-in_err-judge_after c =
+    let p = err_from_is_err_and c.from_residual.result c.from_residual.ensures.1 in
+    rw (p.1, p.2) (search (rules, finish-ways, c.in_err-judge_after.was))
 
 pub returns : goal.returns
-returns c = search (rules, finish-ways)
+returns c = finish-done _ _ _ _ c.args.mode _ _ c.requires.1 _ c.judge_after.ensures _ c.in_ok-judge_after.was _ c.draw.ensures

@@ -1,8 +1,7 @@
 -- `tell_written`: no names.
-use mathlib.Core.Path.{refl}
 use Rattle.call_parts.specs.Area.{area_of}
 use Rattle.writes.proofs.tell_written.Goals as goal
 
-pub returns : goal.returns
+pub returns-in-Err : goal.returns-in-Err
 unfolding area_of
-returns c = (refl, c.tell.ensures)
+returns-in-Err c = rw c.in-Err.is (c.number.ensures, c.tell_place.ensures)

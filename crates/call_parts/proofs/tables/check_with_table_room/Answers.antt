@@ -1,15 +1,9 @@
 -- `check_with_table_room`: the verdict over the words lent, its place moved.
-use Rattle.call_parts.proofs.Judging.{judged-ways}
-use native.Mathlib.Omega.{arith}
-use lib.ListN.{length-take}
-use borrow.Author.Rules.{rules}
+use Rattle.call_parts.proofs.Judging.{judged-right, judged-wrong}
 use Rattle.call_parts.proofs.tables.check_with_table_room.Goals as goal
 
-pub slice_bounds-check-end-2 : goal.slice_bounds-check-end-2
-slice_bounds-check-end-2 c = simp length-take (omega arith)
+pub returns-in-Ok : goal.returns-in-Ok
+returns-in-Ok c = judged-right _ _ _ _ c.requires c.load.ensures _ c.check.ensures c.in-Ok.is
 
-pub returns-in-Right : goal.returns-in-Right
-returns-in-Right c = search (rules, judged-ways)
-
-pub returns-in-Wrong : goal.returns-in-Wrong
-returns-in-Wrong c = search (rules, judged-ways)
+pub returns-in-Err : goal.returns-in-Err
+returns-in-Err c = judged-wrong _ _ _ _ c.requires c.load.ensures _ c.check.ensures _ c.in-Err.is _ c.place_in_table.ensures

@@ -1,22 +1,14 @@
-use Rattle.init.proofs.ItemWays.{small-ways}
-use Rattle.init.proofs.ItemWays.{item-ways}
-use borrow.Author.Rules.{rules}
+use native.Mathlib.Omega.{arith}
+use Rattle.std.proofs.lemmas.Grind.{common_steps}
+use Rattle.wire.specs.Res.{◌>>=◌}
+use Rattle.init.specs.Items.{item_at}
+use Rattle.init.specs.Found.{number_is, found_is}
 use Rattle.init.proofs.items.item_at.Goals as goal
 
-pub head_at-requires : goal.head_at-requires
-head_at-requires c = search (rules, item-ways, small-ways)
+pub returns-in_err-v : goal.returns-in_err-v
+unfolding item_at number_is found_is ◌>>=◌
+returns-in_err-v c = grind (arith, common_steps)
 
-pub enum_known-e : goal.enum_known-e
-enum_known-e c = search (rules, small-ways)
-
-pub enum_known-v : goal.enum_known-v
-enum_known-v c = search (rules, small-ways)
-
-pub rest_at-requires : goal.rest_at-requires
-rest_at-requires c = search (rules, item-ways, small-ways)
-
-pub returns-in-Refuse : goal.returns-in-Refuse
-returns-in-Refuse c = search (rules, item-ways, small-ways)
-
-pub returns-in-Value : goal.returns-in-Value
-returns-in-Value c = search (rules, item-ways, small-ways)
+pub returns : goal.returns
+unfolding item_at number_is ◌>>=◌
+returns c = grind (arith, common_steps)

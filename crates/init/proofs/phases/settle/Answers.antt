@@ -1,18 +1,18 @@
-use Rattle.init.proofs.PhaseWays.{settle-ways}
+use Rattle.init.proofs.PhaseWays.{settle_ways}
 use borrow.Author.Rules.{rules}
 use Rattle.init.proofs.phases.settle.Goals as goal
 
-pub returns-then-types-gt0 : goal.returns-then-types-gt0
-returns-then-types-gt0 c = search (rules, settle-ways)
+pub returns-then-l-gt0 : goal.returns-then-l-gt0
+returns-then-l-gt0 c = search (rules, settle_ways)
 
-pub returns-then-codecs-gt0 : goal.returns-then-codecs-gt0
-returns-then-codecs-gt0 c = search (rules, settle-ways)
+pub returns-then-l-gt0-2 : goal.returns-then-l-gt0-2
+returns-then-l-gt0-2 c = search (rules, settle_ways)
 
-pub returns-then-schemas-gt0 : goal.returns-then-schemas-gt0
-returns-then-schemas-gt0 c = search (rules, settle-ways)
+pub returns-then-l-gt0-3 : goal.returns-then-l-gt0-3
+returns-then-l-gt0-3 c = search (rules, settle_ways)
 
-pub returns-then-formats : goal.returns-then-formats
-returns-then-formats c = search (rules, settle-ways)
+pub returns-then-l : goal.returns-then-l
+returns-then-l c = search (rules, settle_ways)
 
 pub returns : goal.returns
-returns c = search (rules, settle-ways)
+returns c = search (rules, settle_ways)

@@ -1,22 +1,19 @@
-use Rattle.init.proofs.ItemWays.{small-ways}
-use Rattle.init.proofs.ReadWays.{turn-ways}
-use borrow.Author.Rules.{rules}
+use Rattle.std.proofs.lemmas.Result.{err_from_is_err_and}
+use Rattle.init.proofs.ReadWays.{item-stops, place-lies, next-lies, slot-fits, item-goes}
 use Rattle.init.proofs.reading.read_item.Goals as goal
 
-pub row-r-requires : goal.row-r-requires
-row-r-requires c = search (rules, turn-ways)
-
-pub item_at-requires : goal.item_at-requires
-item_at-requires c = search (rules, turn-ways)
-
 pub words_of-w-requires : goal.words_of-w-requires
-words_of-w-requires c = (search (rules, small-ways), search (rules, turn-ways))
+words_of-w-requires c = place-lies c.args.st _ _ _ _ c.row-item.ensures.item c.requires.goes c.item_at.ensures _ c.in_ok-found.was c.requires.wall.1
 
 pub store_item-requires : goal.store_item-requires
-store_item-requires c = search (rules, turn-ways)
+store_item-requires c = let pre = c.requires in record {
+  room = slot-fits c.args.st _ _ _ _ c.row-item.ensures.item pre.goes c.item_at.ensures _ c.in_ok-found.was _ _ c.words_of-w.ensures c.row-item.ensures.slot _ pre.room pre.lies;
+  lies = next-lies c.args.st _ _ _ _ c.row-item.ensures.item pre.goes c.item_at.ensures _ c.in_ok-found.was pre.lies;
+}
 
-pub returns-in-Refuse : goal.returns-in-Refuse
-returns-in-Refuse c = search (rules, turn-ways)
+pub returns-in_err-found : goal.returns-in_err-found
+returns-in_err-found c = let p = err_from_is_err_and c.from_residual.result c.from_residual.ensures.1 in
+    rw (p.1, p.2) (item-stops c.args.st _ _ _ _ c.row-item.ensures.item c.requires.goes c.item_at.ensures _ c.in_err-found.was _ _)
 
-pub returns-in-Item : goal.returns-in-Item
-returns-in-Item c = search (rules, turn-ways)
+pub returns : goal.returns
+returns c = item-goes c.args.st _ _ _ _ c.row-item.ensures.item c.requires.goes c.item_at.ensures _ c.in_ok-found.was _ _ c.words_of-w.ensures c.row-item.ensures.slot _ _ _ _ _ c.store_item.ensures

@@ -1,18 +1,9 @@
-use mathlib.Core.Path.{◌≡◌, refl}
-use native.Mathlib.Omega.{arith}
-use Rattle.init.proofs.WriteWays.{none_yet, stretch-more}
-use borrow.Author.Rules.{rules}
+use mathlib.Core.Path.{refl}
+use Rattle.init.proofs.WriteWays.{stretch-more, none_yet}
 use Rattle.init.proofs.writing.put_stretch.Goals as goal
 
-pub loop-i-init : goal.loop-i-init
-loop-i-init c = (omega arith, search rules, none_yet _)
+pub loop-x-init : goal.loop-x-init
+loop-x-init c = none_yet _
 
-pub loop-i-preserved : goal.loop-i-preserved
-loop-i-preserved c = let v = c.loop-i in (
-  omega arith,
-  omega arith,
-  stretch-more _ _ _ c.args.given.now c.args.from c.args.n v.i _ c.requires c.loop-i-test.true refl v.invariant.2 c.put-p.ensures,
-)
-
-pub returns : goal.returns
-returns c = let v = c.loop-i in let e : v.i ≡ c.args.n = omega arith in rw e at v.invariant.2
+pub loop-x-preserved : goal.loop-x-preserved
+loop-x-preserved c = stretch-more _ _ _ c.args.bytes.now c.loop-x.x-index _ c.loop-x-test.true refl c.loop-x.invariant c.put-p.ensures

@@ -1,21 +1,19 @@
+use native.Mathlib.Omega.{arith}
+use Prim.Native.Nat.{◌*◌}
+use lib.ListN.{get_or}
+use lib.Seq.{length-take-le}
 use Rattle.init.proofs.MadeWays.{clear-ways}
 use borrow.Author.Rules.{rules}
 use Rattle.init.proofs.writing.write.Goals as goal
 
-pub count_of-n-requires : goal.count_of-n-requires
-count_of-n-requires c = search (rules, clear-ways)
-
-pub refuse-requires : goal.refuse-requires
-refuse-requires c = search (rules, clear-ways)
-
 pub returns-then-codecs-n : goal.returns-then-codecs-n
 returns-then-codecs-n c = search (rules, clear-ways)
 
-pub clear-requires : goal.clear-requires
-clear-requires c = search (rules, clear-ways)
-
 pub write_cleared-requires : goal.write_cleared-requires
-write_cleared-requires c = record { codecs = search rules; init = search rules; zeros = search (rules, clear-ways) }
+write_cleared-requires c =
+    let t = length-take-le (4 * get_or c.args.init.now 7 0) c.args.codecs.now (omega arith) in
+    let w = (c.type_inv.init 7).fits in
+    record { codecs = (omega arith, omega arith); init = c.requires; zeros = search (rules, clear-ways) }
 
 pub returns : goal.returns
 returns c = search (rules, clear-ways)

@@ -14,10 +14,10 @@ pub content-k-requires : goal.content-k-requires
 content-k-requires c = search (type-held, c.requires.0, c.requires.1)
 
 pub returns-in_default-k : goal.returns-in_default-k
-returns-in_default-k c = search (fill_end, no_rows c.content-k.result c.in_default-k.not-Particles _ c.content-k.ensures, c.requires.0, c.requires.1, c.lead_before_rows-s.ensures, c.in-Go.is, c.close.ensures, c.filled-in_default-k.ensures)
+returns-in_default-k c = search (fill_end, no_rows c.content-k.result c.in_default-k.not-Particles _ c.content-k.ensures, c.requires.0, c.requires.1, c.lead_before_rows-s.ensures, c.in-Ok.is, c.close.ensures, c.filled-in_default-k.ensures)
 
 pub particle-p-requires : goal.particle-p-requires
 particle-p-requires c = search (content-inside, c.requires.0, c.requires.1, c.content-k.ensures, c.in-Particles.is)
 
 pub returns : goal.returns
-returns c = search (fill-rows, c.requires.0, c.requires.1, c.lead_before_rows-s.ensures, c.in-Go.is, c.content-k.ensures, c.in-Particles.is, c.particle-p.ensures, c.with_rows-x.ensures)
+returns c = search (fill-rows, c.requires.0, c.requires.1, c.lead_before_rows-s.ensures, c.in-Ok.is, c.content-k.ensures, c.in-Particles.is, c.particle-p.ensures, c.with_rows-x.ensures)

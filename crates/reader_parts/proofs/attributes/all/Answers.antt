@@ -1,18 +1,19 @@
 -- What is left of the attributes, at each turn, is what was asked for.
+use Rattle.reader_parts.proofs.OneWays.{left-all, left-more, left-none, left-stop}
+use Rattle.std.proofs.lemmas.Result.{err_from_is_err_and}
 use mathlib.Core.Path.{refl}
 use native.Mathlib.Omega.{arith}
-use Rattle.reader_parts.proofs.OneWays.{left-all, left-more, left-ways, rows-of}
 use borrow.Author.Rules.{rules}
 use Rattle.reader_parts.proofs.attributes.all.Goals as goal
 
-pub loop-i-init : goal.loop-i-init
-loop-i-init c = (refl, refl, omega arith, search (rules, left-all))
+pub loop-row-init : goal.loop-row-init
+loop-row-init c = (refl, refl, left-all _ _ _ _ _ _ _ _ c.span-own.ensures)
 
-pub returns-in_default : goal.returns-in_default
-returns-in_default c = search (rules, left-ways, rows-of)
+pub returns-in_err-cursor : goal.returns-in_err-cursor
+returns-in_err-cursor c = let p = err_from_is_err_and c.from_residual.result c.from_residual.ensures.1 in rw (p.1, p.2) (left-stop _ _ _ _ _ _ _ _ _ _ _ c.loop-row.invariant.2 (omega arith) _ c.attribute-a.ensures _ _ _ c.one.ensures _ c.in_err-cursor.was)
 
-pub loop-i-preserved : goal.loop-i-preserved
-loop-i-preserved c = (search rules, search rules, omega arith, search (rules, left-more))
+pub loop-row-preserved : goal.loop-row-preserved
+loop-row-preserved c = (search rules, search rules, left-more _ _ _ _ _ _ _ _ _ _ _ c.loop-row.invariant.2 (omega arith) _ c.attribute-a.ensures _ _ _ c.one.ensures _ c.in_ok-cursor.was)
 
 pub returns : goal.returns
-returns c = search (rules, left-ways, rows-of)
+returns c = left-none _ _ _ _ _ _ _ _ _ _ _ c.loop-row.invariant.2 (omega arith)

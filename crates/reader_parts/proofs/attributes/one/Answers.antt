@@ -1,13 +1,7 @@
--- By its row, or by its flag.
-use Rattle.reader_parts.proofs.OneWays.{one-ways}
+-- What came before its value, and that.
+use Rattle.reader_parts.proofs.AttributeWays.{finished}
 use borrow.Author.Rules.{rules}
 use Rattle.reader_parts.proofs.attributes.one.Goals as goal
 
-pub returns-then-must : goal.returns-then-must
-returns-then-must c = search (rules, one-ways)
-
-pub returns-in-Refuse : goal.returns-in-Refuse
-returns-in-Refuse c = search (rules, one-ways)
-
-pub returns-in-Value : goal.returns-in-Value
-returns-in-Value c = search (rules, one-ways)
+pub returns : goal.returns
+returns c = search (rules, finished)

@@ -1,13 +1,7 @@
 -- What came before its value, and that.
-use Rattle.reader_parts.proofs.AttributeWays.{part-ways}
+use Rattle.reader_parts.proofs.AttributeWays.{finished}
 use borrow.Author.Rules.{rules}
 use Rattle.reader_parts.proofs.attributes.part.Goals as goal
 
-pub returns-in-Refuse : goal.returns-in-Refuse
-returns-in-Refuse c = search (rules, part-ways)
-
-pub returns-in-Go : goal.returns-in-Go
-returns-in-Go c = search (rules, part-ways)
-
-pub returns-in-Value : goal.returns-in-Value
-returns-in-Value c = search (rules, part-ways)
+pub returns : goal.returns
+returns c = search (rules, finished)

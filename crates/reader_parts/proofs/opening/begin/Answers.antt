@@ -1,18 +1,18 @@
-use borrow.Author.Rules.{rules}
 use Rattle.reader_parts.proofs.OpeningWays.{begin-ways}
+use borrow.Author.Rules.{rules}
 use Rattle.reader_parts.proofs.opening.begin.Goals as goal
 
-pub returns-in_default : goal.returns-in_default
-returns-in_default c = search (rules, begin-ways)
+pub returns-in-Err : goal.returns-in-Err
+returns-in-Err c = search (rules, begin-ways)
 
-pub returns-then-held : goal.returns-then-held
-returns-then-held c = search (rules, begin-ways)
+pub returns-in-Ok : goal.returns-in-Ok
+returns-in-Ok c = search (rules, begin-ways)
 
-pub returns-in_default-s : goal.returns-in_default-s
-returns-in_default-s c = search (rules, begin-ways)
+pub returns-in-Err-store_seldom : goal.returns-in-Err-store_seldom
+returns-in-Err-store_seldom c = search (rules, begin-ways)
 
-pub returns-then-coded : goal.returns-then-coded
-returns-then-coded c = search (rules, begin-ways)
+pub returns-in-Ok-store_seldom : goal.returns-in-Ok-store_seldom
+returns-in-Ok-store_seldom c = search (rules, begin-ways)
 
 pub returns : goal.returns
 returns c = search (rules, begin-ways)

@@ -1,9 +1,6 @@
-use borrow.Author.Rules.{rules}
-use Rattle.reader_parts.proofs.OpeningWays.{flag-ways}
+use mathlib.Core.Path.{◌∙◌}
+use Rattle.reader_parts.proofs.OpeningWays.{flag_is}
 use Rattle.reader_parts.proofs.opening.flag.Goals as goal
 
-pub returns-then-coded : goal.returns-then-coded
-returns-then-coded c = search (rules, flag-ways)
-
-pub returns-else-coded : goal.returns-else-coded
-returns-else-coded c = search (rules, flag-ways)
+pub returns : goal.returns
+returns c = c.from.ensures ∙ flag_is _

@@ -2,6 +2,7 @@
 use mathlib.Core.Path.{refl}
 use native.Mathlib.Omega.{arith}
 use lib.ListN.{length-set}
+use Rattle.std.proofs.lemmas.Bool.{and_parts}
 use Rattle.reader_parts.proofs.TextWays.{held_more, far_none, far-more, laid_none, block-ways}
 use borrow.Author.Rules.{rules}
 use Rattle.reader_parts.proofs.values.block.Goals as goal
@@ -15,7 +16,7 @@ loop-j-preserved c = let l = c.loop-j in
       simp length-set (omega arith),
       omega arith,
       held_more _ _ _ l.held l.j _ l.invariant.0 (omega arith) l.invariant.2 o,
-      far-more _ _ _ l.j _ l.plain _ _ l.invariant.3 o c.printable.ensures c.both-plain.ensures,
+      far-more _ _ _ l.j _ l.plain _ _ l.invariant.3 o c.printable-plain.ensures (and_parts _ _),
     )
 
 pub loop-h-init : goal.loop-h-init

@@ -1,5 +1,5 @@
 -- The octets are held, and then laid; those seen so far are printable, where `plain` still says so.
-use Prim.Native.Nat.{◌-◌, ◌≤◌}
+use Prim.Native.Nat.{◌≤◌}
 use mathlib.Core.Path.{◌≡◌}
 use lib.ListN.{length}
 use lib.Seq.{sets}
@@ -11,15 +11,9 @@ use Rattle.reader_parts.proofs.values.block.Given as goal
 abbrev pub invariant-loop-j : goal.invariant-loop-j
 invariant-loop-j l = (length l.held ≡ 16) × (l.j ≤ l.n) × Held l.payload l.k l.i l.held l.j × SoFar l.payload l.k l.i l.j l.plain
 
-abbrev pub decreases-loop-j : goal.decreases-loop-j
-decreases-loop-j l = l.n - l.j
-
 abbrev pub invariant-loop-h : goal.invariant-loop-h
 invariant-loop-h l = (length l.texts ≡ length l.initial.texts)
     × (l.h ≤ l.n)
     × (l.texts ≡ sets l.initial.texts l.used (octets_at l.payload l.k l.i l.h))
     × Held l.payload l.k l.i l.held l.n
     × SoFar l.payload l.k l.i l.n l.plain
-
-abbrev pub decreases-loop-h : goal.decreases-loop-h
-decreases-loop-h l = l.n - l.h

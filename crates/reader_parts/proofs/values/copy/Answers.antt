@@ -4,7 +4,7 @@ use Rattle.reader_parts.proofs.TextWays.{copied, copied-not}
 use Rattle.reader_parts.proofs.values.copy.Goals as goal
 
 pub returns-then-room-m : goal.returns-then-room-m
-returns-then-room-m c = copied-not _ _ _ _ _ (omega (arith, c.room_left-room.ensures, c.if-room-m.true))
+returns-then-room-m c = copied-not _ _ _ _ _ (omega arith)
 
 pub returns : goal.returns
 returns c = copied _ c.type_inv.payload _ _ _ _ _ _ c.move_octets.ensures

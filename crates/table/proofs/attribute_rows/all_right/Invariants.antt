@@ -1,5 +1,5 @@
 -- `all_right`: after a turns the rows before a are right if the joints are small.
-use Prim.Native.Nat.{◌-◌, ◌≤◌}
+use Prim.Native.Nat.{◌≤◌}
 use mathlib.Core.Path.{◌≡◌}
 use Rattle.numbers.specs.Limit.{most_name}
 use Rattle.table.specs.Words.{attribute_at, word_at}
@@ -9,6 +9,3 @@ use Rattle.table.proofs.attribute_rows.all_right.Given as goal
 
 abbrev pub invariant-loop-a : goal.invariant-loop-a
 invariant-loop-a l = l.names ≤ most_name → l.musts ≤ 1 → l.counts ≡ 0 → Left (attribute_at l.types) (attribute_row (word_at l.table) l.types) l.attributes l.a
-
-abbrev pub decreases-loop-a : goal.decreases-loop-a
-decreases-loop-a l = l.attributes - l.a

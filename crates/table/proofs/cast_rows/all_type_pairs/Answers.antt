@@ -2,6 +2,7 @@
 use native.Mathlib.Omega.{arith}
 use Rattle.table.specs.Words.{type_pair_at}
 use Rattle.table.proofs.CastRows.{under-clear}
+use Rattle.table.proofs.FirstLaws.{told}
 use Rattle.table.proofs.Lines.{type-pairs-lined}
 use Rattle.table.proofs.Turns.{turns-start, turns-done, turn-wrong, turn-right}
 use Rattle.table.proofs.cast_rows.all_type_pairs.Goals as goal
@@ -9,16 +10,16 @@ use Rattle.table.proofs.cast_rows.all_type_pairs.Goals as goal
 pub loop-t-init : goal.loop-t-init
 loop-t-init c = (turns-start (type_pair_at _ _ _) _ (type-pairs-lined _ _ _ _) _, under-clear)
 
-pub type_pair-r-requires : goal.type_pair-r-requires
-type_pair-r-requires c = record { small = c.requires.0; known = omega arith; entries = c.requires.2; stamped = c.loop-t.invariant.1 }
+pub type_pair-requires : goal.type_pair-requires
+type_pair-requires c = record { known = omega arith; entries = c.requires.1; stamped = c.loop-t.invariant.1 }
 
-pub returns-in_default : goal.returns-in_default
-returns-in_default c = turn-wrong (type_pair_at _ _ _) _ (type-pairs-lined _ _ _ _) _ _ c.loop-t.invariant.0 c.loop-t-test.true _ c.type_pair-r.ensures.verdict _ c.in_default.is
+pub returns-in_err-type_pair : goal.returns-in_err-type_pair
+returns-in_err-type_pair c = told _ _ _ c.from_residual.ensures.1 (turn-wrong (type_pair_at _ _ _) _ (type-pairs-lined _ _ _ _) _ _ c.loop-t.invariant.0 c.loop-t-test.true _ c.type_pair.ensures.verdict _ c.in_err-type_pair.was)
 
 pub loop-t-preserved : goal.loop-t-preserved
 loop-t-preserved c = (
-  turn-right (type_pair_at _ _ _) _ (type-pairs-lined _ _ _ _) _ _ c.loop-t.invariant.0 c.loop-t-test.true _ c.type_pair-r.ensures.verdict c.in-Right.is,
-  c.type_pair-r.ensures.stamped,
+  turn-right (type_pair_at _ _ _) _ (type-pairs-lined _ _ _ _) _ _ c.loop-t.invariant.0 c.loop-t-test.true _ c.type_pair.ensures.verdict c.in_ok-type_pair.was,
+  c.type_pair.ensures.stamped,
 )
 
 pub returns : goal.returns

@@ -1,5 +1,5 @@
 -- `each_once`: after i turns the type and i entries have the stamp, and no other number; none of them stands twice.
-use Prim.Native.Nat.{◌-◌, ◌≤◌}
+use Prim.Native.Nat.{◌≤◌}
 use mathlib.Core.Path.{◌≡◌}
 use mathlib.Core.List.{◌∷◌}
 use mathlib.Core.Bool.{true}
@@ -10,6 +10,3 @@ use Rattle.table.proofs.cast_rows.each_once.Given as goal
 
 abbrev pub invariant-loop-i : goal.invariant-loop-i
 invariant-loop-i l = (l.i ≤ l.count) × (once (l.t ∷ words_from (word_at l.table) l.start l.i) ≡ true) × Tells l.stamp (l.t ∷ words_from (word_at l.table) l.start l.i) l.stamps
-
-abbrev pub decreases-loop-i : goal.decreases-loop-i
-decreases-loop-i l = l.count - l.i

@@ -1,19 +1,12 @@
 -- `within`: a header word is judged where it is given.
-use native.Mathlib.Omega.{arith}
-use Rattle.table.proofs.Given.{given-ways}
+use Rattle.table.proofs.Given.{not-given, given-wrong, given-right}
 use Rattle.table.proofs.header.within.Goals as goal
 
-pub returns-then-table-i : goal.returns-then-table-i
-returns-then-table-i c = search given-ways
-
-pub offset_bounds-table-i : goal.offset_bounds-table-i
-offset_bounds-table-i c = omega arith
+pub returns-in_default : goal.returns-in_default
+returns-in_default c = not-given _ _ _ _ c.in_default.ensures.lookup.3
 
 pub returns-then-x-least : goal.returns-then-x-least
-returns-then-x-least c = search given-ways
-
-pub returns-then-most-x : goal.returns-then-most-x
-returns-then-most-x c = search given-ways
+returns-then-x-least c = let h = c.in-Some.ensures.lookup.3 in given-wrong _ _ _ _ h.0 _ (h.1 0) c.then-x-least.either
 
 pub returns : goal.returns
-returns c = search given-ways
+returns c = let h = c.in-Some.ensures.lookup.3 in given-right _ _ _ _ h.0 _ (h.1 0) c.if-x-least.false c.if-most-x.false

@@ -15,5 +15,8 @@ marked-requires c = search (rules, set-ways)
 pub bounds-table-i : goal.bounds-table-i
 bounds-table-i c = search (rules, set-ways)
 
+pub bounds-table-i-2 : goal.bounds-table-i-2
+bounds-table-i-2 c = search (rules, set-ways)
+
 pub returns : goal.returns
 returns c = search (rules, set-ways)

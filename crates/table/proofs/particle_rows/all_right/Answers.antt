@@ -1,5 +1,8 @@
 -- `all_right`: after p turns the rows before p are right if the joints are.
 use mathlib.Core.Path.{sym}
+use borrow.Author.Tests.{eqb-true, leb-true}
+use native.Mathlib.Omega.{arith}
+use Rattle.numbers.specs.Limit.{most_name}
 use Rattle.table.specs.Words.{particle_at}
 use Rattle.table.proofs.Lines.{particles-lined}
 use Rattle.table.proofs.Judging.{judged-turn, no-tells-nothing}
@@ -17,12 +20,9 @@ loop-p-preserved c = λ s z.
     judged-turn (particle_at _ _) _ (particles-lined _ _ _ _) _ _ _ _ _ _ c.loop-p.invariant c.loop-p-test.true
     (c.row_right.ensures c.if-not-row_right.false) s z
 
-pub returns-then-small-gt-MOST_NAME : goal.returns-then-small-gt-MOST_NAME
-returns-then-small-gt-MOST_NAME c = no-tells-nothing
+pub returns-then-small-le-MOST_NAME : goal.returns-then-small-le-MOST_NAME
+returns-then-small-le-MOST_NAME c = λ e.
+    sym (turns-done (particle_at _ _) _ (particles-lined _ _ _ _) _ _ (c.loop-p.invariant c.if-small-le-MOST_NAME.true (eqb-true _ _ e)) c.loop-p-test.false)
 
-pub returns-then-zeros-ne0 : goal.returns-then-zeros-ne0
-returns-then-zeros-ne0 c = no-tells-nothing
-
-pub returns : goal.returns
-returns c = λ e.
-    sym (turns-done (particle_at _ _) _ (particles-lined _ _ _ _) _ _ (c.loop-p.invariant c.if-small-gt-MOST_NAME.false c.if-zeros-ne0.false) c.loop-p-test.false)
+pub returns-else-small-le-MOST_NAME : goal.returns-else-small-le-MOST_NAME
+returns-else-small-le-MOST_NAME c = λ e. let h = leb-true c.loop-p.small most_name e in absurd (omega arith)

@@ -1,5 +1,5 @@
 -- `all_right`: after p turns the rows before p are right if the joints are.
-use Prim.Native.Nat.{◌-◌, ◌≤◌}
+use Prim.Native.Nat.{◌≤◌}
 use mathlib.Core.Path.{◌≡◌}
 use Rattle.numbers.specs.Limit.{most_name}
 use Rattle.table.specs.Words.{particle_at, word_at}
@@ -9,6 +9,3 @@ use Rattle.table.proofs.particle_rows.all_right.Given as goal
 
 abbrev pub invariant-loop-p : goal.invariant-loop-p
 invariant-loop-p l = l.small ≤ most_name → l.zeros ≡ 0 → Left (particle_at l.types l.attributes) (particle_row (word_at l.table) l.types l.attributes l.particles) l.particles l.p
-
-abbrev pub decreases-loop-p : goal.decreases-loop-p
-decreases-loop-p l = l.particles - l.p

@@ -2,26 +2,14 @@
 use Rattle.table.proofs.Choices.{particle-ways}
 use Rattle.table.proofs.particle_rows.by_kind.Goals as goal
 
-pub element-requires : goal.element-requires
-element-requires c = tt
-
 pub returns-then-kind-eq-ELEMENT : goal.returns-then-kind-eq-ELEMENT
 returns-then-kind-eq-ELEMENT c = search particle-ways
-
-pub group-requires : goal.group-requires
-group-requires c = tt
 
 pub returns-then-kind-eq-SEQUENCE : goal.returns-then-kind-eq-SEQUENCE
 returns-then-kind-eq-SEQUENCE c = search particle-ways
 
-pub group-requires-then-kind-eq-CHOICE : goal.group-requires-then-kind-eq-CHOICE
-group-requires-then-kind-eq-CHOICE c = tt
-
 pub returns-then-kind-eq-CHOICE : goal.returns-then-kind-eq-CHOICE
 returns-then-kind-eq-CHOICE c = search particle-ways
-
-pub occurs-requires : goal.occurs-requires
-occurs-requires c = tt
 
 pub returns-then-kind-eq-OCCURS : goal.returns-then-kind-eq-OCCURS
 returns-then-kind-eq-OCCURS c = search particle-ways

@@ -1,12 +1,10 @@
 -- `row`: the four words read, the verdict on them, and the row's own place added.
-use Rattle.table.proofs.OneRow.{particle-row-ways}
+use native.Mathlib.Omega.{arith}
+use Rattle.table.proofs.OneRow.{particle-small, particle-row-is}
 use Rattle.table.proofs.particle_rows.row.Goals as goal
 
-pub overflow_add-place : goal.overflow_add-place
-overflow_add-place c = search particle-row-ways
+pub in_row-requires : goal.in_row-requires
+in_row-requires c = (omega arith, particle-small c.args.table.now _ _ _ _ _ _ c.particle_at-base.ensures c.words_from.ensures _ c.by_kind.ensures)
 
-pub returns-in-Right : goal.returns-in-Right
-returns-in-Right c = search particle-row-ways
-
-pub returns-in-Wrong : goal.returns-in-Wrong
-returns-in-Wrong c = search particle-row-ways
+pub returns : goal.returns
+returns c = particle-row-is c.args.table.now _ _ _ _ _ _ c.particle_at-base.ensures c.words_from.ensures _ c.by_kind.ensures _ c.in_row.ensures

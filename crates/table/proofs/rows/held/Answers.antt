@@ -4,12 +4,6 @@ use Rattle.table.specs.Rows.{held_of}
 use Rattle.table.proofs.Parties.{held-past}
 use Rattle.table.proofs.rows.held.Goals as goal
 
-pub type_at-requires : goal.type_at-requires
-type_at-requires c = tt
-
-pub word-marks-requires : goal.word-marks-requires
-word-marks-requires c = tt
-
 pub returns-then-party-lt32 : goal.returns-then-party-lt32
 unfolding held_of
 returns-then-party-lt32 c = cc

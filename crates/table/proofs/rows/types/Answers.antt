@@ -2,9 +2,6 @@
 use Rattle.table.specs.Rows.{table_of}
 use Rattle.table.proofs.rows.types.Goals as goal
 
-pub word-requires : goal.word-requires
-word-requires c = tt
-
 pub returns : goal.returns
 unfolding table_of
 returns c = cc

@@ -1,5 +1,4 @@
 -- `all`: after t turns the rows from t on are left.
-use Prim.Native.Nat.{◌-◌}
 use Rattle.table.specs.Words.{type_at, word_at}
 use Rattle.table.specs.Valid.{type_row}
 use Rattle.table.proofs.Turns.{Left}
@@ -7,6 +6,3 @@ use Rattle.table.proofs.type_rows.all.Given as goal
 
 abbrev pub invariant-loop-t : goal.invariant-loop-t
 invariant-loop-t l = Left type_at (type_row (word_at l.table) l.attributes l.particles) l.types l.t
-
-abbrev pub decreases-loop-t : goal.decreases-loop-t
-decreases-loop-t l = l.types - l.t

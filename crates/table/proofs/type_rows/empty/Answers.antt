@@ -7,9 +7,6 @@ pub returns-then-a-ne0 : goal.returns-then-a-ne0
 unfolding empty_words
 returns-then-a-ne0 c = search test-ways depth 12
 
-pub unused-requires : goal.unused-requires
-unused-requires c = tt
-
 pub returns : goal.returns
 unfolding empty_words
 returns c = search test-ways depth 12

@@ -2,11 +2,8 @@
 use Rattle.table.proofs.Choices.{ends-ways}
 use Rattle.table.proofs.type_rows.ends.Goals as goal
 
-pub gap-requires : goal.gap-requires
-gap-requires c = tt
+pub returns-in-None : goal.returns-in-None
+returns-in-None c = search ends-ways
 
-pub returns-in-Under : goal.returns-in-Under
-returns-in-Under c = search ends-ways
-
-pub returns-in-By : goal.returns-in-By
-returns-in-By c = search ends-ways
+pub returns-in-Some : goal.returns-in-Some
+returns-in-Some c = search ends-ways

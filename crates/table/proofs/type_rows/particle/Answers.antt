@@ -7,9 +7,6 @@ pub returns-then-particles-a : goal.returns-then-particles-a
 unfolding particles_words
 returns-then-particles-a c = search test-ways depth 12
 
-pub unused-requires : goal.unused-requires
-unused-requires c = tt
-
 pub returns : goal.returns
 unfolding particles_words
 returns c = search test-ways depth 12

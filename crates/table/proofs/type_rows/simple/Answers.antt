@@ -8,22 +8,13 @@ pub returns-then-a-gt-DATE : goal.returns-then-a-gt-DATE
 unfolding simple_words
 returns-then-a-gt-DATE c = search (test-ways, kind-ways) depth 12
 
-pub ends-requires : goal.ends-requires
-ends-requires c = tt
-
 pub returns-then-a-eq-RANGED : goal.returns-then-a-eq-RANGED
 unfolding simple_words
 returns-then-a-eq-RANGED c = search (test-ways, kind-ways) depth 12
 
-pub values-requires : goal.values-requires
-values-requires c = tt
-
 pub returns-then-a-eq-ENUMERATION : goal.returns-then-a-eq-ENUMERATION
 unfolding simple_words
 returns-then-a-eq-ENUMERATION c = search (test-ways, kind-ways) depth 12
-
-pub unused-requires : goal.unused-requires
-unused-requires c = tt
 
 pub returns : goal.returns
 unfolding simple_words

@@ -1,16 +1,7 @@
--- A text, a date, or a number.
+-- A number that is neither text nor date.
 use borrow.Author.Rules.{rules}
-use Rattle.value.proofs.KindWays.{of-kind-ways}
+use Rattle.value.proofs.KindWays.{of-read}
 use Rattle.value.proofs.kinds.of_kind.Goals as goal
 
-pub returns-then-simple-eq-TEXT : goal.returns-then-simple-eq-TEXT
-returns-then-simple-eq-TEXT c = search (rules, of-kind-ways)
-
-pub returns-then-simple-gt-FLOAT : goal.returns-then-simple-gt-FLOAT
-returns-then-simple-gt-FLOAT c = search (rules, of-kind-ways)
-
-pub returns-in-Refuse : goal.returns-in-Refuse
-returns-in-Refuse c = search (rules, of-kind-ways)
-
-pub returns-in-Value : goal.returns-in-Value
-returns-in-Value c = search (rules, of-kind-ways)
+pub returns-in_ok-word-in_default : goal.returns-in_ok-word-in_default
+returns-in_ok-word-in_default c = of-read _ _ _ _ _ _ (search rules) (search rules) (search rules) _ c.by_kind.ensures _ _ c.in_ok-word-in_default.was _ c.word.ensures

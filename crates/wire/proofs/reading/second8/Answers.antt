@@ -1,25 +1,13 @@
 -- By the ways of its one reading.
-use Rattle.wire.proofs.ReadWays.{second-ways}
-use borrow.Author.Rules.{rules}
+use Rattle.std.proofs.lemmas.Result.{err_from_is_err_and}
+use Rattle.wire.proofs.ReadWays.{way-second-refuse, way-second-third, way-second-value}
 use Rattle.wire.proofs.reading.second8.Goals as goal
 
-pub fixed-requires : goal.fixed-requires
-fixed-requires c = search (rules, second-ways)
+pub returns-in_err-y : goal.returns-in_err-y
+returns-in_err-y c = let p = err_from_is_err_and c.from_residual.result c.from_residual.ensures.1 in rw (p.1, p.2) (way-second-refuse _ _ _ _ c.fixed.ensures _ c.in_err-y.was _)
 
 pub returns-then-y-ge128 : goal.returns-then-y-ge128
-returns-then-y-ge128 c = search (rules, second-ways)
+returns-then-y-ge128 c = way-second-third _ _ _ _ c.fixed.ensures _ _ c.in_ok-y.was _ c.if-y-ge128.true
 
-pub returns-then-x-eq0 : goal.returns-then-x-eq0
-returns-then-x-eq0 c = search (rules, second-ways)
-
-pub overflow_mul-result : goal.overflow_mul-result
-overflow_mul-result c = search (rules, second-ways)
-
-pub overflow_add-result : goal.overflow_add-result
-overflow_add-result c = search (rules, second-ways)
-
-pub returns-in-Refuse : goal.returns-in-Refuse
-returns-in-Refuse c = search (rules, second-ways)
-
-pub returns-else-x-eq0 : goal.returns-else-x-eq0
-returns-else-x-eq0 c = search (rules, second-ways)
+pub returns : goal.returns
+returns c = way-second-value _ _ _ _ c.fixed.ensures _ _ c.in_ok-y.was _ c.if-y-ge128.false

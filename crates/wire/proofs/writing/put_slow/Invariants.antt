@@ -8,6 +8,3 @@ use Rattle.wire.proofs.writing.put_slow.Given as goal
 
 abbrev pub invariant-loop-i : goal.invariant-loop-i
 invariant-loop-i l = (l.i ≤ l.w) × (length l.buf ≡ length l.initial.buf) × Put (bit_at l.initial.buf) (bit_at l.buf) l.at (digits l.i (l.v / 2 ^ (l.w - l.i)))
-
-abbrev pub decreases-loop-i : goal.decreases-loop-i
-decreases-loop-i l = l.w - l.i

@@ -1,13 +1,7 @@
--- The root, or a row.
-use Rattle.writer.proofs.CycleWays.{row-ways}
+-- A row is within the table.
+use Rattle.writer.proofs.CycleWays.{row_inside}
 use borrow.Author.Rules.{rules}
 use Rattle.writer.proofs.cycle.row_for.Goals as goal
 
-pub returns-then-i-eq-NO_ROW : goal.returns-then-i-eq-NO_ROW
-returns-then-i-eq-NO_ROW c = search (rules, row-ways)
-
 pub particle-requires : goal.particle-requires
-particle-requires c = search (rules, row-ways)
-
-pub returns : goal.returns
-returns c = search (rules, row-ways)
+particle-requires c = search (rules, row_inside)

@@ -1,31 +1,31 @@
 -- By the first thing wrong.
-use Rattle.writer.proofs.FrontLaws.{checked-ways}
+use native.Mathlib.Omega.{arith}
+use Rattle.writer.proofs.FrontLaws.{checked-ways, front-type, front-name, front-parts, front-many, front-fine}
 use borrow.Author.Rules.{rules}
 use Rattle.writer.proofs.front.judge_checked.Goals as goal
+use Rattle.writer.proofs.front.judge_checked.Goals.{then-types-by-via-then-types-by, then-types-by-via-else-types-by+then-by-gt-MOST_NAME, then-events-ne0-via-then-events-ne0, then-events-ne0-via-else-events-ne0+then-at-gt-MOST_EVENTS}
 
-pub types-known-requires : goal.types-known-requires
-types-known-requires c = search (rules, checked-ways)
+pub returns-then-types-by : goal.returns-then-types-by
+returns-then-types-by c =
+    elim c.then-types-by.branch [
+      | then-types-by-via-then-types-by w ↦ front-type _ _ _ _ _ _ c.requires _ c.types.ensures w.if-types-by.true
+      | then-types-by-via-else-types-by+then-by-gt-MOST_NAME w ↦ front-name _ _ _ _ _ _ c.requires _ c.types.ensures w.if-types-by.false w.if-by-gt-MOST_NAME.true
+    ]
 
-pub returns-then-known-t : goal.returns-then-known-t
-returns-then-known-t c = search (rules, checked-ways)
+pub returns-then-by-ge-PARTIES : goal.returns-then-by-ge-PARTIES
+returns-then-by-ge-PARTIES c = search (rules, checked-ways)
 
-pub returns-then-name-gt-MOST_NAME : goal.returns-then-name-gt-MOST_NAME
-returns-then-name-gt-MOST_NAME c = search (rules, checked-ways)
+pub returns-in-Err : goal.returns-in-Err
+returns-in-Err c = search (rules, checked-ways)
 
-pub returns-then-party-ge-PARTIES : goal.returns-then-party-ge-PARTIES
-returns-then-party-ge-PARTIES c = search (rules, checked-ways)
-
-pub known_mode-requires : goal.known_mode-requires
-known_mode-requires c = search (rules, checked-ways)
-
-pub returns-then-not-known_mode : goal.returns-then-not-known_mode
-returns-then-not-known_mode c = search (rules, checked-ways)
-
-pub returns-then-events-gt0 : goal.returns-then-events-gt0
-returns-then-events-gt0 c = search (rules, checked-ways)
-
-pub returns-then-n-gt-MOST_EVENTS : goal.returns-then-n-gt-MOST_EVENTS
-returns-then-n-gt-MOST_EVENTS c = search (rules, checked-ways)
+pub returns-then-events-ne0 : goal.returns-then-events-ne0
+returns-then-events-ne0 c =
+    elim c.then-events-ne0.branch [
+      | then-events-ne0-via-then-events-ne0 w ↦ front-parts _ _ _ _ _ _ c.requires _ c.types.ensures c.if-types-by.false c.if-by-gt-MOST_NAME.false c.if-by-ge-PARTIES.false _ c.mode_of.ensures _ c.in-Ok.is (omega (arith, w.if-events-ne0.true))
+      | then-events-ne0-via-else-events-ne0+then-at-gt-MOST_EVENTS w ↦
+          front-many _ _ _ _ _ _ c.requires _ c.types.ensures c.if-types-by.false c.if-by-gt-MOST_NAME.false c.if-by-ge-PARTIES.false _ c.mode_of.ensures _ c.in-Ok.is (omega (arith, w.if-events-ne0.false)) w.if-at-gt-MOST_EVENTS.true
+    ]
 
 pub returns : goal.returns
-returns c = search (rules, checked-ways)
+returns c =
+    front-fine _ _ _ _ _ _ c.requires _ c.types.ensures c.if-types-by.false c.if-by-gt-MOST_NAME.false c.if-by-ge-PARTIES.false _ c.mode_of.ensures _ c.in-Ok.is (omega (arith, c.if-events-ne0.false)) c.if-at-gt-MOST_EVENTS.false

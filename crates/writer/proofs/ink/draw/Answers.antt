@@ -2,15 +2,8 @@
 use native.Mathlib.Omega.{arith}
 use mathlib.Core.Path.{◌∙◌}
 use lib.ListN.{length-set}
-use Rattle.writer.proofs.InkLaws.{draw-ways, draw-done}
-use borrow.Author.Rules.{rules}
+use Rattle.writer.proofs.InkLaws.{draw-done}
 use Rattle.writer.proofs.ink.draw.Goals as goal
-
-pub first-x-requires : goal.first-x-requires
-first-x-requires c = search (rules, draw-ways)
-
-pub put_notes-requires : goal.put_notes-requires
-put_notes-requires c = search (rules, draw-ways)
 
 pub shape_of-payload : goal.shape_of-payload
 shape_of-payload c = c.put_notes.auto.payload ∙ simp length-set

@@ -8,6 +8,3 @@ overflow_add-result c = search (rules, first-ways)
 
 pub returns-then-mode : goal.returns-then-mode
 returns-then-mode c = search (rules, first-ways)
-
-pub returns : goal.returns
-returns c = search (rules, first-ways)

@@ -1,16 +1,10 @@
 -- By what the flag came to.
-use Rattle.writer_parts.proofs.AttributeWays.{part-ways}
+use Rattle.writer_parts.proofs.AttributeWays.{part_ways}
 use borrow.Author.Rules.{rules}
 use Rattle.writer_parts.proofs.attributes.part.Goals as goal
 
-pub value-requires : goal.value-requires
-value-requires c = search (rules, part-ways)
+pub returns-in-Ok-Nothing : goal.returns-in-Ok-Nothing
+returns-in-Ok-Nothing c = search (rules, part_ways)
 
-pub returns-in-Refuse : goal.returns-in-Refuse
-returns-in-Refuse c = search (rules, part-ways)
-
-pub returns-in-Nothing : goal.returns-in-Nothing
-returns-in-Nothing c = search (rules, part-ways)
-
-pub returns-in-Value : goal.returns-in-Value
-returns-in-Value c = search (rules, part-ways)
+pub returns-in-Ok-Value : goal.returns-in-Ok-Value
+returns-in-Ok-Value c = search (rules, part_ways)

@@ -1,25 +1,22 @@
 -- An attribute row, or the own value.
-use Rattle.writer_parts.proofs.AttributeWays.{slot-ways}
+use Rattle.writer_parts.proofs.AttributeWays.{slot_ways}
 use borrow.Author.Rules.{rules}
 use Rattle.writer_parts.proofs.attributes.slot_at.Goals as goal
 
-pub overflow_add-first : goal.overflow_add-first
-overflow_add-first c = search (rules, slot-ways)
-
-pub attribute-a-requires : goal.attribute-a-requires
-attribute-a-requires c = search (rules, slot-ways)
-
 pub returns-then-i-n : goal.returns-then-i-n
-returns-then-i-n c = search (rules, slot-ways)
-
-pub content-requires : goal.content-requires
-content-requires c = search (rules, slot-ways)
+returns-then-i-n c = search (rules, slot_ways)
 
 pub returns-in-Empty : goal.returns-in-Empty
-returns-in-Empty c = search (rules, slot-ways)
+returns-in-Empty c = search (rules, slot_ways)
 
 pub returns-in-Simple : goal.returns-in-Simple
-returns-in-Simple c = search (rules, slot-ways)
+returns-in-Simple c = search (rules, slot_ways)
 
 pub returns-in-Particles : goal.returns-in-Particles
-returns-in-Particles c = search (rules, slot-ways)
+returns-in-Particles c = search (rules, slot_ways)
+
+pub attribute-a-requires : goal.attribute-a-requires
+attribute-a-requires c = search (rules, slot_ways)
+
+pub content-requires : goal.content-requires
+content-requires c = search (rules, slot_ways)

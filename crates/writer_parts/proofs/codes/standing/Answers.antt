@@ -1,13 +1,10 @@
 -- The type itself, or a place in the list.
-use Rattle.writer_parts.proofs.CodeWays.{standing-ways}
+use Rattle.writer_parts.proofs.CodeWays.{standing_ways}
 use borrow.Author.Rules.{rules}
 use Rattle.writer_parts.proofs.codes.standing.Goals as goal
 
 pub returns-then-p-t : goal.returns-then-p-t
-returns-then-p-t c = search (rules, standing-ways)
-
-pub place_in-requires : goal.place_in-requires
-place_in-requires c = search (rules, standing-ways)
+returns-then-p-t c = search (rules, standing_ways)
 
 pub returns : goal.returns
-returns c = search (rules, standing-ways)
+returns c = search (rules, standing_ways)

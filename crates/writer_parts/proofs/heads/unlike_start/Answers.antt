@@ -1,40 +1,19 @@
--- By the first word that differs.
-use Rattle.writer_parts.proofs.HeadWays.{start-ways}
-use borrow.Author.Rules.{rules}
+-- By the kind, then by the first word that differs.
+use Rattle.writer_parts.proofs.HeadWays.{start-name, start-flag, start-like}
+use Rattle.writer_parts.proofs.JudgingWays.{kind-fine, word-first, word-second}
 use Rattle.writer_parts.proofs.heads.unlike_start.Goals as goal
 
-pub returns-then-other-gt0 : goal.returns-then-other-gt0
-returns-then-other-gt0 c = search (rules, start-ways)
-
-pub overflow_mul-x : goal.overflow_mul-x
-overflow_mul-x c = search (rules, start-ways)
-
-pub overflow_add-x : goal.overflow_add-x
-overflow_add-x c = search (rules, start-ways)
-
-pub offset_bounds-events-at : goal.offset_bounds-events-at
-offset_bounds-events-at c = search (rules, start-ways)
-
-pub bounds-events-at : goal.bounds-events-at
-bounds-events-at c = search (rules, start-ways)
-
-pub overflow_mul-q : goal.overflow_mul-q
-overflow_mul-q c = search (rules, start-ways)
-
-pub overflow_add-q : goal.overflow_add-q
-overflow_add-q c = search (rules, start-ways)
-
-pub offset_bounds-events-at-2 : goal.offset_bounds-events-at-2
-offset_bounds-events-at-2 c = search (rules, start-ways)
-
-pub bounds-events-at-2 : goal.bounds-events-at-2
-bounds-events-at-2 c = search (rules, start-ways)
-
-pub returns-then-name-x : goal.returns-then-name-x
-returns-then-name-x c = search (rules, start-ways)
+pub returns-then-name-e : goal.returns-then-name-e
+returns-then-name-e c =
+    let k = kind-fine c.of_kind.ensures.0 _ c.in_ok-e.was in
+    start-name _ _ _ k _ (word-first c.of_kind.ensures.1 _ c.in_ok-e.was) (word-second c.of_kind.ensures.1 _ c.in_ok-e.was) _ c.if-name-e.true
 
 pub returns-then-flag_wrong : goal.returns-then-flag_wrong
-returns-then-flag_wrong c = search (rules, start-ways)
+returns-then-flag_wrong c =
+    let k = kind-fine c.of_kind.ensures.0 _ c.in_ok-e.was in
+    start-flag _ _ _ k _ (word-first c.of_kind.ensures.1 _ c.in_ok-e.was) (word-second c.of_kind.ensures.1 _ c.in_ok-e.was) c.if-name-e.false _ _ c.flag_wrong.ensures c.if-flag_wrong.true
 
 pub returns : goal.returns
-returns c = search (rules, start-ways)
+returns c =
+    let k = kind-fine c.of_kind.ensures.0 _ c.in_ok-e.was in
+    start-like _ _ _ k _ (word-first c.of_kind.ensures.1 _ c.in_ok-e.was) (word-second c.of_kind.ensures.1 _ c.in_ok-e.was) c.if-name-e.false _ _ c.flag_wrong.ensures c.if-flag_wrong.false

@@ -1,40 +1,21 @@
--- By the first word that differs.
-use Rattle.writer_parts.proofs.JudgingWays.{unlike-ways}
-use borrow.Author.Rules.{rules}
+-- By the kind, then by the first word that differs.
+use Rattle.writer_parts.proofs.JudgingWays.{kind-fine, word-first, word-second, unlike-p, unlike-q, like-both}
 use Rattle.writer_parts.proofs.judging.unlike.Goals as goal
+use Rattle.writer_parts.proofs.judging.unlike.Goals.{then-p-e-via-then-p-e, then-p-e-via-else-p-e+then-q-e}
 
-pub returns-then-events-at : goal.returns-then-events-at
-returns-then-events-at c = search (rules, unlike-ways)
-
-pub overflow_mul-i : goal.overflow_mul-i
-overflow_mul-i c = search (rules, unlike-ways)
-
-pub offset_bounds-events-i : goal.offset_bounds-events-i
-offset_bounds-events-i c = search (rules, unlike-ways)
-
-pub overflow_add-x : goal.overflow_add-x
-overflow_add-x c = search (rules, unlike-ways)
-
-pub offset_bounds-events-i-2 : goal.offset_bounds-events-i-2
-offset_bounds-events-i-2 c = search (rules, unlike-ways)
-
-pub overflow_add-y : goal.overflow_add-y
-overflow_add-y c = search (rules, unlike-ways)
-
-pub offset_bounds-events-i-3 : goal.offset_bounds-events-i-3
-offset_bounds-events-i-3 c = search (rules, unlike-ways)
-
-pub returns-then-k-eq-BLANK : goal.returns-then-k-eq-BLANK
-returns-then-k-eq-BLANK c = search (rules, unlike-ways)
-
-pub returns-then-kind-k : goal.returns-then-kind-k
-returns-then-kind-k c = search (rules, unlike-ways)
-
-pub returns-then-p-x : goal.returns-then-p-x
-returns-then-p-x c = search (rules, unlike-ways)
-
-pub returns-then-q-y : goal.returns-then-q-y
-returns-then-q-y c = search (rules, unlike-ways)
+pub returns-then-p-e : goal.returns-then-p-e
+returns-then-p-e c =
+    let k = kind-fine c.of_kind.ensures.0 _ c.in_ok-e.was in
+    let x = word-first c.of_kind.ensures.1 _ c.in_ok-e.was in
+    let y = word-second c.of_kind.ensures.1 _ c.in_ok-e.was in
+    elim c.then-p-e.branch [
+      | then-p-e-via-then-p-e w ↦ unlike-p _ _ _ _ _ k _ x y w.if-p-e.true
+      | then-p-e-via-else-p-e+then-q-e w ↦ unlike-q _ _ _ _ _ k _ x y w.if-p-e.false w.if-q-e.true
+    ]
 
 pub returns : goal.returns
-returns c = search (rules, unlike-ways)
+returns c =
+    let k = kind-fine c.of_kind.ensures.0 _ c.in_ok-e.was in
+    let x = word-first c.of_kind.ensures.1 _ c.in_ok-e.was in
+    let y = word-second c.of_kind.ensures.1 _ c.in_ok-e.was in
+    like-both _ _ _ _ _ k _ x y c.if-p-e.false c.if-q-e.false

@@ -1,19 +1,10 @@
 -- By the ways of each code.
-use Rattle.writer_parts.proofs.NoteWays.{number-ways}
+use Rattle.writer_parts.proofs.NoteWays.{number_ways}
 use borrow.Author.Rules.{rules}
 use Rattle.writer_parts.proofs.notes.number.Goals as goal
 
-pub returns-in-Plain : goal.returns-in-Plain
-returns-in-Plain c = search (rules, number-ways)
-
 pub returns-in-Word : goal.returns-in-Word
-returns-in-Word c = search (rules, number-ways)
+returns-in-Word c = search (rules, number_ways)
 
 pub returns-in-Signed : goal.returns-in-Signed
-returns-in-Signed c = search (rules, number-ways)
-
-pub returns-in-Some : goal.returns-in-Some
-returns-in-Some c = search (rules, number-ways)
-
-pub returns-in-Shifted : goal.returns-in-Shifted
-returns-in-Shifted c = search (rules, number-ways)
+returns-in-Signed c = search (rules, number_ways)

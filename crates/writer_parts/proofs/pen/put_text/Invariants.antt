@@ -1,5 +1,5 @@
--- The loop: the first i bytes are drawn.
-use Prim.Native.Nat.{◌-◌, ◌≤◌}
+-- The loop: the first 16 i bytes are drawn.
+use Prim.Native.Nat.{◌*◌}
 use mathlib.Core.Path.{◌≡◌}
 use lib.ListN.{length, take, drop}
 use Rattle.value.specs.Simple.{bytes}
@@ -7,7 +7,4 @@ use Rattle.writer_parts.specs.Pen.{Drawn}
 use Rattle.writer_parts.proofs.pen.put_text.Given as goal
 
 abbrev pub invariant-loop-i : goal.invariant-loop-i
-invariant-loop-i l = (length l.payload ≡ length l.initial.payload) × (l.i ≤ l.n) × Drawn l.initial.payload l.payload l.initial.q l.q (bytes (take l.i (drop l.from l.texts)))
-
-abbrev pub decreases-loop-i : goal.decreases-loop-i
-decreases-loop-i l = l.n - l.i
+invariant-loop-i l = (length l.payload ≡ length l.initial.payload) × Drawn l.initial.payload l.payload l.initial.q l.q (bytes (take (16 * l.i) (drop l.from l.texts)))

@@ -1,16 +1,10 @@
 -- The kind, then the count.
-use Rattle.writer_parts.proofs.ValueWays.{count-ways}
+use Rattle.writer_parts.proofs.ValueWays.{count_ways}
 use borrow.Author.Rules.{rules}
 use Rattle.writer_parts.proofs.values.count.Goals as goal
 
-pub returns-then-bad-gt0 : goal.returns-then-bad-gt0
-returns-then-bad-gt0 c = search (rules, count-ways)
-
-pub bounds-events-at : goal.bounds-events-at
-bounds-events-at c = search (rules, count-ways)
-
-pub note_number-requires : goal.note_number-requires
-note_number-requires c = search (rules, count-ways)
+pub returns-in-Err : goal.returns-in-Err
+returns-in-Err c = search (rules, count_ways)
 
 pub returns : goal.returns
-returns c = search (rules, count-ways)
+returns c = search (rules, count_ways)

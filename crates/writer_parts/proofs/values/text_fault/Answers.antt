@@ -1,25 +1,13 @@
 -- By the first thing wrong.
-use Rattle.writer_parts.proofs.ValueWays.{text-fault-ways}
+use Rattle.writer_parts.proofs.ValueWays.{text_fault_ways}
 use borrow.Author.Rules.{rules}
 use Rattle.writer_parts.proofs.values.text_fault.Goals as goal
 
 pub returns-then-v-gt-MOST_TEXT : goal.returns-then-v-gt-MOST_TEXT
-returns-then-v-gt-MOST_TEXT c = search (rules, text-fault-ways)
-
-pub overflow_sub-texts : goal.overflow_sub-texts
-overflow_sub-texts c = search (rules, text-fault-ways)
+returns-then-v-gt-MOST_TEXT c = search (rules, text_fault_ways)
 
 pub returns-then-texts-used : goal.returns-then-texts-used
-returns-then-texts-used c = search (rules, text-fault-ways)
-
-pub overflow_add-to : goal.overflow_add-to
-overflow_add-to c = search (rules, text-fault-ways)
-
-pub slice_bounds-check-count : goal.slice_bounds-check-count
-slice_bounds-check-count c = search (rules, text-fault-ways)
-
-pub check-requires : goal.check-requires
-check-requires c = search (rules, text-fault-ways)
+returns-then-texts-used c = search (rules, text_fault_ways)
 
 pub returns : goal.returns
-returns c = search (rules, text-fault-ways)
+returns c = search (rules, text_fault_ways)

@@ -1,9 +1,0 @@
-use Rattle.init.proofs.PhaseWays.{list-ways}
-use borrow.Author.Rules.{rules}
-use Rattle.init.proofs.phases.list_codecs.Goals as goal
-
-pub settle-requires : goal.settle-requires
-settle-requires c = search (rules, list-ways)
-
-pub returns : goal.returns
-returns c = search (rules, list-ways)

@@ -1,9 +1,0 @@
-use Rattle.init.proofs.WriteWays.{value-ways}
-use borrow.Author.Rules.{rules}
-use Rattle.init.proofs.writing.no_formats.Goals as goal
-
-pub returns-then-a-ne0 : goal.returns-then-a-ne0
-returns-then-a-ne0 c = search (rules, value-ways)
-
-pub returns : goal.returns
-returns c = search (rules, value-ways)

@@ -1,9 +1,0 @@
-use Rattle.shelf.proofs.Ways.{judge-ways}
-use Rattle.std.proofs.Common.{rules}
-use Rattle.shelf.proofs.stream.first_in_stream.Goals as goal
-
-pub returns-then-p-lo : goal.returns-then-p-lo
-returns-then-p-lo c = search (rules, judge-ways)
-
-pub returns : goal.returns
-returns c = search (rules, judge-ways)

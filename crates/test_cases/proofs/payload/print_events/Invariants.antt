@@ -1,6 +1,0 @@
--- `print_events`: the loop ends.
-use Rattle.std.proofs.Common.{◌-◌, ◌/◌, length}
-use Rattle.test_cases.proofs.payload.print_events.Given as goal
-
-abbrev pub decreases-loop-i : goal.decreases-loop-i
-decreases-loop-i g l = length l.events / 16 - l.i
