@@ -6,14 +6,15 @@ use mathlib.Core.List.{List, [], ◌∷◌}
 use native.Mathlib.Omega.{arith}
 use native.Mathlib.Numerals.{add-one}
 use borrow.Author.Tests.{eq-eqb, ne_eqb}
-use lib.ListN.{length, get_or, set, take}
-use lib.Seq.{get_or-set_same, get_or-set_other, get_or-take, length-take-le}
+use lib.ListN.{length, get_or, set, take, drop, drop_of_length-le}
+use lib.Seq.{get_or-set_same, get_or-set_other, get_or-take, get_or-drop, length-take-le, drop-cons, drop-drop}
+use Rattle.std.specs.Simd.{first_chunks}
 use Rattle.model.specs.Model.{Event}
 use Rattle.report.specs.Eights.{number_from}
 use Rattle.report.specs.Places.{numbers, other, lines}
 use Rattle.report.specs.Report.{Sort, at, line_from, line_of, sort_of, outer, line_for, open_after}
 use Rattle.report.specs.Report.Sort.{begins, blank, ends, inside}
-use Rattle.report.specs.Sums.{Sum, within, passed, and_then, counted_in, counted_then_in, counts_in, numbers_in, sum_of, event_in, events_in, stack_of, Line, Lines}
+use Rattle.report.specs.Sums.{Sum, within, passed, and_then, counted_in, counted_then_in, counts_in, numbers_in, sum_of, event_of, events_of, events_in, stack_of, Line, Lines}
 use Rattle.report.proofs.EightLaws.{number-at}
 
 -- numbers of a report
@@ -65,40 +66,45 @@ lines_after ends i (x ∷ l) h k = k.1
 lines_after inside i l h k = k
 
 -- the loop over the events: as it begins, turns and ends
-pub lines-begin : (a : List ℕ) → Lines (stack_of a 0)
-unfolding stack_of
-lines-begin a = tt
-
-pub events-begin : (w a : List ℕ) (n : ℕ) (R : List ℕ) → counts_in (events_in w 0 (n - 0)) (stack_of a 0) R ≡ counts_in (events_in w 0 n) [] R
-unfolding stack_of
-events-begin w a n R = let e : n - 0 ≡ n = omega arith in rw e
-
 pub lines-again : (a a' : List ℕ) (d d' line : ℕ) (y : Sort) → Lines (stack_of a d) → Line line → stack_of a' d' ≡ open_after y line (stack_of a d) → Lines (stack_of a' d')
 lines-again a a' d d' line y h l e = rw e (lines_after y line (stack_of a d) l h)
 
-events-next : (w : List ℕ) (i n : ℕ) → i < n → events_in w i (n - i) ≡ event_in w i ∷ events_in w (i + 1) (n - (i + 1))
-unfolding events_in
-events-next w i n h = let e : n - i ≡ suc (n - (i + 1)) = omega arith in rw e
+events-next : (E : List (List ℕ)) (i : ℕ) → i < length E → events_of (drop i E) ≡ event_of (get_or E i []) ∷ events_of (drop (i + 1) E)
+unfolding events_of
+events-next E i h = rw (drop-cons E i [] h, add-one i) refl
 
-module _ (w : List ℕ) (i n : ℕ) (a : List ℕ) (d : ℕ) (s : List ℕ) (X : Sum) (so_far : counts_in (events_in w i (n - i)) (stack_of a d) (numbers_in s) ≡ X) where
-  pub events-ended : n ≤ i → within (numbers_in s) ≡ X
-  unfolding counts_in events_in
-  events-ended h = let e : n - i ≡ 0 = omega arith in rw e at so_far
+module _ (E : List (List ℕ)) (i : ℕ) (S : List ℕ) (s : List ℕ) (X : Sum) (so_far : counts_in (events_of (drop i E)) S (numbers_in s) ≡ X) where
+  pub events-ended : length E ≤ i → within (numbers_in s) ≡ X
+  unfolding counts_in events_of
+  events-ended h = rw (drop_of_length-le E h) at so_far
 
-  module _ (y : Sort) (name bits line : ℕ) (r : Option (Unit {0})) (t : List ℕ) (h : i < n) (sorted : y ≡ sort_of (get_or w (4 * i) 0)) (named : name ≡ get_or w (4 * i + 1) 0) (sized : bits ≡ get_or w (4 * i + 3) 0)
-      (found : line ≡ line_for y name (stack_of a d) (numbers_in s)) (sum : sum_of r t ≡ counted_in y name bits line (numbers_in s)) where
-    one : X ≡ and_then (sum_of r t) (counts_in (events_in w (i + 1) (n - (i + 1))) (open_after y line (stack_of a d)))
+  module _ (y : Sort) (name bits line : ℕ) (r : Option (Unit {0})) (t : List ℕ) (h : i < length E) (sorted : y ≡ sort_of (event_of (get_or E i [])).kind) (named : name ≡ (event_of (get_or E i [])).p)
+      (sized : bits ≡ (event_of (get_or E i [])).bits) (found : line ≡ line_for y name S (numbers_in s)) (sum : sum_of r t ≡ counted_in y name bits line (numbers_in s)) where
+    one : X ≡ and_then (sum_of r t) (counts_in (events_of (drop (i + 1) E)) (open_after y line S))
     unfolding counts_in counted_then_in
-    one = rw (sum, found, sorted, named, sized) (sym so_far ∙ ap (λ (L : List Event). counts_in L (stack_of a d) (numbers_in s)) (events-next w i n h))
+    one = rw (sum, found, sorted, named, sized) (sym so_far ∙ ap (λ (L : List Event). counts_in L S (numbers_in s)) (events-next E i h))
 
     pub events-stopped : r ≡ None → passed ≡ X
     unfolding and_then
     events-stopped e = rw e at (sym one)
 
-    pub events-again : (u : Unit {0}) (a' : List ℕ) (d' : ℕ) → r ≡ Some u → stack_of a' d' ≡ open_after y line (stack_of a d)
-        → counts_in (events_in w (i + 1) (n - (i + 1))) (stack_of a' d') (numbers_in t) ≡ X
+    pub events-again : (u : Unit {0}) (S' : List ℕ) → r ≡ Some u → S' ≡ open_after y line S → counts_in (events_of (drop (i + 1) E)) S' (numbers_in t) ≡ X
     unfolding and_then
-    events-again u a' d' e f = rw f (rw e at (sym one))
+    events-again u S' e f = rw f (rw e at (sym one))
+
+-- words by fours are the events from event i on
+events-by-fours : (w : List ℕ) (i n : ℕ) → events_of (first_chunks 4 n (drop (4 * i) w)) ≡ events_in w i n
+unfolding events_of events_in
+events-by-fours w i zero = refl
+events-by-fours w i (suc n) =
+    let on : drop 4 (drop (4 * i) w) ≡ drop (4 * (i + 1)) w = let e : 4 * i + 4 ≡ 4 * (i + 1) = omega arith in drop-drop 4 (4 * i) w ∙ ap (λ (k : ℕ). drop k w) e in
+    rw (word 0 (4 * i) (omega arith) (omega arith), word 1 (4 * i + 1) (omega arith) refl, word 2 (4 * i + 2) (omega arith) refl, word 3 (4 * i + 3) (omega arith) refl, on, events-by-fours w (i + 1) n)
+  where
+    word : (j k : ℕ) → j < 4 → 4 * i + j ≡ k → get_or (take 4 (drop (4 * i) w)) j 0 ≡ get_or w k 0
+    word j k h e = get_or-take 4 (drop (4 * i) w) j 0 h ∙ get_or-drop (4 * i) w j 0 ∙ ap (λ (m : ℕ). get_or w m 0) e
+
+pub events-begin : (w : List ℕ) (E : List (List ℕ)) (R : List ℕ) → E ≡ first_chunks 4 (length w / 4) w → counts_in (events_of E) [] R ≡ counts_in (events_in w 0 (length w / 4)) [] R
+events-begin w E R e = ap (λ (L : List Event). counts_in L [] R) (ap events_of e ∙ events-by-fours w 0 (length w / 4))
 
 -- the events of the words that are cut off
 events-cut : (w : List ℕ) (i n m : ℕ) → i + n ≤ m → events_in (take (4 * m) w) i n ≡ events_in w i n

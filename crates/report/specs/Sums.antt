@@ -68,6 +68,14 @@ unfoldable pub events_in : List ℕ → (i n : ℕ) → List Event
 events_in w i zero = []
 events_in w i (suc n) = event_in w i ∷ events_in w (i + 1) n
 
+-- events of four words each
+abbrev pub event_of : List ℕ → Event
+event_of e = event (get_or e 0 0) (get_or e 1 0) (get_or e 2 0) (get_or e 3 0)
+
+unfoldable pub events_of : List (List ℕ) → List Event
+events_of [] = []
+events_of (e ∷ E) = event_of e ∷ events_of E
+
 -- the first of a stack's places, the last of them innermost
 unfoldable pub stack_of : List ℕ → ℕ → List ℕ
 stack_of a zero = []

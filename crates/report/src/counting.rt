@@ -94,11 +94,12 @@ fn count_on(s: &mut [u8], words: &[u32], stack: &mut [u32]) -> Option<()>
     requires room { length words.now / 4 ≤ length stack.old }
     ensures { sum_of result s.new ≡ counts_in (events_in words.now 0 (length words.now / 4)) [] (numbers_in s.old) }
 {
+    let (events, _) = words.as_chunks::<4>();
     let mut depth = 0;
-    for i in 0..words.len() / 4 {
-        let sort = sort_of(words[4 * i]);
-        let name = u64::from(words[4 * i + 1]);
-        let bits = u64::from(words[4 * i + 3]);
+    for &[kind, name, _, bits] in events {
+        let sort = sort_of(kind);
+        let name = u64::from(name);
+        let bits = u64::from(bits);
         let line = line_for(s, stack, depth, sort, name);
         count_event(s, line, sort, name, bits)?;
         depth = open_after(stack, depth, sort, line);

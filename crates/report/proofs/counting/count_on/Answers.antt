@@ -1,21 +1,23 @@
 -- `count_on`: what is left of the events, from what has been counted, comes to what all come to.
 use native.Mathlib.Omega.{arith}
-use Rattle.report.proofs.Ways.{lines-begin, events-begin, lines-again, events-again, events-stopped, events-ended}
+use Rattle.report.specs.Sums.{stack_of}
+use Rattle.report.proofs.Ways.{events-begin, lines-again, events-again, events-stopped, events-ended}
 use borrow.Author.Rules.{rules}
 use Rattle.report.proofs.counting.count_on.Goals as goal
 
-pub loop-i-init : goal.loop-i-init
-loop-i-init c = record { deep = omega arith; opened = lines-begin _; so_far = events-begin _ _ _ _ }
+pub loop-kind-init : goal.loop-kind-init
+unfolding stack_of
+loop-kind-init c = record { deep = omega arith; opened = tt; so_far = events-begin _ _ _ c.as_chunks.ensures.front }
 
-pub loop-i-preserved : goal.loop-i-preserved
-loop-i-preserved c = record {
+pub loop-kind-preserved : goal.loop-kind-preserved
+loop-kind-preserved c = record {
   deep = search rules;
   opened = search (rules, lines-again);
-  so_far = events-again _ _ _ _ _ _ _ c.loop-i.invariant.so_far _ _ _ _ _ _ c.loop-i-test.true c.sort_of-sort.ensures c.from-name.ensures c.from-bits.ensures c.line_for-line.ensures.line c.count_event.ensures _ _ _ c.in_ok-count_event.was c.open_after-depth.ensures.open;
+  so_far = events-again _ _ _ _ _ c.loop-kind.invariant.so_far _ _ _ _ _ _ c.loop-kind-test.true c.sort_of-sort.ensures c.from-name.ensures c.from-bits.ensures c.line_for-line.ensures.line c.count_event.ensures _ _ c.in_ok-count_event.was c.open_after-depth.ensures.open;
 }
 
 pub returns-in_err-count_event : goal.returns-in_err-count_event
-returns-in_err-count_event c = rw c.from_residual.ensures (events-stopped _ _ _ _ _ _ _ c.loop-i.invariant.so_far _ _ _ _ _ _ c.loop-i-test.true c.sort_of-sort.ensures c.from-name.ensures c.from-bits.ensures c.line_for-line.ensures.line c.count_event.ensures c.in_err-count_event.was)
+returns-in_err-count_event c = rw c.from_residual.ensures (events-stopped _ _ _ _ _ c.loop-kind.invariant.so_far _ _ _ _ _ _ c.loop-kind-test.true c.sort_of-sort.ensures c.from-name.ensures c.from-bits.ensures c.line_for-line.ensures.line c.count_event.ensures c.in_err-count_event.was)
 
 pub returns : goal.returns
-returns c = events-ended _ _ _ _ _ _ _ c.loop-i.invariant.so_far (c.loop-i-test.false)
+returns c = events-ended _ _ _ _ _ c.loop-kind.invariant.so_far c.loop-kind-test.false

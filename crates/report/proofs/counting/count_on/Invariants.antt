@@ -1,14 +1,14 @@
 -- `count_on`: what is left of the events, from what has been counted, comes to what all come to.
-use Prim.Native.Nat.{◌-◌, ◌/◌, ◌≤◌}
+use Prim.Native.Nat.{◌/◌, ◌≤◌}
 use mathlib.Core.Path.{◌≡◌}
 use mathlib.Core.List.{[]}
-use lib.ListN.{length}
-use Rattle.report.specs.Sums.{Lines, stack_of, counts_in, events_in, numbers_in}
+use lib.ListN.{length, drop}
+use Rattle.report.specs.Sums.{Lines, stack_of, counts_in, events_in, events_of, numbers_in}
 use Rattle.report.proofs.counting.count_on.Given as goal
 
-abbrev pub invariant-loop-i : goal.invariant-loop-i
-invariant-loop-i l = record {
-  deep : l.depth ≤ l.i;
+abbrev pub invariant-loop-kind : goal.invariant-loop-kind
+invariant-loop-kind l = record {
+  deep : l.depth ≤ l.kind-index;
   opened : Lines (stack_of l.stack l.depth);
-  so_far : counts_in (events_in l.words l.i (length l.words / 4 - l.i)) (stack_of l.stack l.depth) (numbers_in l.s) ≡ counts_in (events_in l.words 0 (length l.words / 4)) [] (numbers_in l.initial.s);
+  so_far : counts_in (events_of (drop l.kind-index l.events)) (stack_of l.stack l.depth) (numbers_in l.s) ≡ counts_in (events_in l.words 0 (length l.words / 4)) [] (numbers_in l.initial.s);
 }
