@@ -56,6 +56,22 @@ pub opens-more : (a : List ℕ) (d line : ℕ) → d < length a → stack_of (se
 unfolding stack_of
 opens-more a d line h = rw (add-one d, get_or-set_same a d line 0 h, stack-under a d d line (omega arith))
 
+stack-length : (a : List ℕ) (d : ℕ) → length (stack_of a d) ≡ d
+unfolding stack_of
+stack-length a zero = refl
+stack-length a (suc d) = ap suc (stack-length a d)
+
+pub stack-below : (a : List ℕ) (d n : ℕ) (l : List ℕ) → stack_of a d ≡ l → length l < n → d < n
+stack-below a d n l e h = let s = stack-length a d in let k = ap length e in omega arith
+
+pub opens-one : (s : Sort) (i : ℕ) (l l' : List ℕ) → l' ≡ open_after s i l → length l' ≤ length l + 1
+unfolding open_after outer
+opens-one begins i l l' e = rw e (omega arith)
+opens-one blank i l l' e = rw e (omega arith)
+opens-one ends i [] l' e = rw e (omega arith)
+opens-one ends i (x ∷ l) l' e = rw e (omega arith)
+opens-one inside i l l' e = rw e (omega arith)
+
 -- the lines of a stack stay lines
 pub lines_after : (s : Sort) (i : ℕ) (l : List ℕ) → Line i → Lines l → Lines (open_after s i l)
 unfolding open_after outer
@@ -66,9 +82,6 @@ lines_after ends i (x ∷ l) h k = k.1
 lines_after inside i l h k = k
 
 -- the loop over the events: as it begins, turns and ends
-pub lines-again : (a a' : List ℕ) (d d' line : ℕ) (y : Sort) → Lines (stack_of a d) → Line line → stack_of a' d' ≡ open_after y line (stack_of a d) → Lines (stack_of a' d')
-lines-again a a' d d' line y h l e = rw e (lines_after y line (stack_of a d) l h)
-
 events-next : (E : List (List ℕ)) (i : ℕ) → i < length E → events_of (drop i E) ≡ event_of (get_or E i []) ∷ events_of (drop (i + 1) E)
 unfolding events_of
 events-next E i h = rw (drop-cons E i [] h, add-one i) refl

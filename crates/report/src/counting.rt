@@ -1,13 +1,13 @@
 // The events of a payload, counted in turn.
-ghost use Rattle.std.specs.Prelude.{◌≡◌, [], ◌+◌, ◌/◌, ◌<◌, ◌≤◌, length};
+ghost use Rattle.std.specs.Prelude.{◌≡◌, [], ◌/◌, ◌<◌, ◌≤◌, length};
 ghost use Rattle.numbers.specs.Limit.{most_events};
 ghost use Rattle.report.specs.Places.{report_bytes};
 ghost use Rattle.report.specs.Report.{sort_of, line_for, open_after};
-ghost use Rattle.report.specs.Sums.{Line, Lines, sum_of, numbers_in, sort_is, stack_of, events_in, counted_in, counts_in};
+ghost use Rattle.report.specs.Sums.{Line, sum_of, numbers_in, sort_is, events_in, counted_in, counts_in};
 
 use crate::lines::{line_of, meet, plus};
-use crate::places;
-use numbers::{kind, limit};
+use crate::stack::Stack;
+use numbers::kind;
 
 // What an event does: it begins an element, is one that was stepped over, ends one, or belongs to the one that is open.
 #[derive(Clone, Copy)]
@@ -35,20 +35,15 @@ fn sort_of(kind: u32) -> Sort
 }
 
 // The line that an event belongs to: its own element's, or that of the innermost element that is open.
-#[tactic(auto, unfolding(crate::specs::Report::line_for, crate::specs::Report::innermost, crate::specs::Sums::sort_is, crate::specs::Sums::stack_of))]
-fn line_for(s: &[u8], stack: &[u32], depth: usize, sort: Sort, name: u64) -> usize
-    requires { (length s.now ≡ report_bytes) × (depth ≤ length stack.now) × Lines (stack_of stack.now depth) }
-    ensures line { result ≡ line_for (sort_is sort) name (stack_of stack.now depth) (numbers_in s.now) }
+#[tactic(auto, unfolding(crate::specs::Report::line_for, crate::specs::Sums::sort_is))]
+fn line_for(s: &[u8], stack: &Stack, sort: Sort, name: u64) -> usize
+    requires { length s.now ≡ report_bytes }
+    ensures line { result ≡ line_for (sort_is sort) name stack.now (numbers_in s.now) }
     ensures inside { Line result }
 {
     match sort {
         Sort::Begins | Sort::Blank => line_of(s, name),
-        Sort::Ends | Sort::Inside => {
-            if depth == 0 {
-                return places::OTHER;
-            }
-            stack[depth - 1] as usize
-        }
+        Sort::Ends | Sort::Inside => stack.top(),
     }
 }
 
@@ -71,48 +66,34 @@ fn count_event(s: &mut [u8], line: usize, sort: Sort, name: u64, bits: u64) -> O
     }
 }
 
-// The stack of open elements' lines after an event; lines are kept as words, which take half the room.
-#[tactic(auto, unfolding(crate::specs::Report::open_after, crate::specs::Report::outer, crate::specs::Sums::sort_is, crate::specs::Sums::stack_of))]
-fn open_after(stack: &mut [u32], depth: usize, sort: Sort, line: usize) -> usize
-    requires { (depth < length stack.old) × Line line }
-    ensures open { stack_of stack.new result ≡ open_after (sort_is sort) line (stack_of stack.old depth) }
-    ensures most { result ≤ depth + 1 }
+// The stack of open elements' lines after an event.
+#[tactic(auto, unfolding(crate::specs::Report::open_after, crate::specs::Sums::sort_is))]
+fn open_after(stack: &mut Stack, sort: Sort, line: usize)
+    requires { (length stack.old < most_events) × Line line }
+    ensures { stack.new ≡ open_after (sort_is sort) line stack.old }
 {
     match sort {
-        Sort::Begins => {
-            stack[depth] = line as u32;
-            depth + 1
-        }
-        Sort::Ends => depth.saturating_sub(1),
-        Sort::Blank | Sort::Inside => depth,
+        Sort::Begins => stack.push(line),
+        Sort::Ends => stack.pop(),
+        Sort::Blank | Sort::Inside => {}
     }
 }
 
 // The events of words, four words each, in turn.
-fn count_on(s: &mut [u8], words: &[u32], stack: &mut [u32]) -> Option<()>
-    requires size { length s.old ≡ report_bytes }
-    requires room { length words.now / 4 ≤ length stack.old }
-    ensures { sum_of result s.new ≡ counts_in (events_in words.now 0 (length words.now / 4)) [] (numbers_in s.old) }
-{
-    let (events, _) = words.as_chunks::<4>();
-    let mut depth = 0;
-    for &[kind, name, _, bits] in events {
-        let sort = sort_of(kind);
-        let name = u64::from(name);
-        let bits = u64::from(bits);
-        let line = line_for(s, stack, depth, sort, name);
-        count_event(s, line, sort, name, bits)?;
-        depth = open_after(stack, depth, sort, line);
-    }
-    Some(())
-}
-
-// The same with room for the lines of all elements that are open.
 pub fn count_events(s: &mut [u8], words: &[u32]) -> Option<()>
     requires size { length s.old ≡ report_bytes }
     requires few { length words.now / 4 ≤ most_events }
     ensures { sum_of result s.new ≡ counts_in (events_in words.now 0 (length words.now / 4)) [] (numbers_in s.old) }
 {
-    let mut stack = [0u32; limit::MOST_EVENTS];
-    count_on(s, words, &mut stack)
+    let (events, _) = words.as_chunks::<4>();
+    let mut stack = Stack::new();
+    for &[kind, name, _, bits] in events {
+        let sort = sort_of(kind);
+        let name = u64::from(name);
+        let bits = u64::from(bits);
+        let line = line_for(s, &stack, sort, name);
+        count_event(s, line, sort, name, bits)?;
+        open_after(&mut stack, sort, line);
+    }
+    Some(())
 }

@@ -5,6 +5,7 @@ mod counting; // counting.rt: the events of a payload
 mod eights; // eights.rt: numbers of eight bytes
 mod lines; // lines.rt: a name's line, and sums
 mod places; // places.rt: where each number stands
+mod stack; // stack.rt: the lines of the elements that are open
 
 ghost use Rattle.std.specs.Prelude.{◌≡◌, [], ◌*◌, ◌/◌, ◌<◌, ◌≤◌, length};
 ghost use Rattle.numbers.specs.Limit.{most_events, most_payload};

@@ -1,0 +1,19 @@
+-- `push`: one line more, where there is room.
+use mathlib.Core.Path.{ap, ◌∙◌}
+use mathlib.Core.List.{◌∷◌}
+use native.Mathlib.Omega.{arith}
+use Rattle.report.proofs.Ways.{stack-below, opens-more}
+use Rattle.report.proofs.stack.Stack.push.Goals as goal
+
+pub bounds-self-inside-self-inside : goal.bounds-self-inside-self-inside
+bounds-self-inside-self-inside c = stack-below _ _ _ _ c.self.view_is c.requires.0
+
+pub invariant_of-self : goal.invariant_of-self
+invariant_of-self c =
+    let h = stack-below _ _ _ _ c.self.view_is c.requires.0 in
+    (omega arith, rw (opens-more c.self.inside.lines c.self.inside.depth c.args.line (rw c.self.told h)) (c.requires.1, c.self.invariant.1))
+
+pub returns : goal.returns
+returns c =
+    let h = stack-below _ _ _ _ c.self.view_is c.requires.0 in
+    opens-more _ _ c.args.line (rw c.self.told h) ∙ ap (λ l. c.args.line ∷ l) c.self.view_is
