@@ -7,13 +7,13 @@ use Rattle.std.specs.Prelude.{Option, Some, None}
 use native.Mathlib.Omega.{arith}
 use borrow.Author.Tests.{lt-ltb, le-ltb, eq-eqb, ne_eqb}
 use lib.ListN.{length, get_or, set, drop}
-use lib.Seq.{sets, get_or-set_same, get_or-drop}
+use lib.Seq.{get_or-set_same, get_or-drop}
 use Rattle.model.specs.Model.{Event}
-use Rattle.report.specs.Eights.{eight, numbers_of, bytes_of}
+use Rattle.report.specs.Eights.{numbers_of, bytes_of}
 use Rattle.report.specs.Places.{numbers, report_bytes, limit, answered, answers}
 use Rattle.report.specs.Report.{at, plus, accepts, refuses, sums, fits, settled, adds}
 use Rattle.report.specs.Sums.{within, passed, accepts_in, numbers_in, sum_of, events_in, Octets}
-use Rattle.report.proofs.EightLaws.{put_back, whole_back, numbers-length}
+use Rattle.report.proofs.EightLaws.{whole_back, numbers-length}
 use Rattle.report.proofs.Passing.{settle, Fits, fits-true, fits-false, fits-set, Names, accepts-settle}
 
 -- numbers of 8 bytes fit
@@ -44,31 +44,28 @@ going : (number bytes bits : ℕ) (L : List Event) (R : List ℕ) → at R 0 ≡
 unfolding adds
 going number bytes bits L R z = rw (eq-eqb (at R 0) 0 z)
 
-pub stays-stopped : (number bytes bits : ℕ) (L : List Event) (s : List ℕ) (was : ℕ) → length s ≡ report_bytes → Octets s → was ≡ at (numbers_in s) 0 → (was ≡ 0 → ⊥) → s ≡ bytes_of (adds number bytes bits L (numbers_in s))
+pub stays-stopped : (number bytes bits : ℕ) (L : List Event) (R : List ℕ) (was : ℕ) → was ≡ at R 0 → (was ≡ 0 → ⊥) → R ≡ adds number bytes bits L R
 unfolding adds
-stays-stopped number bytes bits L s was n k e z = whole_back s n k ∙ rw (ne_eqb (at (numbers_in s) 0) 0 (λ q. z (e ∙ q)))
+stays-stopped number bytes bits L R was e z = rw (ne_eqb (at R 0) 0 (λ q. z (e ∙ q)))
 
 pub names-fit : (w : List ℕ) → ((k : ℕ) → get_or w k 0 < limit) → (i n : ℕ) → Names (events_in w i n)
 unfolding events_in
 names-fit w h i zero = tt
 names-fit w h i (suc n) = (h (4 * i + 1), names-fit w h (i + 1) n)
 
-module _ (s : List ℕ) (size : length s ≡ report_bytes) (octets : Octets s) (goes : at (numbers_in s) 0 ≡ 0) where
+module _ (s : List ℕ) (octets : Octets s) (goes : at (numbers_in s) 0 ≡ 0) where
   -- an accepted payload: u is what the sums left
   module _ (bytes bits : ℕ) (L : List Event) (fit : Names L) (u : List ℕ) (ok : Option (Unit {0})) (sum : sum_of ok u ≡ accepts_in bytes bits L (numbers_in s)) where
     same : sum_of ok u ≡ settle (accepts bytes bits L (numbers_in s))
     same = sum ∙ accepts-settle bytes bits L (numbers_in s) fit (numbers_fit numbers s octets) (numbers-length numbers s)
 
-    pub accepted-goes : (x : Unit {0}) → ok ≡ Some x → length u ≡ report_bytes → Octets u → u ≡ bytes_of (adds 0 bytes bits L (numbers_in s))
+    pub accepted-goes : (x : Unit {0}) → ok ≡ Some x → numbers_in u ≡ adds 0 bytes bits L (numbers_in s)
     unfolding sums
-    accepted-goes x e n k =
-        whole_back u n k ∙ ap bytes_of (sym (going 0 bytes bits L (numbers_in s) goes ∙ settled-sum (numbers_in s) (numbers_in u) (accepts bytes bits L (numbers_in s)) (rw e at same)))
+    accepted-goes x e = sym (going 0 bytes bits L (numbers_in s) goes ∙ settled-sum (numbers_in s) (numbers_in u) (accepts bytes bits L (numbers_in s)) (rw e at same))
 
-    pub accepted-stops : (t b r : List ℕ) → ok ≡ None → t ≡ s → b ≡ t → r ≡ sets b (8 * 0) (eight 1) → r ≡ bytes_of (adds 0 bytes bits L (numbers_in s))
+    pub accepted-stops : (R : List ℕ) → ok ≡ None → R ≡ set (numbers_in s) 0 1 → R ≡ adds 0 bytes bits L (numbers_in s)
     unfolding sums
-    accepted-stops t b r e copied restored f =
-        put_back s r 0 1 size (omega arith) (omega arith) octets (f ∙ ap (λ (x : List ℕ). sets x (8 * 0) (eight 1)) (restored ∙ copied))
-        ∙ ap bytes_of (sym (going 0 bytes bits L (numbers_in s) goes ∙ settled-passed (numbers_in s) (accepts bytes bits L (numbers_in s)) (rw e at same)))
+    accepted-stops R e f = f ∙ sym (going 0 bytes bits L (numbers_in s) goes ∙ settled-passed (numbers_in s) (accepts bytes bits L (numbers_in s)) (rw e at same))
 
   -- a refused one
   module _ (answer : ℕ) (refused : 0 < answer) (bytes bits : ℕ) (L : List Event) where
@@ -83,35 +80,40 @@ module _ (s : List ℕ) (size : length s ≡ report_bytes) (octets : Octets s) (
         go zero a b = absurd (omega arith)
         go (suc k) a b = rw (lt-ltb (suc k) answers b)
 
-    pub refused-stops : (was : ℕ) (r : List ℕ) → answer < answers → was ≡ at (numbers_in s) (answered + answer) → limit ≤ was + 1 → r ≡ sets s (8 * 0) (eight 1)
-        → r ≡ bytes_of (adds answer bytes bits L (numbers_in s))
+    pub refused-stops : (was : ℕ) (X : List ℕ) → answer < answers → was ≡ at (numbers_in s) (answered + answer) → limit ≤ was + 1 → X ≡ set (numbers_in s) 0 1 → X ≡ adds answer bytes bits L (numbers_in s)
     unfolding R settled
-    refused-stops was r h e m f =
+    refused-stops was X h e m f =
         let n = numbers-length numbers s in
         let g = get_or-set_same R (answered + answer) (at R (answered + answer) + 1) 0 (omega arith) in
-        put_back s r 0 1 size (omega arith) (omega arith) octets f
-        ∙ ap bytes_of (sym (placed h ∙ rw (fits-false (plus (answered + answer) 1 R) (answered + answer) (omega arith))))
+        f ∙ sym (placed h ∙ rw (fits-false (plus (answered + answer) 1 R) (answered + answer) (omega arith)))
 
-    pub refused-counts : (was sum : ℕ) (r : List ℕ) → answer < answers → was ≡ at (numbers_in s) (answered + answer) → was + 1 < limit → sum ≡ was + 1 → r ≡ sets s (8 * (answered + answer)) (eight sum)
-        → r ≡ bytes_of (adds answer bytes bits L (numbers_in s))
+    pub refused-counts : (was sum : ℕ) (X : List ℕ) → answer < answers → was ≡ at (numbers_in s) (answered + answer) → was + 1 < limit → sum ≡ was + 1 → X ≡ set (numbers_in s) (answered + answer) sum
+        → X ≡ adds answer bytes bits L (numbers_in s)
     unfolding R settled
-    refused-counts was sum r h e m g f =
-        put_back s r (answered + answer) (was + 1) size (omega arith) (omega arith) octets (f ∙ ap (λ (x : ℕ). sets s (8 * (answered + answer)) (eight x)) g)
-        ∙ ap bytes_of (ap (λ (x : ℕ). set R (answered + answer) (x + 1)) e ∙ sym (placed h ∙ rw (fits-true (plus (answered + answer) 1 R) (fits-set R (answered + answer) (at R (answered + answer) + 1) (numbers_fit numbers s octets) (omega arith)))))
+    refused-counts was sum X h e m g f =
+        f ∙ ap (λ (x : ℕ). set R (answered + answer) x) (g ∙ ap (λ (x : ℕ). x + 1) e)
+        ∙ sym (placed h ∙ rw (fits-true (plus (answered + answer) 1 R) (fits-set R (answered + answer) (at R (answered + answer) + 1) (numbers_fit numbers s octets) (omega arith))))
 
-    pub refused-nowhere : answers ≤ answer → s ≡ bytes_of (adds answer bytes bits L (numbers_in s))
+    pub refused-nowhere : answers ≤ answer → numbers_in s ≡ adds answer bytes bits L (numbers_in s)
     unfolding R settled sums refuses
-    refused-nowhere h = whole_back s size octets ∙ ap bytes_of (sym (going answer bytes bits L R goes ∙ go answer refused h))
+    refused-nowhere h = sym (going answer bytes bits L R goes ∙ go answer refused h)
       where
         go : (k : ℕ) → 0 < k → answers ≤ k → settled R (sums k bytes bits L R) ≡ R
         go zero a b = absurd (omega arith)
         go (suc k) a b = rw (le-ltb (suc k) answers b, fits-true R (numbers_fit numbers s octets))
 
--- the ways of the whole
-pub whole-accepted : (answer bytes bits : ℕ) (L : List Event) (R r : List ℕ) → answer ≡ 0 → r ≡ bytes_of (adds 0 bytes bits L R) → r ≡ bytes_of (adds answer bytes bits L R)
-whole-accepted answer bytes bits L R r e f = rw e f
+-- the ways of the whole, from a report s to its bytes r
+module _ (answer bytes bits : ℕ) (L : List Event) (s r : List ℕ) (size : length r ≡ report_bytes) (octets : Octets r) where
+  pub whole-stays : numbers_in r ≡ adds answer bytes bits L (numbers_in s) → r ≡ bytes_of (adds answer bytes bits L (numbers_in s))
+  whole-stays e = whole_back r size octets ∙ ap bytes_of e
 
-pub whole-refused : (answer bytes bits : ℕ) (L : List Event) (R r : List ℕ) → (answer ≡ 0 → ⊥) → r ≡ bytes_of (adds answer 0 0 [] R) → r ≡ bytes_of (adds answer bytes bits L R)
-unfolding adds sums
-whole-refused zero bytes bits L R r n f = absurd (n refl)
-whole-refused (suc k) bytes bits L R r n f = f
+  pub whole-accepted : answer ≡ 0 → numbers_in r ≡ adds 0 bytes bits L (numbers_in s) → r ≡ bytes_of (adds answer bytes bits L (numbers_in s))
+  whole-accepted e f = whole-stays (rw e f)
+
+  pub whole-refused : (answer ≡ 0 → ⊥) → numbers_in r ≡ adds answer 0 0 [] (numbers_in s) → r ≡ bytes_of (adds answer bytes bits L (numbers_in s))
+  unfolding adds sums
+  whole-refused n f = whole-stays (go answer n f)
+    where
+      go : (k : ℕ) → (k ≡ 0 → ⊥) → numbers_in r ≡ adds k 0 0 [] (numbers_in s) → numbers_in r ≡ adds k bytes bits L (numbers_in s)
+      go zero n f = absurd (n refl)
+      go (suc k) n f = f

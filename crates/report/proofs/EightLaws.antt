@@ -4,7 +4,7 @@ use mathlib.Core.Path.{◌≡◌, refl, sym, ap, ◌∙◌}
 use mathlib.Core.List.{List, [], ◌∷◌, ◌++◌}
 use native.Mathlib.Omega.{arith}
 use lib.ListN.{length, get_or, set, take, drop}
-use lib.Seq.{sets, sets-eq, get_or-drop, length-sets}
+use lib.Seq.{sets, sets-eq, get_or-drop}
 use borrow.Rule.Slice.PartMut.{put_mid, post_of, Post-is}
 use Rattle.std.specs.Int.{to_be_bytes}
 use Rattle.std.proofs.lemmas.Nat.{be_bytes_8}
@@ -105,30 +105,6 @@ bytes_back (suc n) (a ∷ b ∷ c ∷ d ∷ e ∷ f ∷ g ∷ []) h k = absurd (
 bytes_back (suc n) (a ∷ b ∷ c ∷ d ∷ e ∷ f ∷ g ∷ z ∷ t) h k =
     ap (λ (x : List ℕ). x ++ bytes_of (numbers_of n t)) (eight-number a b c d e f g z (k 1) (k 2) (k 3) (k 4) (k 5) (k 6) (k 7))
     ∙ ap (λ (x : List ℕ). a ∷ b ∷ c ∷ d ∷ e ∷ f ∷ g ∷ z ∷ x) (bytes_back n t (omega arith) (λ i. k (suc (suc (suc (suc (suc (suc (suc (suc i))))))))))
-
-octets-set : (s : List ℕ) (j v : ℕ) → Octets s → v < 256 → Octets (set s j v)
-octets-set [] j v k h i = k i
-octets-set (x ∷ s) zero v k h zero = h
-octets-set (x ∷ s) zero v k h (suc i) = k (suc i)
-octets-set (x ∷ s) (suc j) v k h zero = k 0
-octets-set (x ∷ s) (suc j) v k h (suc i) = octets-set s j v (λ m. k (suc m)) h i
-
-abbrev All256 : List ℕ → Type 0
-All256 [] = Unit {0}
-All256 (v ∷ vs) = (v < 256) × All256 vs
-
-octets-sets : (s : List ℕ) (p : ℕ) (vs : List ℕ) → Octets s → All256 vs → Octets (sets s p vs)
-octets-sets s p [] k h = k
-octets-sets s p (v ∷ vs) k h = octets-sets (set s p v) (suc p) vs (octets-set s p v k h.0) h.1
-
-eight-bytes : (v : ℕ) → v < limit → All256 (eight v)
-eight-bytes v h = (omega arith, (omega arith, (omega arith, (omega arith, (omega arith, (omega arith, (omega arith, (omega arith, tt))))))))
-
--- the bytes of a report in which a number was stored
-pub put_back : (s s' : List ℕ) (i v : ℕ) → length s ≡ report_bytes → i < numbers → v < limit → Octets s → s' ≡ sets s (8 * i) (eight v) → s' ≡ bytes_of (set (numbers_of numbers s) i v)
-put_back s s' i v n h l k e =
-    e ∙ sym (bytes_back numbers (sets s (8 * i) (eight v)) (length-sets s (8 * i) (eight v) ∙ omega arith) (octets-sets s (8 * i) (eight v) k (eight-bytes v l)))
-    ∙ ap bytes_of (number-stored numbers s i v h (omega arith))
 
 pub whole_back : (s : List ℕ) → length s ≡ report_bytes → Octets s → s ≡ bytes_of (numbers_of numbers s)
 whole_back s n k = sym (bytes_back numbers s (n ∙ omega arith) k)

@@ -2,10 +2,11 @@
 ghost use Rattle.std.specs.Prelude.{◌≡◌, ◌+◌, ◌*◌, ◌<◌, length, set};
 ghost use Rattle.std.proofs.lemmas.List.Edits.{sets};
 ghost use Rattle.report.specs.Eights.{number_from, eight};
-ghost use Rattle.report.specs.Places.{numbers, report_bytes};
+ghost use Rattle.report.specs.Places.{numbers};
 ghost use Rattle.report.specs.Report.{at};
 ghost use Rattle.report.specs.Sums.{numbers_in};
 
+use crate::places::Report;
 use buffers::word;
 
 // The number of the eight bytes from a place on. By its halves, the compiler sees that it is one load, whatever is then done with the number.
@@ -27,18 +28,17 @@ fn store(s: &mut [u8], p: usize, n: u64)
 }
 
 // The number at an index of a report.
-pub fn number(s: &[u8], i: usize) -> u64
-    requires { (length s.now ≡ report_bytes) × (i < numbers) }
+pub fn number(s: &Report, i: usize) -> u64
+    requires { i < numbers }
     ensures { result ≡ at (numbers_in s.now) i }
 {
     load(s, 8 * i)
 }
 
 // A number stored at an index of a report.
-pub fn put_number(s: &mut [u8], i: usize, n: u64)
-    requires { (length s.old ≡ report_bytes) × (i < numbers) }
-    ensures numbers { numbers_in s.new ≡ set (numbers_in s.old) i n }
-    ensures bytes { s.new ≡ sets s.old (8 * i) (eight n) }
+pub fn put_number(s: &mut Report, i: usize, n: u64)
+    requires { i < numbers }
+    ensures { numbers_in s.new ≡ set (numbers_in s.old) i n }
 {
     store(s, 8 * i, n);
 }

@@ -17,12 +17,12 @@ ghost use Rattle.report.specs.Sums.{sum_of, numbers_in, events_in, accepts_in};
 use counting::count_events;
 use eights::{number, put_number};
 use lines::plus;
-use numbers::{limit, refusal};
+use numbers::refusal;
+use places::Report;
 
 // What an accepted payload of so many bytes adds, of which it used so many bits; nothing where a number would pass.
 #[tactic(auto, unfolding(crate::specs::Sums::accepts_in, crate::specs::Sums::and_then))]
-fn accept(s: &mut [u8], bytes: u64, bits: u64, words: &[u32]) -> Option<()>
-    requires size { length s.old ≡ report_bytes }
+fn accept(s: &mut Report, bytes: u64, bits: u64, words: &[u32]) -> Option<()>
     requires few { length words.now / 4 ≤ most_events }
     requires used { bits ≤ 8 * bytes }
     requires most { bytes ≤ most_payload }
@@ -37,29 +37,26 @@ fn accept(s: &mut [u8], bytes: u64, bits: u64, words: &[u32]) -> Option<()>
 }
 
 // A payload that was accepted. Where a number passes, the report is again as it was, and has stopped.
-fn add_accepted(report: &mut [u8], bytes: u64, bits: u64, words: &[u32])
-    requires size { length report.old ≡ report_bytes }
+fn add_accepted(report: &mut Report, bytes: u64, bits: u64, words: &[u32])
     requires few { length words.now / 4 ≤ most_events }
     requires used { bits ≤ 8 * bytes }
     requires most { bytes ≤ most_payload }
     requires goes { at (numbers_in report.old) 0 ≡ 0 }
-    ensures { report.new
-        ≡ bytes_of (adds 0 bytes bits (events_in words.now 0 (length words.now / 4)) (numbers_in report.old)) }
+    ensures { numbers_in report.new
+        ≡ adds 0 bytes bits (events_in words.now 0 (length words.now / 4)) (numbers_in report.old) }
 {
-    let mut was = [0u8; limit::REPORT];
-    was.copy_from_slice(report);
+    let was = *report;
     if accept(report, bytes, bits, words).is_none() {
-        report.copy_from_slice(&was);
+        *report = was;
         put_number(report, places::STOPPED, 1);
     }
 }
 
 // A payload that was refused.
-fn add_refused(report: &mut [u8], answer: u32)
-    requires size { length report.old ≡ report_bytes }
+fn add_refused(report: &mut Report, answer: u32)
     requires refused { 0 < answer }
     requires goes { at (numbers_in report.old) 0 ≡ 0 }
-    ensures { report.new ≡ bytes_of (adds answer 0 0 [] (numbers_in report.old)) }
+    ensures { numbers_in report.new ≡ adds answer 0 0 [] (numbers_in report.old) }
 {
     if answer < places::ANSWERS {
         let i = places::ANSWERED + (answer as usize);
@@ -81,12 +78,15 @@ pub fn add(report: &mut [u8], answer: u32, bytes: u64, bits: u64, words: &[u32],
     ensures { report.new
         ≡ bytes_of (adds answer bytes bits (events_in words.now 0 count) (numbers_in report.old)) }
 {
-    if number(report, places::STOPPED) != 0 {
+    let Some(s) = report.as_mut_array() else {
+        unreachable!()
+    };
+    if number(s, places::STOPPED) != 0 {
         return;
     }
     if answer == refusal::ACCEPTED {
-        add_accepted(report, bytes, bits, &words[..4 * count]);
+        add_accepted(s, bytes, bits, &words[..4 * count]);
     } else {
-        add_refused(report, answer);
+        add_refused(s, answer);
     }
 }

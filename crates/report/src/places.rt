@@ -1,4 +1,8 @@
 // Where each number of a report stands. specs/Places has the same words.
+use numbers::limit;
+
+pub type Report = [u8; limit::REPORT];
+
 pub const STOPPED: usize = 0;
 
 pub const TOTAL_BITS: usize = 1;

@@ -3,5 +3,5 @@ use Rattle.report.proofs.EightLaws.{put-way}
 use borrow.Author.Rules.{rules}
 use Rattle.report.proofs.eights.put_number.Goals as goal
 
-pub returns-clause-numbers : goal.returns-clause-numbers
-returns-clause-numbers c = search (rules, put-way)
+pub returns : goal.returns
+returns c = search (rules, put-way)

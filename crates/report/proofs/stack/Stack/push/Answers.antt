@@ -6,14 +6,15 @@ use Rattle.report.proofs.Ways.{stack-below, opens-more}
 use Rattle.report.proofs.stack.Stack.push.Goals as goal
 
 pub bounds-self-inside-self-inside : goal.bounds-self-inside-self-inside
-bounds-self-inside-self-inside c = stack-below _ _ _ _ c.self.view_is c.requires.0
+bounds-self-inside-self-inside c = stack-below _ _ _ _ c.self.view_is c.requires
+
+pub listed : goal.listed
+listed c = let h = stack-below _ _ _ _ c.self.view_is c.requires in omega arith
 
 pub invariant_of-self : goal.invariant_of-self
-invariant_of-self c =
-    let h = stack-below _ _ _ _ c.self.view_is c.requires.0 in
-    (omega arith, rw (opens-more c.self.inside.lines c.self.inside.depth c.args.line (rw c.self.told h)) (c.requires.1, c.self.invariant.1))
+invariant_of-self c = let h = stack-below _ _ _ _ c.self.view_is c.requires in omega arith
 
 pub returns : goal.returns
 returns c =
-    let h = stack-below _ _ _ _ c.self.view_is c.requires.0 in
-    opens-more _ _ c.args.line (rw c.self.told h) ∙ ap (λ l. c.args.line ∷ l) c.self.view_is
+    let h = stack-below _ _ _ _ c.self.view_is c.requires in
+    opens-more _ _ c.args.line (omega arith) ∙ ap (λ l. c.args.line ∷ l) c.self.view_is
