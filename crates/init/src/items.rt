@@ -127,7 +127,7 @@ fn judge_before(item: Item, v: u16) -> Result<(), Refusal>
 
 // The bytes that follow the number.
 #[tactic(auto, unfolding(crate::specs::Items::body))]
-pub fn body_of(item: Item, v: u16) -> u16
+pub fn body_of(item: Item, v: u32) -> u32
     ensures { result ≡ meaning.body item v }
 {
     match item {
@@ -153,7 +153,7 @@ fn rest_at(item: Item, wall: usize, v: u16, p: usize) -> Result<Found, Refusal>
     ensures { found_is result ≡ meaning.rest_at item wall v p }
 {
     judge_before(item, v)?;
-    let n = usize::from(body_of(item, v));
+    let n = body_of(item, u32::from(v)) as usize;
     if wall < p || wall - p < n {
         return Err(Refusal::PastEnd);
     }

@@ -18,7 +18,7 @@ pub enum Item {
     // The bytes that the flags take.
     Length,
     // The flags, in so many bytes; the first of them has all seven flags.
-    Flags(u16),
+    Flags(u32),
     // The number of schemas.
     Schemas,
     // A count of bytes, and that many: one at least.
@@ -44,9 +44,9 @@ pub enum Slot {
 #[derive(Clone, Copy)]
 pub struct Left {
     pub slot: usize,
-    pub schemas: u16,
-    pub codecs: u16,
-    pub types: u16,
+    pub schemas: u32,
+    pub codecs: u32,
+    pub types: u32,
     pub formats: bool,
 }
 
@@ -57,7 +57,7 @@ pub enum Phase {
     UnitByte,
     NoFlags,
     Length,
-    Flags(u16),
+    Flags(u32),
     Schemas(bool),
     Uri(Left),
     Hint(Left),

@@ -78,7 +78,7 @@ fn settle(l: Left) -> Phase
 
 // The schemas, of which there are so many.
 #[tactic(auto, using(crate::proofs::PhaseWays::list_ways))]
-fn begin(schemas: u16, formats: bool) -> Phase
+fn begin(schemas: u32, formats: bool) -> Phase
     requires { 12 + 5 * schemas ≤ init_words }
     ensures { Follows (meaning.later 12 schemas formats) init_words 26 result }
 {
@@ -93,7 +93,7 @@ fn begin(schemas: u16, formats: bool) -> Phase
 
 // The codecs of a schema, of which there are so many.
 #[tactic(auto, using(crate::proofs::PhaseWays::list_ways))]
-fn list_codecs(l: Left, codecs: u16) -> Phase
+fn list_codecs(l: Left, codecs: u32) -> Phase
     requires { l.slot + 5 * (l.schemas + 1) ≤ init_words }
     ensures { Follows (meaning.rest_of (phases.Codecs l) codecs) init_words (3 * l.schemas + 3) result }
 {
@@ -107,7 +107,7 @@ fn list_codecs(l: Left, codecs: u16) -> Phase
 
 // The types of a codec, of which there are so many.
 #[tactic(auto, using(crate::proofs::PhaseWays::list_ways))]
-fn list_types(l: Left, types: u16) -> Phase
+fn list_types(l: Left, types: u32) -> Phase
     requires { l.slot + 5 * l.schemas ≤ init_words }
     ensures { Follows (meaning.rest_of (phases.Types l) types) init_words (3 * l.schemas + 3) result }
 {
@@ -115,7 +115,7 @@ fn list_types(l: Left, types: u16) -> Phase
 }
 
 // What comes behind the unit byte.
-fn after_unit(v: u16) -> Phase
+fn after_unit(v: u32) -> Phase
     ensures { Follows (meaning.rest_of phases.UnitByte v) init_words 29 result }
 {
     if v / 16 % 2 == 1 {
@@ -126,7 +126,7 @@ fn after_unit(v: u16) -> Phase
 
 // What comes behind an item whose number is v.
 #[tactic(auto, using(crate::proofs::PhaseWays::next_ways))]
-pub fn next(phase: Phase, v: u16) -> Phase
+pub fn next(phase: Phase, v: u32) -> Phase
     requires { meaning.grown phase v ≤ init_words }
     ensures { Follows (meaning.rest_of phase v) init_words (meaning.rank phase + meaning.spare (meaning.slot_of phase)) result }
 {

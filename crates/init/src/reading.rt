@@ -112,7 +112,7 @@ fn store_item(
     match keep(slot, codecs, init, st.used, w) {
         None => Err(Refusal::EventRoom),
         Some(used) => Ok(State {
-            phase: next(st.phase, v),
+            phase: next(st.phase, u32::from(v)),
             at: q,
             used,
         }),

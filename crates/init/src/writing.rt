@@ -354,7 +354,7 @@ fn put_content(
         (meaning.content (meaning.content_of item) given.now a v) }
 {
     match item {
-        Item::Flags(_) => put_zeros(message, ink, usize::from(body_of(item, v))),
+        Item::Flags(_) => put_zeros(message, ink, body_of(item, u32::from(v)) as usize),
         Item::Uri | Item::Text | Item::Formats => {
             let from = a as usize;
             put_stretch(message, ink, &given[from..from + usize::from(v)])
@@ -399,7 +399,7 @@ fn write_value(
 {
     if lies_in(item, given.len(), a, v) {
         let ink = put_item(message, st.ink, given, item, a, v);
-        let phase = next(st.phase, v);
+        let phase = next(st.phase, u32::from(v));
         return Ok(Desk {
             phase,
             used: u,
