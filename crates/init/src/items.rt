@@ -1,10 +1,10 @@
 // An item read from a place of a message, below a wall.
 ghost use Rattle.std.specs.Prelude.{◌≡◌, ◌≤◌, ◌<◌, length};
-ghost use Rattle.numbers.specs.Limit.{most_message};
+ghost use Rattle.numbers.specs.Limit.{most_vlu8, most_message};
 ghost use Rattle.numbers.specs.Refused.{answered};
 ghost use Rattle.init.specs.Items as meaning;
 ghost use Rattle.init.specs.declared.Item.TheVariants as item;
-ghost use Rattle.init.specs.Found.{told, number_is, found_is};
+ghost use Rattle.init.specs.Found.{told, number_is, number_in, found_is, found_in};
 
 use crate::Item;
 use numbers::limit;
@@ -33,7 +33,8 @@ fn byte_at(s: &[u8], wall: usize, at: usize) -> Result<(u8, usize), Refusal>
 // The second byte of a vluimsbf8 whose first holds the seven bits x.
 fn second_at(s: &[u8], wall: usize, x: u8, at: usize) -> Result<(u16, usize), Refusal>
     requires { (wall ≤ length s.now) × (x < 128) }
-    ensures { number_is result ≡ meaning.second_at s.now wall x at }
+    ensures is { number_is result ≡ meaning.second_at s.now wall x at }
+    ensures small { number_in result ≤ most_vlu8 }
 {
     let (y, next) = byte_at(s, wall, at)?;
     if 128 <= y {
@@ -48,7 +49,8 @@ fn second_at(s: &[u8], wall: usize, x: u8, at: usize) -> Result<(u16, usize), Re
 // A vluimsbf8 of at most two bytes in shortest form.
 fn number_at(s: &[u8], wall: usize, at: usize) -> Result<(u16, usize), Refusal>
     requires { wall ≤ length s.now }
-    ensures { number_is result ≡ meaning.number_at s.now wall at }
+    ensures is { number_is result ≡ meaning.number_at s.now wall at }
+    ensures small { number_in result ≤ most_vlu8 }
 {
     let (x, next) = byte_at(s, wall, at)?;
     if x < 128 {
@@ -58,10 +60,11 @@ fn number_at(s: &[u8], wall: usize, at: usize) -> Result<(u16, usize), Refusal>
 }
 
 // An item's own number.
-#[tactic(auto, unfolding(crate::specs::Items::head_at, crate::specs::Items::head_of, crate::specs::Found::number_is))]
+#[tactic(auto, unfolding(crate::specs::Items::head_at, crate::specs::Items::head_of, crate::specs::Found::number_is, crate::specs::Found::number_in))]
 fn head_at(item: Item, s: &[u8], wall: usize, at: usize) -> Result<(u16, usize), Refusal>
     requires { wall ≤ length s.now }
-    ensures { number_is result ≡ meaning.head_at (meaning.head_of item) s.now wall at }
+    ensures is { number_is result ≡ meaning.head_at (meaning.head_of item) s.now wall at }
+    ensures small { number_in result ≤ most_vlu8 }
 {
     match item {
         Item::UnitByte | Item::Flags(_) | Item::Formats => {
@@ -150,7 +153,9 @@ fn judge_after(item: Item, v: u16) -> Result<(), Refusal>
 
 // What stands behind an item's number v, which ends at p.
 fn rest_at(item: Item, wall: usize, v: u16, p: usize) -> Result<Found, Refusal>
-    ensures { found_is result ≡ meaning.rest_at item wall v p }
+    requires { v ≤ most_vlu8 }
+    ensures is { found_is result ≡ meaning.rest_at item wall v p }
+    ensures small { found_in result ≤ most_vlu8 }
 {
     judge_before(item, v)?;
     let n = body_of(item, u32::from(v)) as usize;
@@ -168,7 +173,8 @@ fn rest_at(item: Item, wall: usize, v: u16, p: usize) -> Result<Found, Refusal>
 // An item.
 pub fn item_at(item: Item, s: &[u8], wall: usize, at: usize) -> Result<Found, Refusal>
     requires { wall ≤ length s.now }
-    ensures { found_is result ≡ meaning.item_at item s.now wall at }
+    ensures is { found_is result ≡ meaning.item_at item s.now wall at }
+    ensures small { found_in result ≤ most_vlu8 }
 {
     let (v, p) = head_at(item, s, wall, at)?;
     rest_at(item, wall, v, p)

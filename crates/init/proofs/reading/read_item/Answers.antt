@@ -3,17 +3,17 @@ use Rattle.init.proofs.ReadWays.{item-stops, place-lies, next-lies, slot-fits, i
 use Rattle.init.proofs.reading.read_item.Goals as goal
 
 pub words_of-w-requires : goal.words_of-w-requires
-words_of-w-requires c = place-lies c.args.st _ _ _ _ c.row-item.ensures.item c.requires.goes c.item_at.ensures _ c.in_ok-found.was c.requires.wall.1
+words_of-w-requires c = place-lies c.args.st _ _ _ _ c.row-item.ensures.item c.requires.goes c.item_at.ensures.is _ c.in_ok-found.was c.requires.wall.1
 
 pub store_item-requires : goal.store_item-requires
 store_item-requires c = let pre = c.requires in record {
-  room = slot-fits c.args.st _ _ _ _ c.row-item.ensures.item pre.goes c.item_at.ensures _ c.in_ok-found.was _ _ c.words_of-w.ensures c.row-item.ensures.slot _ pre.room pre.lies;
-  lies = next-lies c.args.st _ _ _ _ c.row-item.ensures.item pre.goes c.item_at.ensures _ c.in_ok-found.was pre.lies;
+  room = slot-fits c.args.st _ _ _ _ c.row-item.ensures.item pre.goes c.item_at.ensures.is _ c.in_ok-found.was _ _ c.words_of-w.ensures c.row-item.ensures.slot _ pre.room pre.lies;
+  lies = next-lies c.args.st _ _ _ _ c.row-item.ensures.item pre.goes c.item_at.ensures.is _ c.in_ok-found.was pre.lies;
 }
 
 pub returns-in_err-found : goal.returns-in_err-found
 returns-in_err-found c = let p = err_from_is_err_and c.from_residual.result c.from_residual.ensures.1 in
-    rw (p.1, p.2) (item-stops c.args.st _ _ _ _ c.row-item.ensures.item c.requires.goes c.item_at.ensures _ c.in_err-found.was _ _)
+    rw (p.1, p.2) (item-stops c.args.st _ _ _ _ c.row-item.ensures.item c.requires.goes c.item_at.ensures.is _ c.in_err-found.was _ _)
 
 pub returns : goal.returns
-returns c = item-goes c.args.st _ _ _ _ c.row-item.ensures.item c.requires.goes c.item_at.ensures _ c.in_ok-found.was _ _ c.words_of-w.ensures c.row-item.ensures.slot _ _ _ _ _ c.store_item.ensures
+returns c = item-goes c.args.st _ _ _ _ c.row-item.ensures.item c.requires.goes c.item_at.ensures.is _ c.in_ok-found.was _ _ c.words_of-w.ensures c.row-item.ensures.slot _ _ _ _ _ c.store_item.ensures
