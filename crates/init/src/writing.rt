@@ -503,7 +503,7 @@ fn write_items(
 
 // A refusal leaves nothing but zeros.
 #[tactic(auto, unfolding(crate::specs::Made::write_back, crate::specs::Back::number_in, crate::specs::Back::place_in, crate::specs::Back::count_in))]
-pub fn refuse(message: &mut [u8], why: Refusal, at: usize) -> Fault<usize>
+pub(crate) fn refuse(message: &mut [u8], why: Refusal, at: usize) -> Fault<usize>
     ensures { made_is (Err result) message.new ≡ write_back (length message.old) (writings.refused (number_of why) at) }
 {
     clear(message);
