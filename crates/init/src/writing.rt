@@ -191,6 +191,14 @@ fn value_of(item: Item, a: u32, b: u32) -> Result<u16, Fault<u8>>
     }
 }
 
+// An item and its number, which is one that the item's head holds.
+#[derive(Clone, Copy)]
+struct Numbered {
+    item: Item,
+    number: u16,
+    ghost held: { number ≤ most_of (items.head_of item) },
+}
+
 // A byte written at a place: where the next one goes. Nowhere is one that the room lent has no place for, and then no more is written.
 #[tactic(auto, unfolding(crate::specs::Writes::inked, crate::specs::Writes::dot))]
 fn put(message: &mut [u8], ink: Option<usize>, x: u8) -> Option<usize>
@@ -221,15 +229,14 @@ fn put_number(message: &mut [u8], ink: Option<usize>, v: u16) -> Option<usize>
 
 // An item's number.
 #[tactic(auto, unfolding(crate::specs::Items::head_bytes, crate::specs::Items::head_of, crate::specs::Writes::most_of, crate::specs::Writes::inked))]
-fn put_head(message: &mut [u8], ink: Option<usize>, item: Item, v: u16) -> Option<usize>
-    requires { v ≤ most_of (items.head_of item) }
+fn put_head(message: &mut [u8], ink: Option<usize>, n: Numbered) -> Option<usize>
     ensures { page message.new result
-        ≡ inked (page message.old ink) (items.head_bytes (items.head_of item) v) }
+        ≡ inked (page message.old ink) (items.head_bytes (items.head_of n.item) n.number) }
 {
-    match item {
-        Item::UnitByte | Item::Flags(_) | Item::Formats => put(message, ink, v as u8),
+    match n.item {
+        Item::UnitByte | Item::Flags(_) | Item::Formats => put(message, ink, n.number as u8),
         Item::NoFlags | Item::NoFormats => ink,
-        _ => put_number(message, ink, v),
+        _ => put_number(message, ink, n.number),
     }
 }
 
@@ -329,11 +336,11 @@ fn index(slot: Slot, used: usize) -> usize
 
 // Whether an item's stretch, if it has one, ends among the bytes given.
 #[tactic(auto, unfolding(crate::specs::Write::lies_of, crate::specs::Write::content_of))]
-fn lies_in(item: Item, bytes: usize, a: u32, v: u16) -> bool
-    ensures { result ≡ lies_of (meaning.content_of item) bytes a v }
+fn lies_in(n: Numbered, bytes: usize, a: u32) -> bool
+    ensures { result ≡ lies_of (meaning.content_of n.item) bytes a n.number }
 {
-    match item {
-        Item::Uri | Item::Text | Item::Formats => a as usize + usize::from(v) <= bytes,
+    match n.item {
+        Item::Uri | Item::Text | Item::Formats => a as usize + usize::from(n.number) <= bytes,
         _ => true,
     }
 }
@@ -344,20 +351,19 @@ fn put_content(
     message: &mut [u8],
     ink: Option<usize>,
     given: &[u8],
-    item: Item,
+    n: Numbered,
     a: u32,
-    v: u16,
 ) -> Option<usize>
-    requires { lies_of (meaning.content_of item) (length given.now) a v ≡ true }
+    requires { lies_of (meaning.content_of n.item) (length given.now) a n.number ≡ true }
     ensures { page message.new result
         ≡ inked (page message.old ink)
-        (meaning.content (meaning.content_of item) given.now a v) }
+        (meaning.content (meaning.content_of n.item) given.now a n.number) }
 {
-    match item {
-        Item::Flags(_) => put_zeros(message, ink, body_of(item, u32::from(v)) as usize),
+    match n.item {
+        Item::Flags(_) => { put_zeros(message, ink, body_of(n.item, u32::from(n.number)) as usize) }
         Item::Uri | Item::Text | Item::Formats => {
             let from = a as usize;
-            put_stretch(message, ink, &given[from..from + usize::from(v)])
+            put_stretch(message, ink, &given[from..from + usize::from(n.number)])
         }
         _ => ink,
     }
@@ -368,72 +374,71 @@ fn put_item(
     message: &mut [u8],
     ink: Option<usize>,
     given: &[u8],
-    item: Item,
+    n: Numbered,
     a: u32,
-    v: u16,
 ) -> Option<usize>
-    requires number { v ≤ most_of (items.head_of item) }
-    requires lies { lies_of (meaning.content_of item) (length given.now) a v ≡ true }
+    requires { lies_of (meaning.content_of n.item) (length given.now) a n.number ≡ true }
     ensures { page message.new result
-        ≡ inked (page message.old ink) (bytes_for item given.now a v) }
+        ≡ inked (page message.old ink) (bytes_for n.item given.now a n.number) }
 {
-    let i = put_head(message, ink, item, v);
-    put_content(message, i, given, item, a, v)
+    let i = put_head(message, ink, n);
+    put_content(message, i, given, n, a)
 }
 
-// An item written, of whose words the number is v: its index is at, and u words of codecs are used behind it.
+// An item's words a and b: the index of a, and the words of codecs used behind them.
+#[derive(Clone, Copy)]
+struct Entry {
+    a: u32,
+    b: u32,
+    at: usize,
+    used: usize,
+    ghost near: { at ≤ init_words + most_word },
+}
+
+// An item written by its number and its words.
 fn write_value(
     given: &[u8],
     message: &mut [u8],
     st: Desk,
-    item: Item,
-    a: u32,
-    v: u16,
-    u: usize,
-    at: usize,
+    n: Numbered,
+    entry: Entry,
 ) -> Result<Desk, Fault<usize>>
-    requires number { v ≤ most_of (items.head_of item) }
-    requires lies { grown st.phase v ≤ init_words }
-    requires at { at ≤ init_words + most_word }
-    ensures { Put item given.now st a v u at message.old result message.new }
+    requires { grown st.phase n.number ≤ init_words }
+    ensures { Put n.item given.now st entry.a n.number entry.used entry.at message.old result message.new }
 {
-    if lies_in(item, given.len(), a, v) {
-        let ink = put_item(message, st.ink, given, item, a, v);
-        let phase = next(st.phase, u32::from(v));
+    if lies_in(n, given.len(), entry.a) {
+        let ink = put_item(message, st.ink, given, n, entry.a);
+        let phase = next(st.phase, u32::from(n.number));
         return Ok(Desk {
             phase,
-            used: u,
+            used: entry.used,
             ink,
         });
     }
     Err(Fault {
         why: Refusal::TextBytes,
-        at: at + 1,
+        at: entry.at + 1,
     })
 }
 
-// An item written by its words a and b.
+// An item written by its words.
 fn write_words(
     given: &[u8],
     message: &mut [u8],
     st: Desk,
     item: Item,
-    a: u32,
-    b: u32,
-    u: usize,
-    at: usize,
+    entry: Entry,
 ) -> Result<Desk, Fault<usize>>
     requires item { item ≡ item_of st.phase }
     requires lies { reach st.phase ≤ init_words }
-    requires at { at ≤ init_words + most_word }
-    ensures { Worded item given.now st a b u at message.old result message.new }
+    ensures { Worded item given.now st entry.a entry.b entry.used entry.at message.old result message.new }
 {
-    match value_of(item, a, b) {
+    match value_of(item, entry.a, entry.b) {
         Err(fault) => Err(Fault {
             why: fault.why,
-            at: at + usize::from(fault.at),
+            at: entry.at + usize::from(fault.at),
         }),
-        Ok(v) => write_value(given, message, st, item, a, v, u, at),
+        Ok(number) => write_value(given, message, st, Numbered { item, number }, entry),
     }
 }
 
@@ -462,11 +467,14 @@ fn write_item(
             why: Refusal::NoReading,
             at: limit::INIT_WORDS + n,
         }),
-        Some(u) => {
-            let a = word_in(slot, init, codecs, st.used, 0);
-            let b = word_in(slot, init, codecs, st.used, 1);
-            let at = index(slot, st.used);
-            write_words(given, message, st, item, a, b, u, at)
+        Some(used) => {
+            let entry = Entry {
+                a: word_in(slot, init, codecs, st.used, 0),
+                b: word_in(slot, init, codecs, st.used, 1),
+                at: index(slot, st.used),
+                used,
+            };
+            write_words(given, message, st, item, entry)
         }
     }
 }
