@@ -5,7 +5,7 @@ use mathlib.Core.List.{List, [], ◌++◌}
 use native.Mathlib.Omega.{arith}
 use native.Mathlib.Decide.{dec_lt}
 use borrow.Author.Tests.{lt-ltb, le-ltb}
-use lib.ListN.{length, set, drop, replicate, length-replicate}
+use lib.ListN.{length, set, drop, replicate}
 use Rattle.buffers.specs.Bytes.{bytes_of}
 use Rattle.numbers.specs.Refusal.{accepted}
 use Rattle.std.specs.Prelude.{Result, Ok, Err}
@@ -64,17 +64,4 @@ module _ (s codecs init : List ℕ) (wall : ℕ) (w : wall ≡ min (length s) mo
             | no k ↦ g ∙ rw (h, le-ltb st.at (length s) (omega arith), r.count) (ap (λ (x : List ℕ). back accepted 0 st.used (set init' 7 st.used) x) c)
           ]
 
-pub said-length : (codecs init init' : List ℕ) → Zeros codecs init → length init' ≡ length init → length init' ≡ init_words
-said-length codecs init init' z e = e ∙ ap length z.said
-
-pub ruleset read-ways = (said-length, stopped-lies, done-lies, done-few, read-refused, read_done)
-
--- the buffers cleared
-module _ (s codecs init z i : List ℕ) (wall : ℕ) (zs : z ≡ replicate (length codecs) 0) (is : i ≡ replicate (length init) 0) (fits : length init ≡ init_words) where
-  pub cleared : Zeros z i
-  cleared = record { listed = rw (zs, length-replicate {A = ℕ} (length codecs) 0); said = is ∙ rw fits }
-
-  pub read-cleared : (b : Back) → b ≡ read_back (length z) (init_read s (length z / 4)) → b ≡ read_back (length codecs) (init_read s (length codecs / 4))
-  read-cleared b e = let n : length z ≡ length codecs = ap length zs ∙ length-replicate {A = ℕ} (length codecs) 0 in rw n at e
-
-pub ruleset clear-ways = (cleared, read-cleared)
+pub ruleset read-ways = (stopped-lies, done-lies, done-few, read-refused, read_done)

@@ -1,4 +1,5 @@
 pub mod Items
+pub mod Lent
 pub mod Plan
 pub mod Read
 pub mod Write

@@ -6,23 +6,23 @@ use Rattle.init.proofs.ReadWays.{start-reads, reads-done, turn-stops, turn-goes}
 use borrow.Author.Rules.{rules}
 use Rattle.init.proofs.reading.read_items.Goals as goal
 
-pub loop-codecs-init : goal.loop-codecs-init
+pub loop-lent-init : goal.loop-lent-init
 unfolding reach
-loop-codecs-init c = (omega arith, refl, refl, start-reads _ _ _ _)
+loop-lent-init c = (omega arith, record { init = refl; codecs = refl; room = refl }, start-reads _ _ _ _)
 
 pub read_item-requires : goal.read_item-requires
 unfolding ends
-read_item-requires c = record { wall = search rules; room = search rules; lies = search rules; goes = search rules }
+read_item-requires c = record { wall = search rules; lies = search rules; goes = search rules }
 
-pub returns-in-Err : goal.returns-in-Err
-returns-in-Err c = let v = c.loop-codecs in turn-stops _ _ _ _ v.st c.read_item.result _ _ (c.read_item.ensures _ _ v.invariant.3) _ (search rules) v.invariant.3.within
+pub returns-in-Err-clause-ran : goal.returns-in-Err-clause-ran
+returns-in-Err-clause-ran c = let v = c.loop-lent in turn-stops _ _ _ _ v.st c.read_item.result _ _ (c.read_item.ensures.turned _ _ v.invariant.2) _ (search rules) v.invariant.2.within
 
-pub loop-codecs-smaller : goal.loop-codecs-smaller
-loop-codecs-smaller c = let v = c.loop-codecs in (turn-goes _ _ _ _ v.st c.read_item.result _ _ (c.read_item.ensures _ _ v.invariant.3) c.in-Ok.then (search rules)).falls
+pub loop-lent-smaller : goal.loop-lent-smaller
+loop-lent-smaller c = let v = c.loop-lent in (turn-goes _ _ _ _ v.st c.read_item.result _ _ (c.read_item.ensures.turned _ _ v.invariant.2) c.in-Ok.then (search rules)).falls
 
-pub loop-codecs-preserved : goal.loop-codecs-preserved
-loop-codecs-preserved c = let v = c.loop-codecs in let g = turn-goes _ _ _ _ v.st c.read_item.result _ _ (c.read_item.ensures _ _ v.invariant.3) c.in-Ok.then (search rules) in (g.lies, omega arith, omega arith, g.reads)
+pub loop-lent-preserved : goal.loop-lent-preserved
+loop-lent-preserved c = let v = c.loop-lent in let g = turn-goes _ _ _ _ v.st c.read_item.result _ _ (c.read_item.ensures.turned _ _ v.invariant.2) c.in-Ok.then (search rules) in (g.lies, search rules, g.reads)
 
-pub returns : goal.returns
+pub returns-clause-ran : goal.returns-clause-ran
 unfolding ends
-returns c = let v = c.loop-codecs in reads-done _ _ _ _ v.st _ _ (search rules) v.invariant.3
+returns-clause-ran c = let v = c.loop-lent in reads-done _ _ _ _ v.st _ _ (search rules) v.invariant.2

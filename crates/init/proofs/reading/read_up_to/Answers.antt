@@ -3,10 +3,10 @@ use borrow.Author.Rules.{rules}
 use Rattle.init.proofs.reading.read_up_to.Goals as goal
 
 pub refuse-requires : goal.refuse-requires
-refuse-requires c = (search (rules, read-ways), search (rules, read-ways))
+refuse-requires c = search (rules, read-ways)
 
 pub finish-requires : goal.finish-requires
-finish-requires c = record { at = search (rules, read-ways); room = search (rules, read-ways) }
+finish-requires c = (search (rules, read-ways), search (rules, read-ways))
 
 pub returns-in-Err : goal.returns-in-Err
 returns-in-Err c = search (rules, read-ways)
