@@ -270,22 +270,28 @@ pub struct Desk {
     pub ink: Option<usize>,
 }
 
+// What a message is written from: the words of init, all of them, the bytes of codecs, of which each word counts, and the bytes given.
+#[derive(Clone, Copy)]
+struct Sources<'a> {
+    init: &'a [u32],
+    codecs: &'a [u8],
+    given: &'a [u8],
+    ghost whole: { length init.now ≡ init_words },
+    ghost few: { length codecs.now / 4 ≤ most_word },
+}
+
 // A word at an item's slot, 0 where there is none.
 #[tactic(auto, unfolding(crate::specs::Write::word_in, crate::specs::Reads::slot_index))]
-fn word_in(slot: Slot, init: &[u32], codecs: &[u8], used: usize, k: usize) -> u32
-    requires init { length init.now ≡ init_words }
-    requires small { (k < 2) × (used ≤ length codecs.now / 4) × (slot_index slot ≤ init_words) }
-    ensures { result ≡ meaning.word_in slot init.now (words_of codecs.now) used k }
+fn word_in(from: Sources<'_>, slot: Slot, used: usize, k: usize) -> u32
+    requires { (k < 2) × (used ≤ length from.codecs.now / 4) × (slot_index slot ≤ init_words) }
+    ensures { result ≡ meaning.word_in slot from.entry.init.now (words_of from.entry.codecs.now) used k }
 {
     match slot {
-        Slot::Init(i) => {
-            let j = i + k;
-            if j < init.len() { init[j] } else { 0 }
-        }
+        Slot::Init(i) => from.init.get(i + k).copied().unwrap_or(0),
         Slot::Codecs => {
             let j = used + k;
-            if j < codecs.len() / 4 {
-                word(codecs, 4 * j)
+            if j < from.codecs.len() / 4 {
+                word(from.codecs, 4 * j)
             } else {
                 0
             }
@@ -443,25 +449,17 @@ fn write_words(
 }
 
 // One item written.
-fn write_item(
-    init: &[u32],
-    codecs: &[u8],
-    given: &[u8],
-    message: &mut [u8],
-    st: Desk,
-) -> Result<Desk, Fault<usize>>
-    requires codecs { length codecs.now / 4 ≤ most_word }
-    requires init { length init.now ≡ init_words }
-    requires used { st.used ≤ length codecs.now / 4 }
+fn write_item(from: Sources<'_>, message: &mut [u8], st: Desk) -> Result<Desk, Fault<usize>>
+    requires used { st.used ≤ length from.codecs.now / 4 }
     requires lies { reach st.phase ≤ init_words }
     requires goes { ends st.phase ≡ false }
     ensures { (m₀ : List ℕ) (answer : Writing)
-        → Writes init.now (words_of codecs.now) given.now m₀ answer st message.old
-        → Stepped init.now (words_of codecs.now) given.now (length codecs.now / 4) m₀
+        → Writes from.entry.init.now (words_of from.entry.codecs.now) from.entry.given.now m₀ answer st message.old
+        → Stepped from.entry.init.now (words_of from.entry.codecs.now) from.entry.given.now (length from.entry.codecs.now / 4) m₀
         answer st result message.new }
 {
     let (item, slot) = row(st.phase);
-    let n = codecs.len() / 4;
+    let n = from.codecs.len() / 4;
     match uses(slot, item, n, st.used) {
         None => Err(Fault {
             why: Refusal::NoReading,
@@ -469,27 +467,20 @@ fn write_item(
         }),
         Some(used) => {
             let entry = Entry {
-                a: word_in(slot, init, codecs, st.used, 0),
-                b: word_in(slot, init, codecs, st.used, 1),
+                a: word_in(from, slot, st.used, 0),
+                b: word_in(from, slot, st.used, 1),
                 at: index(slot, st.used),
                 used,
             };
-            write_words(given, message, st, item, entry)
+            write_words(from.given, message, st, item, entry)
         }
     }
 }
 
 // Item by item up to the end, or to a refusal at a word.
-fn write_items(
-    init: &[u32],
-    codecs: &[u8],
-    given: &[u8],
-    message: &mut [u8],
-) -> Result<Desk, Fault<usize>>
-    requires codecs { length codecs.now / 4 ≤ most_word }
-    requires init { length init.now ≡ init_words }
-    ensures { Written message.old (length codecs.now / 4) (wholly init.now (words_of codecs.now)
-        given.now) result message.new }
+fn write_items(from: Sources<'_>, message: &mut [u8]) -> Result<Desk, Fault<usize>>
+    ensures { Written message.old (length from.entry.codecs.now / 4) (wholly from.entry.init.now (words_of from.entry.codecs.now)
+        from.entry.given.now) result message.new }
 {
     let mut st = Desk {
         phase: Phase::Profile,
@@ -497,14 +488,7 @@ fn write_items(
         ink: Some(0),
     };
     while !is_end(st.phase) {
-        match write_item(init, codecs, given, message, st) {
-            Err(fault) => {
-                return Err(fault);
-            }
-            Ok(then) => {
-                st = then;
-            }
-        }
+        st = write_item(from, message, st)?;
     }
     Ok(st)
 }
@@ -539,23 +523,17 @@ fn finish(
 }
 
 // The items written on a cleared page: all words of codecs are the message's.
-fn write_cleared(
-    init: &[u32],
-    codecs: &[u8],
-    given: &[u8],
-    message: &mut [u8],
-) -> Result<usize, Fault<usize>>
-    requires codecs { (length codecs.now / 4 ≡ get_or init.now 7 0) × (length codecs.now / 4 ≤ most_word) }
-    requires init { length init.now ≡ init_words }
+fn write_cleared(from: Sources<'_>, message: &mut [u8]) -> Result<usize, Fault<usize>>
+    requires count { length from.codecs.now / 4 ≡ get_or from.init.now 7 0 }
     requires zeros { message.old ≡ replicate (length message.old) 0 }
     ensures { made_is result message.new
         ≡ write_back (length message.old)
-        (init_write init.now (words_of codecs.now) given.now
+        (init_write from.entry.init.now (words_of from.entry.codecs.now) from.entry.given.now
         (length message.old)) }
 {
-    match write_items(init, codecs, given, message) {
+    match write_items(from, message) {
         Err(fault) => Err(refuse(message, fault.why, fault.at)),
-        Ok(st) => finish(message, codecs.len() / 4, st.used, st.ink),
+        Ok(st) => finish(message, from.codecs.len() / 4, st.used, st.ink),
     }
 }
 
@@ -577,5 +555,10 @@ pub fn write(
         return Err(refuse(message, Refusal::NoReading, 7));
     }
     clear(message);
-    write_cleared(init, &codecs[..4 * n], given, message)
+    let from = Sources {
+        init,
+        codecs: &codecs[..4 * n],
+        given,
+    };
+    write_cleared(from, message)
 }

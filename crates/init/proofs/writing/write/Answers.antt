@@ -13,7 +13,7 @@ pub write_cleared-requires : goal.write_cleared-requires
 write_cleared-requires c =
     let t = length-take-le (4 * get_or c.args.init.now 7 0) c.args.codecs.now (omega arith) in
     let w = (c.type_inv.init 7).fits in
-    record { codecs = (omega arith, omega arith); init = c.requires; zeros = search (rules, clear-ways) }
+    record { count = omega arith; zeros = search (rules, clear-ways) }
 
 pub returns : goal.returns
 returns c = search (rules, clear-ways)

@@ -3,11 +3,11 @@ use Rattle.init.proofs.StepWays.{step-ways, item-missing, item-steps}
 use borrow.Author.Rules.{rules}
 use Rattle.init.proofs.writing.write_item.Goals as goal
 
-pub word_in-requires-clause-small : goal.word_in-requires-clause-small
-word_in-requires-clause-small c = search (rules, step-ways)
+pub word_in-requires : goal.word_in-requires
+word_in-requires c = search (rules, step-ways)
 
-pub word_in-requires-in-Some-clause-small : goal.word_in-requires-in-Some-clause-small
-word_in-requires-in-Some-clause-small c = search (rules, step-ways)
+pub word_in-requires-in-Some : goal.word_in-requires-in-Some
+word_in-requires-in-Some c = search (rules, step-ways)
 
 pub invariant_of-entry : goal.invariant_of-entry
 invariant_of-entry c = record { near = search (rules, step-ways) }

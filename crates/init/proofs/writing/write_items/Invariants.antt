@@ -8,11 +8,11 @@ use Rattle.init.specs.Phases.{reach, rank}
 use Rattle.init.specs.Writes.{Writes, wholly}
 use Rattle.init.proofs.writing.write_items.Given as goal
 
-abbrev pub invariant-loop-message : goal.invariant-loop-message
-invariant-loop-message l = (reach l.st.phase ≤ init_words)
+abbrev pub invariant-loop-from : goal.invariant-loop-from
+invariant-loop-from l = (reach l.st.phase ≤ init_words)
     × (length l.message ≡ length l.initial.message)
-    × (l.st.used ≤ length l.codecs / 4)
-    × Writes l.init (words_of l.codecs) l.given l.initial.message (wholly l.init (words_of l.codecs) l.given) l.st l.message
+    × (l.st.used ≤ length l.from.codecs.now / 4)
+    × Writes l.from.init.now (words_of l.from.codecs.now) l.from.given.now l.initial.message (wholly l.from.init.now (words_of l.from.codecs.now) l.from.given.now) l.st l.message
 
-abbrev pub decreases-loop-message : goal.decreases-loop-message
-decreases-loop-message l = length l.codecs / 4 - l.st.used + rank l.st.phase
+abbrev pub decreases-loop-from : goal.decreases-loop-from
+decreases-loop-from l = length l.from.codecs.now / 4 - l.st.used + rank l.st.phase
