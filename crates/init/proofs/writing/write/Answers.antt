@@ -12,7 +12,6 @@ returns-then-codecs-n c = search (rules, clear-ways)
 pub write_cleared-requires : goal.write_cleared-requires
 write_cleared-requires c =
     let t = length-take-le (4 * get_or c.args.init.now 7 0) c.args.codecs.now (omega arith) in
-    let w = (c.type_inv.init 7).fits in
     record { count = omega arith; zeros = search (rules, clear-ways) }
 
 pub returns : goal.returns
