@@ -34,9 +34,6 @@ use Rattle.init.specs.Writes.{value_is, value_in, most_of, Values, Page, page, i
 use Rattle.init.proofs.WriteWays.{inked-append}
 use Rattle.init.proofs.Found.{slot-lies}
 
-pub both : (p q r : Page) (l m : List ℕ) → q ≡ inked p l → r ≡ inked q m → r ≡ inked p (l ++ m)
-both p q r l m e f = f ∙ ap (λ (x : Page). inked x m) e ∙ sym (inked-append p l m)
-
 module _ (i : Item) (given : List ℕ) (st : Desk) (a v u at : ℕ) (m m' : List ℕ) (t : Bool) (e : t ≡ lies_of (content_of i) (length given) a v) where
   pub lies-true : t ≡ true → lies_of (content_of i) (length given) a v ≡ true
   lies-true f = cc

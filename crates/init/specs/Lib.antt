@@ -14,6 +14,7 @@ pub mod Promises
 pub mod Reads
 pub mod Back
 pub mod Writes
+pub mod Inks
 pub mod Made
 pub mod Calls
 pub mod ByCalls

@@ -5,6 +5,7 @@
 pub mod calls; // calls.rt: the calls for a C host
 pub mod items; // items.rt: an item's number, judged, and its words
 mod lent; // lent.rt: what a reading leaves
+mod page; // page.rt: a message's bytes, as far as there is room
 pub mod phases; // phases.rt: which item comes next, and where its words stand
 pub mod reading; // reading.rt: a message read
 pub mod writing; // writing.rt: a message written

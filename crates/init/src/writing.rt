@@ -1,19 +1,19 @@
 // A start-up message written, item by item.
-ghost use Rattle.std.specs.Prelude.{◌≡◌, true, false, List, [], ◌∷◌, ◌++◌, ℕ, ◌+◌, ◌*◌, ◌/◌, ◌≤◌, ◌<◌, Err, length, take, drop, replicate, get_or};
+ghost use Rattle.std.specs.Prelude.{◌≡◌, false, List, ℕ, ◌+◌, ◌/◌, ◌≤◌, ◌<◌, Err, length, replicate, get_or};
 ghost use Rattle.buffers.specs.Bytes.{words_of};
 ghost use Rattle.numbers.specs.Limit.{init_words, most_vlu8, most_word};
 ghost use Rattle.numbers.specs.Refused.{number_of};
 ghost use Rattle.init.specs.declared.Item.TheVariants as item;
 ghost use Rattle.init.specs.Items as items;
 ghost use Rattle.init.specs.Write as meaning;
-ghost use Rattle.init.specs.Write.{Writing, lies_of, bytes_for, init_write};
+ghost use Rattle.init.specs.Write.{Writing, init_write};
 ghost use Rattle.init.specs.Write.{Writing as writings};
 ghost use Rattle.init.specs.Made.{made_is, write_back, Closed};
 ghost use Rattle.init.specs.Phases.{item_of, reach, grown, ends};
 ghost use Rattle.init.specs.Reads.{slot_index};
-ghost use Rattle.init.specs.Writes.{Put, Worded, Writes, Stepped, Written, wholly, UsesIs, value_is, value_in, most_of, page, inked};
+ghost use Rattle.init.specs.Writes.{Put, Worded, Writes, Stepped, Written, wholly, UsesIs, value_is, value_in, most_of, page};
 
-use crate::items::body_of;
+use crate::page::{Numbered, Page};
 use crate::phases::{is_end, next, row};
 use crate::{Item, Phase, Slot};
 use buffers::{clear, word};
@@ -191,77 +191,6 @@ fn value_of(item: Item, a: u32, b: u32) -> Result<u16, Fault<u8>>
     }
 }
 
-// An item and its number, which is one that the item's head holds.
-#[derive(Clone, Copy)]
-struct Numbered {
-    item: Item,
-    number: u16,
-    ghost held: { number ≤ most_of (items.head_of item) },
-}
-
-// A byte written at a place: where the next one goes. Nowhere is one that the room lent has no place for, and then no more is written.
-#[tactic(auto, unfolding(crate::specs::Writes::inked, crate::specs::Writes::dot))]
-fn put(message: &mut [u8], ink: Option<usize>, x: u8) -> Option<usize>
-    ensures { page message.new result ≡ inked (page message.old ink) (x ∷ []) }
-{
-    let at = ink?;
-    if at < message.len() {
-        message[at] = x;
-        return Some(at + 1);
-    }
-    None
-}
-
-// A vluimsbf8, shortest.
-#[tactic(auto, unfolding(crate::specs::Items::bytes8, crate::specs::Writes::inked))]
-fn put_number(message: &mut [u8], ink: Option<usize>, v: u16) -> Option<usize>
-    requires { v ≤ most_vlu8 }
-    ensures { page message.new result ≡ inked (page message.old ink) (items.bytes8 v) }
-{
-    if v < 128 {
-        return put(message, ink, v as u8);
-    }
-    let high = 128 + v / 128;
-    let low = v % 128;
-    let i = put(message, ink, high as u8);
-    put(message, i, low as u8)
-}
-
-// An item's number.
-#[tactic(auto, unfolding(crate::specs::Items::head_bytes, crate::specs::Items::head_of, crate::specs::Writes::most_of, crate::specs::Writes::inked))]
-fn put_head(message: &mut [u8], ink: Option<usize>, n: Numbered) -> Option<usize>
-    ensures { page message.new result
-        ≡ inked (page message.old ink) (items.head_bytes (items.head_of n.item) n.number) }
-{
-    match n.item {
-        Item::UnitByte | Item::Flags(_) | Item::Formats => put(message, ink, n.number as u8),
-        Item::NoFlags | Item::NoFormats => ink,
-        _ => put_number(message, ink, n.number),
-    }
-}
-
-// Bytes one after another.
-fn put_stretch(message: &mut [u8], ink: Option<usize>, bytes: &[u8]) -> Option<usize>
-    ensures { page message.new result ≡ inked (page message.old ink) bytes.now }
-{
-    let mut p = ink;
-    for &x in bytes {
-        p = put(message, p, x);
-    }
-    p
-}
-
-// Zeros.
-fn put_zeros(message: &mut [u8], ink: Option<usize>, n: usize) -> Option<usize>
-    ensures { page message.new result ≡ inked (page message.old ink) (replicate n 0) }
-{
-    let mut p = ink;
-    for _ in 0..n {
-        p = put(message, p, 0);
-    }
-    p
-}
-
 // Where a writing is: the next item, the words of codecs used, and where the next byte goes.
 #[derive(Clone, Copy)]
 pub struct Desk {
@@ -340,58 +269,7 @@ fn index(slot: Slot, used: usize) -> usize
     }
 }
 
-// Whether an item's stretch, if it has one, ends among the bytes given.
-#[tactic(auto, unfolding(crate::specs::Write::lies_of, crate::specs::Write::content_of))]
-fn lies_in(n: Numbered, bytes: usize, a: u32) -> bool
-    ensures { result ≡ lies_of (meaning.content_of n.item) bytes a n.number }
-{
-    match n.item {
-        Item::Uri | Item::Text | Item::Formats => a as usize + usize::from(n.number) <= bytes,
-        _ => true,
-    }
-}
-
-// What follows an item's number.
-#[tactic(auto, unfolding(crate::specs::Write::lies_of, crate::specs::Write::content_of, crate::specs::Write::content, crate::specs::Items::body, crate::specs::Writes::inked))]
-fn put_content(
-    message: &mut [u8],
-    ink: Option<usize>,
-    given: &[u8],
-    n: Numbered,
-    a: u32,
-) -> Option<usize>
-    requires { lies_of (meaning.content_of n.item) (length given.now) a n.number ≡ true }
-    ensures { page message.new result
-        ≡ inked (page message.old ink)
-        (meaning.content (meaning.content_of n.item) given.now a n.number) }
-{
-    match n.item {
-        Item::Flags(_) => { put_zeros(message, ink, body_of(n.item, u32::from(n.number)) as usize) }
-        Item::Uri | Item::Text | Item::Formats => {
-            let from = a as usize;
-            put_stretch(message, ink, &given[from..from + usize::from(n.number)])
-        }
-        _ => ink,
-    }
-}
-
-// An item's number and what follows it.
-fn put_item(
-    message: &mut [u8],
-    ink: Option<usize>,
-    given: &[u8],
-    n: Numbered,
-    a: u32,
-) -> Option<usize>
-    requires { lies_of (meaning.content_of n.item) (length given.now) a n.number ≡ true }
-    ensures { page message.new result
-        ≡ inked (page message.old ink) (bytes_for n.item given.now a n.number) }
-{
-    let i = put_head(message, ink, n);
-    put_content(message, i, given, n, a)
-}
-
-// An item's words a and b: the index of a, and the words of codecs used behind them.
+// An item's words a and b, the index of a, and how many words of codecs are used behind them.
 #[derive(Clone, Copy)]
 struct Entry {
     a: u32,
@@ -412,13 +290,16 @@ fn write_value(
     requires { grown st.phase n.number ≤ init_words }
     ensures { Put n.item given.now st entry.a n.number entry.used entry.at message.old result message.new }
 {
-    if lies_in(n, given.len(), entry.a) {
-        let ink = put_item(message, st.ink, given, n, entry.a);
-        let phase = next(st.phase, u32::from(n.number));
+    if n.lies_in(given.len(), entry.a) {
+        let mut page = Page {
+            message,
+            ink: st.ink,
+        };
+        page.put_item(given, n, entry.a);
         return Ok(Desk {
-            phase,
+            phase: next(st.phase, u32::from(n.number)),
             used: entry.used,
-            ink,
+            ink: page.ink,
         });
     }
     Err(Fault {
