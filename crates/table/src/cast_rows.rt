@@ -10,7 +10,7 @@ ghost use Rattle.table.specs.Words.{derived_at, substitute_at, type_pair_at, row
 
 use crate::answers::{Flaw, in_row};
 use crate::header;
-use crate::places::{Casts, particle_at};
+use crate::places::{Casts, Counts};
 use crate::rows::{casts_of, word};
 use crate::runs::words_from;
 use numbers::{limit, particle};
@@ -19,13 +19,13 @@ use numbers::{limit, particle};
 const STAMPS: usize = limit::MOST_TYPES as usize;
 
 // The length that a table has by its form.
-pub fn size(table: &[u32], types: u32, attributes: u32, particles: u32) -> usize
-    ensures { result ≡ form_size (word_at table.now) types attributes particles }
+pub fn size(table: &[u32], counts: Counts) -> usize
+    ensures { result ≡ form_size (word_at table.now) counts.types counts.attributes counts.particles }
 {
     if word(table, header::FORM) != header::CAST_FORM {
-        return particle_at(types, attributes, particles);
+        return counts.end();
     }
-    casts_of(table, types, attributes, particles).row_pair_at(types, particles)
+    casts_of(table, counts).row_pair_at(counts.types, counts.particles)
 }
 
 // The derived entry i: a type.
@@ -158,44 +158,34 @@ fn row_words(swaps: u32, kind: u32, start: u32, count: u32) -> Result<(), Flaw>
 }
 
 // The pair of particle row p.
-fn row_pair(table: &[u32], types: u32, attributes: u32, casts: Casts, p: u32) -> Result<(), Flaw>
+fn row_pair(table: &[u32], counts: Counts, casts: Casts, p: u32) -> Result<(), Flaw>
     ensures { verdict_is result
-        ≡ first (row_pair_at casts.end casts.entries casts.swaps types p)
-        (row_pair_row (word_at table.now) types attributes casts.end casts.entries casts.swaps p) }
+        ≡ first (row_pair_at casts.end casts.entries casts.swaps counts.types p)
+        (row_pair_row (word_at table.now) counts.types counts.attributes casts.end casts.entries casts.swaps p) }
 {
-    let base = casts.row_pair_at(types, p);
+    let base = casts.row_pair_at(counts.types, p);
     let [start, count] = words_from::<2>(table, base);
-    let kind = word(table, particle_at(types, attributes, p));
+    let kind = word(table, counts.particle_at(p));
     in_row(base, row_words(casts.swaps, kind, start, count))
 }
 
 // Every particle row's pair, up to one at fault.
-fn all_row_pairs(
-    table: &[u32],
-    types: u32,
-    attributes: u32,
-    casts: Casts,
-    particles: u32,
-) -> Result<(), Flaw>
-    ensures { verdict_is result ≡ row_pairs_verdict table.now types attributes casts.end casts.entries casts.swaps particles }
+fn all_row_pairs(table: &[u32], counts: Counts, casts: Casts) -> Result<(), Flaw>
+    ensures { verdict_is result
+        ≡ row_pairs_verdict table.now counts.types counts.attributes casts.end casts.entries casts.swaps counts.particles }
 {
-    for p in 0..particles {
-        row_pair(table, types, attributes, casts, p)?;
+    for p in 0..counts.particles {
+        row_pair(table, counts, casts, p)?;
     }
     Ok(())
 }
 
 // The words from `end` on, in order.
-fn all_words(
-    table: &[u32],
-    types: u32,
-    attributes: u32,
-    particles: u32,
-    casts: Casts,
-) -> Result<(), Flaw>
-    requires { (types ≤ most_types) }
+fn all_words(table: &[u32], counts: Counts, casts: Casts) -> Result<(), Flaw>
+    requires { counts.types ≤ most_types }
     ensures { verdict_is result
-        ≡ first casts.end (cast_words (word_at table.now) types attributes particles casts.end casts.entries casts.swaps) }
+        ≡ first casts.end
+        (cast_words (word_at table.now) counts.types counts.attributes counts.particles casts.end casts.entries casts.swaps) }
 {
     if limit::MOST_DERIVATIONS < casts.entries {
         return Err(Flaw(casts.end));
@@ -203,22 +193,21 @@ fn all_words(
     if limit::MOST_SUBSTITUTES < casts.swaps {
         return Err(Flaw(casts.end + 1));
     }
-    all_entries(table, types, casts)?;
-    all_substitutes(table, types, casts)?;
-    all_type_pairs(table, casts, types)?;
-    all_row_pairs(table, types, attributes, casts, particles)
+    all_entries(table, counts.types, casts)?;
+    all_substitutes(table, counts.types, casts)?;
+    all_type_pairs(table, casts, counts.types)?;
+    all_row_pairs(table, counts, casts)
 }
 
 // What stands behind the rows by the form: in form 1 there is nothing.
-pub fn all(table: &[u32], types: u32, attributes: u32, particles: u32) -> Result<(), Flaw>
-    requires { types ≤ most_types }
+pub fn all(table: &[u32], counts: Counts) -> Result<(), Flaw>
+    requires { counts.types ≤ most_types }
     ensures { verdict_is result
-        ≡ first (size_of types attributes particles)
-        (form_words (word_at table.now) types attributes particles) }
+        ≡ first (size_of counts.types counts.attributes counts.particles)
+        (form_words (word_at table.now) counts.types counts.attributes counts.particles) }
 {
     if word(table, header::FORM) != header::CAST_FORM {
         return Ok(());
     }
-    let casts = casts_of(table, types, attributes, particles);
-    all_words(table, types, attributes, particles, casts)
+    all_words(table, counts, casts_of(table, counts))
 }

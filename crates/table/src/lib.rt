@@ -22,28 +22,30 @@ ghost use Rattle.table.specs.Words.{size_of, word_at};
 
 pub use answers::{Attribute, Content, Flaw, Particle, Span, TypeList};
 use numbers::limit;
-use rows::word;
+use places::Counts;
 
 // The rows after the header, in order.
-fn every_row(table: &[u32], types: u32, attributes: u32, particles: u32) -> Result<(), Flaw>
-    requires { size_of types attributes particles ≤ length table.now }
-    ensures { verdict_is result ≡ first 4 (row_words (word_at table.now) types attributes particles) }
+fn every_row(table: &[u32], counts: Counts) -> Result<(), Flaw>
+    requires { size_of counts.types counts.attributes counts.particles ≤ length table.now }
+    ensures { verdict_is result
+        ≡ first 4 (row_words (word_at table.now) counts.types counts.attributes counts.particles) }
 {
-    type_rows::all(table, types, attributes, particles)?;
-    attribute_rows::all(table, types, attributes)?;
-    particle_rows::all(table, types, attributes, particles)
+    type_rows::all(table, counts)?;
+    attribute_rows::all(table, counts.types, counts.attributes)?;
+    particle_rows::all(table, counts)
 }
 
 // The rows, then what stands behind them.
-fn every_word(table: &[u32], types: u32, attributes: u32, particles: u32) -> Result<(), Flaw>
-    requires { (types ≤ most_types) × (size_of types attributes particles ≤ length table.now) }
+fn every_word(table: &[u32], counts: Counts) -> Result<(), Flaw>
+    requires { (counts.types ≤ most_types)
+        × (size_of counts.types counts.attributes counts.particles ≤ length table.now) }
     ensures { verdict_is result
         ≡ first 4
-        (row_words (word_at table.now) types attributes particles
-        ++ form_words (word_at table.now) types attributes particles) }
+        (row_words (word_at table.now) counts.types counts.attributes counts.particles
+        ++ form_words (word_at table.now) counts.types counts.attributes counts.particles) }
 {
-    every_row(table, types, attributes, particles)?;
-    cast_rows::all(table, types, attributes, particles)
+    every_row(table, counts)?;
+    cast_rows::all(table, counts)
 }
 
 // The header words that are given, then the length, then every other word: the first at fault.
@@ -51,10 +53,8 @@ pub fn check(table: &[u32]) -> Result<(), Flaw>
     ensures { verdict_is result ≡ verdict table.now }
 {
     header::given(table)?;
-    let types = word(table, header::TYPES);
-    let attributes = word(table, header::ATTRIBUTES);
-    let particles = word(table, header::PARTICLES);
-    let size = cast_rows::size(table, types, attributes, particles);
+    let counts = rows::counts(table);
+    let size = cast_rows::size(table, counts);
     let n = table.len();
     if n != size {
         return Err(Flaw(n));
@@ -62,5 +62,5 @@ pub fn check(table: &[u32]) -> Result<(), Flaw>
     if limit::MOST_TABLE_WORDS < n {
         return Err(Flaw(n));
     }
-    every_word(table, types, attributes, particles)
+    every_word(table, counts)
 }

@@ -8,7 +8,7 @@ ghost use Rattle.table.specs.Views.{verdict_is};
 ghost use Rattle.table.specs.Words.{particle_at};
 
 use crate::answers::{Flaw, in_row};
-use crate::places::particle_at;
+use crate::places::Counts;
 use crate::runs::{given_from, words_from};
 use numbers::{limit, particle};
 
@@ -82,39 +82,31 @@ fn occurs(particles: u32, p: u32, child: u32, least: u32, most: u32) -> Result<(
 }
 
 // The four words.
-fn by_kind(
-    types: u32,
-    particles: u32,
-    p: u32,
-    kind: u32,
-    x: u32,
-    y: u32,
-    z: u32,
-) -> Result<(), Flaw>
-    ensures { verdict_is result ≡ first 0 (particle_words types particles p kind x y z) }
+fn by_kind(counts: Counts, p: u32, kind: u32, x: u32, y: u32, z: u32) -> Result<(), Flaw>
+    ensures { verdict_is result ≡ first 0 (particle_words counts.types counts.particles p kind x y z) }
 {
     if kind == particle::ELEMENT {
-        return element(types, x, y, z);
+        return element(counts.types, x, y, z);
     }
     if kind == particle::SEQUENCE {
-        return group(particles, 1, p, x, y, z);
+        return group(counts.particles, 1, p, x, y, z);
     }
     if kind == particle::CHOICE {
-        return group(particles, 2, p, x, y, z);
+        return group(counts.particles, 2, p, x, y, z);
     }
     if kind == particle::OCCURS {
-        return occurs(particles, p, x, y, z);
+        return occurs(counts.particles, p, x, y, z);
     }
     Err(Flaw(0))
 }
 
 // The particle row p.
-fn row(table: &[u32], types: u32, attributes: u32, particles: u32, p: u32) -> Result<(), Flaw>
-    ensures { verdict_is result ≡ particle_verdict table.now types attributes particles p }
+fn row(table: &[u32], counts: Counts, p: u32) -> Result<(), Flaw>
+    ensures { verdict_is result ≡ particle_verdict table.now counts.types counts.attributes counts.particles p }
 {
-    let base = particle_at(types, attributes, p);
+    let base = counts.particle_at(p);
     let [kind, x, y, z] = words_from::<4>(table, base);
-    in_row(base, by_kind(types, particles, p, kind, x, y, z))
+    in_row(base, by_kind(counts, p, kind, x, y, z))
 }
 
 // Whether so many rows from `start` on are all there. The sum is wider than its parts, so one test does.
@@ -125,33 +117,25 @@ fn reaches(start: u32, number: u32, particles: u32) -> bool
 }
 
 // Whether the particle row p is judged right but for two words: its name or its least joins `small`, a word that must be 0 joins `zeros`.
-fn row_right(
-    table: &[u32],
-    types: u32,
-    attributes: u32,
-    particles: u32,
-    p: u32,
-    small: &mut u32,
-    zeros: &mut u32,
-) -> bool
-    requires { particle_at types attributes p + 3 < length table.now }
+fn row_right(table: &[u32], counts: Counts, p: u32, small: &mut u32, zeros: &mut u32) -> bool
+    requires { particle_at counts.types counts.attributes p + 3 < length table.now }
     ensures { result ≡ true
         → Judged small.old zeros.old small.new zeros.new
-        (particle_verdict table.now types attributes particles p) }
+        (particle_verdict table.now counts.types counts.attributes counts.particles p) }
 {
-    let base = particle_at(types, attributes, p);
+    let base = counts.particle_at(p);
     let [kind, x, y, z] = given_from::<4>(table, base);
     if kind == particle::ELEMENT {
         *small |= x;
         *zeros |= z;
-        return y < types;
+        return y < counts.types;
     }
     if x <= p {
         return false;
     }
     if kind == particle::OCCURS {
         *small |= y;
-        if particles <= x {
+        if counts.particles <= x {
             return false;
         }
         if z < y {
@@ -172,20 +156,19 @@ fn row_right(
     if limit::MOST_CHILDREN < y {
         return false;
     }
-    reaches(x, y, particles)
+    reaches(x, y, counts.particles)
 }
 
 // Whether the particle rows are judged right. A no tells nothing of the word at fault.
-fn all_right(table: &[u32], types: u32, attributes: u32, particles: u32) -> bool
-    requires { particle_at types attributes particles ≤ length table.now }
-    ensures { result ≡ true → particles_verdict table.now types attributes particles ≡ right }
+fn all_right(table: &[u32], counts: Counts) -> bool
+    requires { particle_at counts.types counts.attributes counts.particles ≤ length table.now }
+    ensures { result ≡ true
+        → particles_verdict table.now counts.types counts.attributes counts.particles ≡ right }
 {
     let mut small = 0;
     let mut zeros = 0;
-    for p in 0..particles {
-        if !row_right(
-            table, types, attributes, particles, p, &mut small, &mut zeros,
-        ) {
+    for p in 0..counts.particles {
+        if !row_right(table, counts, p, &mut small, &mut zeros) {
             return false;
         }
     }
@@ -193,15 +176,15 @@ fn all_right(table: &[u32], types: u32, attributes: u32, particles: u32) -> bool
 }
 
 // Every particle row, up to one at fault: it is looked for only where the rows are not judged right.
-pub fn all(table: &[u32], types: u32, attributes: u32, particles: u32) -> Result<(), Flaw>
-    requires { particle_at types attributes particles ≤ length table.now }
-    ensures { verdict_is result ≡ particles_verdict table.now types attributes particles }
+pub fn all(table: &[u32], counts: Counts) -> Result<(), Flaw>
+    requires { particle_at counts.types counts.attributes counts.particles ≤ length table.now }
+    ensures { verdict_is result ≡ particles_verdict table.now counts.types counts.attributes counts.particles }
 {
-    if all_right(table, types, attributes, particles) {
+    if all_right(table, counts) {
         return Ok(());
     }
-    for p in 0..particles {
-        row(table, types, attributes, particles, p)?;
+    for p in 0..counts.particles {
+        row(table, counts, p)?;
     }
     Ok(())
 }

@@ -1,7 +1,7 @@
 // Where the rows of a table begin: behind four header words the type rows, of seven words each, then the attribute rows, of three,
 // then the particle rows, of four. Of the row past the last it is the first word past them.
 ghost use Rattle.std.specs.Prelude.{◌≡◌, ◌<◌};
-ghost use Rattle.table.specs.Words.{type_at, attribute_at, particle_at, derived_at, substitute_at, type_pair_at, row_pair_at};
+ghost use Rattle.table.specs.Words.{type_at, attribute_at, particle_at, size_of, derived_at, substitute_at, type_pair_at, row_pair_at};
 
 // The type row t.
 pub fn type_at(t: u32) -> usize
@@ -22,6 +22,30 @@ pub fn particle_at(types: u32, attributes: u32, p: u32) -> usize
     ensures { result ≡ particle_at types attributes p }
 {
     attribute_at(types, attributes) + 4 * (p as usize)
+}
+
+// How many rows of each kind there are, as the header has them.
+#[derive(Clone, Copy)]
+pub struct Counts {
+    pub types: u32,
+    pub attributes: u32,
+    pub particles: u32,
+}
+
+impl Counts {
+    // The particle row p.
+    pub fn particle_at(self, p: u32) -> usize
+        ensures { result ≡ particle_at self.types self.attributes p }
+    {
+        particle_at(self.types, self.attributes, p)
+    }
+
+    // Where the rows end.
+    pub fn end(self) -> usize
+        ensures { result ≡ size_of self.types self.attributes self.particles }
+    {
+        self.particle_at(self.particles)
+    }
 }
 
 // The words behind the rows: where they begin, and how many derived entries and substitutes there are.

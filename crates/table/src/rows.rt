@@ -2,11 +2,11 @@
 ghost use Rattle.std.specs.Prelude.{◌≡◌, ◌+◌, ◌<◌};
 ghost use Rattle.table.specs.Rows.{table_of, held_of, attribute_of, row_from, row_at};
 ghost use Rattle.table.specs.Views.{content_is, row_is, attribute_is, Spans, Listed, listed_at};
-ghost use Rattle.table.specs.Words.{word_at, size_of, rows_end, derivations_in, substitutes_in};
+ghost use Rattle.table.specs.Words.{word_at, types_in, attributes_in, particles_in, size_of, rows_end, derivations_in, substitutes_in};
 
 use crate::answers::{Attribute, Content, Particle, Span, TypeList};
 use crate::header;
-use crate::places::{Casts, attribute_at, particle_at, type_at};
+use crate::places::{Casts, Counts, attribute_at, particle_at, type_at};
 use crate::runs::words_from;
 use numbers::{content, particle};
 
@@ -114,13 +114,26 @@ pub fn particle(table: &[u32], i: u32) -> Particle
     row_at(table, types, attributes, i)
 }
 
+// How many rows of each kind there are.
+pub(crate) fn counts(table: &[u32]) -> Counts
+    ensures types { result.types ≡ types_in table.now }
+    ensures attributes { result.attributes ≡ attributes_in table.now }
+    ensures particles { result.particles ≡ particles_in table.now }
+{
+    Counts {
+        types: word(table, header::TYPES),
+        attributes: word(table, header::ATTRIBUTES),
+        particles: word(table, header::PARTICLES),
+    }
+}
+
 // What stands behind so many rows.
-pub fn casts_of(table: &[u32], types: u32, attributes: u32, particles: u32) -> Casts
-    ensures end { result.end ≡ size_of types attributes particles }
+pub fn casts_of(table: &[u32], counts: Counts) -> Casts
+    ensures end { result.end ≡ size_of counts.types counts.attributes counts.particles }
     ensures entries { result.entries ≡ word_at table.now result.end }
     ensures swaps { result.swaps ≡ word_at table.now (result.end + 1) }
 {
-    let end = particle_at(types, attributes, particles);
+    let end = counts.end();
     Casts {
         end,
         entries: word(table, end),
@@ -134,10 +147,7 @@ fn casts(table: &[u32]) -> Casts
     ensures entries { result.entries ≡ derivations_in table.now }
     ensures swaps { result.swaps ≡ substitutes_in table.now }
 {
-    let types = word(table, header::TYPES);
-    let attributes = word(table, header::ATTRIBUTES);
-    let particles = word(table, header::PARTICLES);
-    casts_of(table, types, attributes, particles)
+    casts_of(table, counts(table))
 }
 
 // How many derived entries there are in all: type codes are sent only where there are any.

@@ -7,7 +7,7 @@ ghost use Rattle.table.specs.Views.{verdict_is};
 ghost use Rattle.table.specs.Words.{type_at};
 
 use crate::answers::{Flaw, in_row};
-use crate::places::type_at;
+use crate::places::{Counts, type_at};
 use crate::runs::given_from;
 use numbers::{content, limit, simple};
 use signed::gap;
@@ -120,30 +120,30 @@ fn by_content(particles: u32, content: u32, a: u32, b: u32, c: u32) -> Result<()
 }
 
 // The seven words.
-fn words(attributes: u32, particles: u32, row: [u32; 7]) -> Result<(), Flaw>
-    ensures { verdict_is result ≡ first 0 (type_words attributes particles row) }
+fn words(counts: Counts, row: [u32; 7]) -> Result<(), Flaw>
+    ensures { verdict_is result ≡ first 0 (type_words counts.attributes counts.particles row) }
 {
     let [held, content, start, count, a, b, c] = row;
-    front(attributes, held, content, start, count)?;
-    by_content(particles, content, a, b, c)
+    front(counts.attributes, held, content, start, count)?;
+    by_content(counts.particles, content, a, b, c)
 }
 
 // The type row t.
-fn row(table: &[u32], attributes: u32, particles: u32, t: u32) -> Result<(), Flaw>
+fn row(table: &[u32], counts: Counts, t: u32) -> Result<(), Flaw>
     requires { type_at t + 6 < length table.now }
-    ensures { verdict_is result ≡ type_verdict table.now attributes particles t }
+    ensures { verdict_is result ≡ type_verdict table.now counts.attributes counts.particles t }
 {
     let base = type_at(t);
-    in_row(base, words(attributes, particles, given_from(table, base)))
+    in_row(base, words(counts, given_from(table, base)))
 }
 
 // Every type row, up to one at fault.
-pub fn all(table: &[u32], types: u32, attributes: u32, particles: u32) -> Result<(), Flaw>
-    requires { type_at types ≤ length table.now }
-    ensures { verdict_is result ≡ types_verdict table.now attributes particles types }
+pub fn all(table: &[u32], counts: Counts) -> Result<(), Flaw>
+    requires { type_at counts.types ≤ length table.now }
+    ensures { verdict_is result ≡ types_verdict table.now counts.attributes counts.particles counts.types }
 {
-    for t in 0..types {
-        row(table, attributes, particles, t)?;
+    for t in 0..counts.types {
+        row(table, counts, t)?;
     }
     Ok(())
 }

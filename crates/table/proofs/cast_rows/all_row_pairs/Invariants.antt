@@ -5,4 +5,4 @@ use Rattle.table.proofs.Turns.{Left}
 use Rattle.table.proofs.cast_rows.all_row_pairs.Given as goal
 
 abbrev pub invariant-loop-p : goal.invariant-loop-p
-invariant-loop-p l = Left (row_pair_at l.casts.end l.casts.entries l.casts.swaps l.types) (row_pair_row (word_at l.table) l.types l.attributes l.casts.end l.casts.entries l.casts.swaps) l.particles l.p
+invariant-loop-p l = Left (row_pair_at l.casts.end l.casts.entries l.casts.swaps l.counts.types) (row_pair_row (word_at l.table) l.counts.types l.counts.attributes l.casts.end l.casts.entries l.casts.swaps) l.counts.particles l.p

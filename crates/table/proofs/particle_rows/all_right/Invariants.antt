@@ -8,4 +8,4 @@ use Rattle.table.proofs.Turns.{Left}
 use Rattle.table.proofs.particle_rows.all_right.Given as goal
 
 abbrev pub invariant-loop-p : goal.invariant-loop-p
-invariant-loop-p l = l.small ≤ most_name → l.zeros ≡ 0 → Left (particle_at l.types l.attributes) (particle_row (word_at l.table) l.types l.attributes l.particles) l.particles l.p
+invariant-loop-p l = l.small ≤ most_name → l.zeros ≡ 0 → Left (particle_at l.counts.types l.counts.attributes) (particle_row (word_at l.table) l.counts.types l.counts.attributes l.counts.particles) l.counts.particles l.p

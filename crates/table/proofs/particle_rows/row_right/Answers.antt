@@ -9,8 +9,8 @@ returns-then-kind-eq-ELEMENT c = λ e. search (judging-ways, ltb-true)
 pub returns-then-x-p : goal.returns-then-x-p
 returns-then-x-p c = no-tells-nothing
 
-pub returns-then-particles-x : goal.returns-then-particles-x
-returns-then-particles-x c = no-tells-nothing
+pub returns-then-counts-x : goal.returns-then-counts-x
+returns-then-counts-x c = no-tells-nothing
 
 pub returns-then-z-y : goal.returns-then-z-y
 returns-then-z-y c = no-tells-nothing
@@ -33,6 +33,6 @@ returns-then-y-gt-MOST_CHILDREN c = no-tells-nothing
 pub returns : goal.returns
 returns c = λ e.
     let entry = c.args in
-    group-judged entry.table.now _ _ entry.particles _ _ _ c.particle_at-base.ensures c.given_from.ensures _ _ c.if-x-p.false
+    group-judged entry.table.now _ _ entry.counts.particles _ _ _ c.particle_at-base.ensures c.given_from.ensures _ _ c.if-x-p.false
     c.if-kind-eq-ELEMENT.false c.if-kind-eq-OCCURS.false c.if-kind-gt-OCCURS.false c.if-y-kind.false c.if-y-gt-MOST_CHILDREN.false
     _ c.reaches.ensures e

@@ -5,4 +5,4 @@ use Rattle.table.proofs.Turns.{Left}
 use Rattle.table.proofs.type_rows.all.Given as goal
 
 abbrev pub invariant-loop-t : goal.invariant-loop-t
-invariant-loop-t l = Left type_at (type_row (word_at l.table) l.attributes l.particles) l.types l.t
+invariant-loop-t l = Left type_at (type_row (word_at l.table) l.counts.attributes l.counts.particles) l.counts.types l.t
