@@ -65,11 +65,7 @@ fn judge_checked(table: &[u32], by: Order, events: &[u32]) -> Result<Mode, Fault
             at: 0,
         });
     }
-    // No `map_err` and `?`: the goal at its exit speaks of the closure, and did not close.
-    let mode = match mode_of(table, by.party, by.mode) {
-        Ok(mode) => mode,
-        Err(why) => return Err(Fault { why, at: 0 }),
-    };
+    let mode = mode_of(table, by.party, by.mode).map_err(|why| Fault { why, at: 0 })?;
     let at = events.len() / 4;
     if events.len() % 4 != 0 || limit::MOST_EVENTS < at {
         return Err(Fault {
