@@ -193,68 +193,70 @@ few-none = omega arith
 pub ruleset few_ways = (few-start, few-turn, few-end, few-times, few-fits, few-small, few-none)
 
 -- put_text: the first i bytes are drawn
-module _ (s : List ℕ) (p : Pen) (X : List ℕ) (from n : ℕ) (room : Spare s p (8 * n)) (inside : from + n ≤ length X) where
+module _ (s : List ℕ) (p : Pen) (X : List ℕ) (room : Spare s p (8 * length X)) where
   abbrev so_far : ℕ → List ℕ
-  so_far i = bytes (take i (drop from X))
+  so_far i = bytes (take i X)
 
-  long : (i : ℕ) → i ≤ n → length (so_far i) ≡ 8 * i
-  long i h = length-bytes (take i (drop from X)) ∙ omega (arith, length-take i (drop from X), length-drop from X)
+  long : (i : ℕ) → i ≤ length X → length (so_far i) ≡ 8 * i
+  long i h = length-bytes (take i X) ∙ omega (arith, length-take i X)
 
   pub text-start : Drawn s s p p (so_far 0)
-  text-start = rw (bytes-none X from) (drawn-none s p room.few)
+  text-start = rw (bytes-none X 0) (drawn-none s p room.few)
 
   module _ (t : List ℕ) (q : Pen) (i : ℕ) (e : length t ≡ length s) (d : Drawn s t p q (so_far i)) where
     -- the next m bytes, and then so many are drawn
-    on : (m j : ℕ) → j ≡ i + m → (u : List ℕ) (r : Pen) → Drawn t u q r (bytes (take m (drop (from + i) X))) → Drawn s u p r (so_far j)
+    on : (m j : ℕ) → j ≡ i + m → (u : List ℕ) (r : Pen) → Drawn t u q r (bytes (take m (drop i X))) → Drawn s u p r (so_far j)
     on m j z u r g =
-        drawn-as s u p r (so_far i ++ bytes (take m (drop (from + i) X))) (so_far j) (sym (ap so_far z ∙ bytes_on X from i m))
-        (drawn-both s t u p q r (so_far i) (bytes (take m (drop (from + i) X))) d g)
+        let o : 0 + i ≡ i = omega arith in
+        drawn-as s u p r (so_far i ++ bytes (take m (drop i X))) (so_far j) (sym (ap so_far z ∙ (rw o at (bytes_on X 0 i m))))
+        (drawn-both s t u p q r (so_far i) (bytes (take m (drop i X))) d g)
 
-    pub text-spare : (m : ℕ) → i + m ≤ n → Spare t q (8 * m)
-    text-spare m h = spare-on s t p q (so_far i) (8 * n) (8 * m) d room e (omega (arith, long i (omega arith)))
+    pub text-spare : (m : ℕ) → i + m ≤ length X → Spare t q (8 * m)
+    text-spare m h = spare-on s t p q (so_far i) (8 * length X) (8 * m) d room e (omega (arith, long i (omega arith)))
 
-    pub text-done : i ≡ n → Drawn s t p q (so_far n)
-    text-done z = rw z at d
+    pub text-done : i ≡ length X → Drawn s t p q (bytes X)
+    text-done z = rw (z, take_all (length X) X (omega arith)) at d
 
     -- the last bytes
-    module _ (m : ℕ) (z : i + m ≡ n) where
-      last-from : from + i ≡ from + n - m
-      last-from = omega arith
+    module _ (a : ℕ) (z : i ≡ a) (h : a ≤ length X) where
+      abbrev last : List ℕ
+      last = take (length X - a) (drop a X)
 
-      pub text-last : (u : List ℕ) (r : Pen) → Drawn t u q r (bytes (take m (drop (from + n - m) X))) → Drawn s u p r (so_far n)
-      text-last u r g = on m n (sym z) u r (rw last-from g)
+      last_long : length last ≡ length X - a
+      last_long = length-take (length X - a) (drop a X) ∙ omega (arith, length-drop a X)
 
-      pub text-few : (x : ℕ) → digits (8 * m) x ≡ bytes (take m (drop (from + n - m) X)) → (u : List ℕ) (r : Pen) → Drawn t u q r (digits (8 * m) x) → Drawn s u p r (so_far n)
-      text-few x f u r g = text-last u r (drawn-as t u q r (digits (8 * m) x) (bytes (take m (drop (from + n - m) X))) f g)
+      pub last-spare : Spare t q (8 * length last)
+      last-spare = rw last_long (text-spare (length X - a) (omega arith))
+
+      pub text-last : (u : List ℕ) (r : Pen) → Drawn t u q r (bytes last) → Drawn s u p r (bytes X)
+      text-last u r g =
+          let f : drop a X ≡ drop i X = ap (λ (k : ℕ). drop k X) (sym z) in
+          let d : Drawn s u p r (so_far (length X)) = on (length X - a) (length X) (omega arith) u r (rw f at g) in
+          rw (take_all (length X) X (omega arith)) at d
+
+      pub text-few : (m x : ℕ) → m ≡ length X - a → digits (8 * length last) x ≡ bytes last → (u : List ℕ) (r : Pen) → Drawn t u q r (digits (8 * m) x) → Drawn s u p r (bytes X)
+      text-few m x e f u r g = text-last u r (drawn-as t u q r (digits (8 * m) x) (bytes last) (ap (λ (k : ℕ). digits (8 * k) x) (e ∙ sym last_long) ∙ f) g)
 
   -- k times eight, or sixteen
   module _ (t : List ℕ) (q : Pen) (k : ℕ) (e : length t ≡ length s) where
     module _ (d : Drawn s t p q (so_far (8 * k))) where
-      pub text-eight : k < n / 8 → Spare t q 64
+      pub text-eight : k < length X / 8 → Spare t q 64
       text-eight h = text-spare t q (8 * k) e d 8 (omega arith)
 
-      pub text-turn : k < n / 8 → ((j : ℕ) → FitsIn w8 (get_or X j 0)) → (x : ℕ) → x ≡ num (bit_at X) (8 * (from + 8 * k)) 64 → (u : List ℕ) (r : Pen) → Drawn t u q r (digits 64 x)
+      pub text-turn : k < length X / 8 → ((j : ℕ) → FitsIn w8 (get_or X j 0)) → (x : ℕ) → x ≡ num (bit_at X) (8 * (8 * k)) 64 → (u : List ℕ) (r : Pen) → Drawn t u q r (digits 64 x)
           → Drawn s u p r (so_far (8 * (k + 1)))
       text-turn h f x z u r g =
           on t q (8 * k) e d 8 (8 * (k + 1)) (omega arith) u r
-          (drawn-as t u q r (digits 64 x) (bytes (take 8 (drop (from + 8 * k) X))) (rw z (bytes-number X f (from + 8 * k) 8 (omega arith))) g)
+          (drawn-as t u q r (digits 64 x) (bytes (take 8 (drop (8 * k) X))) (rw z (bytes-number X f (8 * k) 8 (omega arith))) g)
 
     module _ (d : Drawn s t p q (so_far (16 * k))) where
-      pub text-sixteen : k < n / 16 → Spare t q 128
+      pub text-sixteen : k < length X / 16 → Spare t q 128
       text-sixteen h = text-spare t q (16 * k) e d 16 (omega arith)
 
-      pub text-part : (u : List ℕ) (r : Pen) → Drawn t u q r (bytes (take 16 (drop (from + 16 * k) X))) → Drawn s u p r (so_far (16 * (k + 1)))
+      pub text-part : (u : List ℕ) (r : Pen) → Drawn t u q r (bytes (take 16 (drop (16 * k) X))) → Drawn s u p r (so_far (16 * (k + 1)))
       text-part u r g = on t q (16 * k) e d 16 (16 * (k + 1)) (omega arith) u r g
 
--- the last bytes as one number
-pub few-cut : (X : List ℕ) (to m x : ℕ) → m ≤ to → to ≤ length X → digits (8 * length (take (to - (to - m)) (drop (to - m) X))) x ≡ bytes (take (to - (to - m)) (drop (to - m) X)) → digits (8 * m) x ≡ bytes (take m (drop (to - m) X))
-few-cut X to m x h k f =
-    let a : to - (to - m) ≡ m = omega arith in
-    let l : length (take m (drop (to - m) X)) ≡ m = length-take m (drop (to - m) X) ∙ omega (arith, length-drop (to - m) X) in
-    let g : digits (8 * length (take m (drop (to - m) X))) x ≡ bytes (take m (drop (to - m) X)) = rw a at f in
-    ap (λ (i : ℕ). digits (8 * i) x) (sym l) ∙ g
-
-pub ruleset rest_ways = (text-start, text-eight, text-turn, text-done, text-spare, text-few)
+pub ruleset rest_ways = (text-start, text-eight, text-turn, text-done)
 
 -- put_sixteen: two words
 module _ (s : List ℕ) (p : Pen) (X : List ℕ) (at : ℕ) (room : Spare s p 128) (inside : at + 16 ≤ length X) where
@@ -273,7 +275,7 @@ module _ (s : List ℕ) (p : Pen) (X : List ℕ) (at : ℕ) (room : Spare s p 12
 
 pub ruleset sixteen_ways = (sixteen-first, sixteen-second, sixteen-done)
 
-pub ruleset text_pen_ways = (text-start, text-sixteen, text-part, text-spare, text-last)
+pub ruleset text_pen_ways = (text-start, text-sixteen, text-part)
 
 -- put_counted: a part of the texts, as far as there are such
 none_left : (n : ℕ) (l : List ℕ) → length l ≤ n → drop n l ≡ []
@@ -315,22 +317,23 @@ module _ (s : List ℕ) (p : Pen) (X : List ℕ) (y n : ℕ) (e : n ≡ y % 4096
   counted-room r = spare-less s p (length (text_bits X y)) c.size r (omega (arith, whole_long))
 
   module _ (t : List ℕ) (q : Pen) (d : Drawn s t p q (digits c.size c.bits)) (from m : ℕ) (g : from ≡ min (y / 4096) (length X)) (h : m ≡ min n (length X - from)) where
-    same-part : take m (drop from X) ≡ part
-    same-part = rw h (ap (λ (k : ℕ). take (min k (length X - from)) (drop from X)) e ∙ cut X (y % 4096) from (y / 4096) g)
+    abbrev given : List ℕ
+    given = take (from + m - from) (drop from X)
+
+    given-is : given ≡ part
+    given-is = let o : from + m - from ≡ m = omega arith in rw (o, h) (ap (λ (k : ℕ). take (min k (length X - from)) (drop from X)) e ∙ cut X (y % 4096) from (y / 4096) g)
 
     pub counted-inside : from + m ≤ length X
     counted-inside = omega arith
 
-    pub counted-spare : Spare s p (length (text_bits X y)) → length t ≡ length s → Spare t q (8 * m)
-    counted-spare r k =
-        let l : length (take m (drop from X)) ≡ m = length-take m (drop from X) ∙ omega (arith, length-drop from X) in
-        spare-on s t p q (digits c.size c.bits) (length (text_bits X y)) (8 * m) d r k (omega (arith, whole_long, length_digits c.size c.bits, ap length same-part))
+    pub counted-spare : Spare s p (length (text_bits X y)) → length t ≡ length s → Spare t q (8 * length given)
+    counted-spare r k = spare-on s t p q (digits c.size c.bits) (length (text_bits X y)) (8 * length given) d r k (omega (arith, whole_long, length_digits c.size c.bits, ap length given-is))
 
-    pub counted-done : (u : List ℕ) (r : Pen) → Drawn t u q r (bytes (take m (drop from X))) → Drawn s u p r (text_bits X y)
+    pub counted-done : (u : List ℕ) (r : Pen) → Drawn t u q r (bytes given) → Drawn s u p r (text_bits X y)
     unfolding text_bits
     counted-done u r b =
-        drawn-as s u p r (digits c.size c.bits ++ bytes (take m (drop from X))) (code5 (y % 4096) ++ bytes part) (rw (f.is, same-part, e))
-        (drawn-both s t u p q r (digits c.size c.bits) (bytes (take m (drop from X))) d b)
+        drawn-as s u p r (digits c.size c.bits ++ bytes given) (code5 (y % 4096) ++ bytes part) (rw (f.is, given-is, e))
+        (drawn-both s t u p q r (digits c.size c.bits) (bytes given) d b)
 
 pub ruleset counted_ways = (counted-short, counted-room, counted-inside, counted-spare, counted-done)
 

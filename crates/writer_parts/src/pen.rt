@@ -94,51 +94,51 @@ fn few(text: &[u8]) -> u64
     x
 }
 
-// n bytes of the texts from a place on, eight at once as long as there are eight. No chunks of a slice: `whole` reads at a place.
+// A text, eight bytes at once as long as there are eight. No chunks of it: `whole` reads at a place.
 #[tactic(auto, using(crate::proofs::PenWays::rest_ways))]
-fn put_rest(payload: &mut [u8], p: Pen, texts: &[u8], from: usize, n: usize) -> Pen
-    requires { (Spare payload.old p (8 * n)) × (from + n ≤ length texts.now) }
-    ensures { Drawn payload.old payload.new p result (bytes (take n (drop from texts.now))) }
+fn put_rest(payload: &mut [u8], p: Pen, text: &[u8]) -> Pen
+    requires { Spare payload.old p (8 * length text.now) }
+    ensures { Drawn payload.old payload.new p result (bytes text.now) }
 {
+    let n = text.len();
     let mut q = p;
     for i in 0..n / 8 {
-        let x = whole(texts, from + 8 * i);
+        let x = whole(text, 8 * i);
         q = put_eight(payload, q, x);
     }
     let left = n % 8;
     if left == 0 {
         return q;
     }
-    let end = from + n;
-    let x = few(&texts[end - left..end]);
+    let x = few(&text[n - left..]);
     put_code(payload, q, (8 * left) as u64, x)
 }
 
-// Sixteen bytes of the texts, by two words. The second is loaded when the first is stored: of two stores in a row the compiler
+// Sixteen bytes of a text, by two words. The second is loaded when the first is stored: of two stores in a row the compiler
 // makes sixteen.
 #[tactic(auto, using(crate::proofs::PenWays::sixteen_ways))]
-fn put_sixteen(payload: &mut [u8], p: Pen, texts: &[u8], at: usize) -> Pen
-    requires { (Spare payload.old p 128) × (at + 16 ≤ length texts.now) }
-    ensures { Drawn payload.old payload.new p result (bytes (take 16 (drop at texts.now))) }
+fn put_sixteen(payload: &mut [u8], p: Pen, text: &[u8], at: usize) -> Pen
+    requires { (Spare payload.old p 128) × (at + 16 ≤ length text.now) }
+    ensures { Drawn payload.old payload.new p result (bytes (take 16 (drop at text.now))) }
 {
-    let x = whole(texts, at);
+    let x = whole(text, at);
     let q = put_eight(payload, p, x);
-    let y = whole(texts, at + 8);
+    let y = whole(text, at + 8);
     put_eight(payload, q, y)
 }
 
-// n bytes of the texts, sixteen at once as long as there are sixteen.
+// A text, sixteen bytes at once as long as there are sixteen.
 #[tactic(auto, using(crate::proofs::PenWays::text_pen_ways))]
-fn put_text(payload: &mut [u8], p: Pen, texts: &[u8], from: usize, n: usize) -> Pen
-    requires { (Spare payload.old p (8 * n)) × (from + n ≤ length texts.now) }
-    ensures { Drawn payload.old payload.new p result (bytes (take n (drop from texts.now))) }
+fn put_text(payload: &mut [u8], p: Pen, text: &[u8]) -> Pen
+    requires { Spare payload.old p (8 * length text.now) }
+    ensures { Drawn payload.old payload.new p result (bytes text.now) }
 {
+    let n = text.len();
     let mut q = p;
     for i in 0..n / 16 {
-        q = put_sixteen(payload, q, texts, from + 16 * i);
+        q = put_sixteen(payload, q, text, 16 * i);
     }
-    let left = n % 16;
-    put_rest(payload, q, texts, from + n - left, left)
+    put_rest(payload, q, &text[n - n % 16..])
 }
 
 // A text's count, then its bytes, as far as there are such.
@@ -152,7 +152,7 @@ fn put_counted(payload: &mut [u8], p: Pen, texts: &[u8], y: u64) -> Pen
     let q = put_code(payload, p, count.size as u64, count.bits);
     let from = ((y / 4096) as usize).min(texts.len());
     let m = (n as usize).min(texts.len() - from);
-    put_text(payload, q, texts, from, m)
+    put_text(payload, q, &texts[from..from + m])
 }
 
 // The days of a date and its milliseconds.
