@@ -8,8 +8,10 @@ use native.Mathlib.Omega.{arith}
 use native.Mathlib.Decide.{ℕ_discrete, dec_lt}
 use mir.Val.{Fits}
 use mir.Syntax.{w8}
-use lib.ListN.{length, get_or, set}
-use lib.Seq.{sets, set-set, set_comm, get_or-set_same, get_or-set_other}
+use lib.ListN.{length, get_or, take, drop, set}
+use borrow.Rule.Slice.PartMut.{put_mid}
+use Rattle.std.proofs.lemmas.Slice.{put_mid-paste}
+use lib.Seq.{sets, sets-eq, take-suc, take_all, set-set, set_comm, get_or-set_same, get_or-set_other}
 use Rattle.numbers.specs.Refusal.{past_end}
 use Rattle.numbers.specs.Kind as kinds
 use Rattle.numbers.specs.Limit.{most_text}
@@ -88,9 +90,6 @@ module _ (s : List ℕ) (k i : ℕ) where
     | no z ↦ get_or-set_other held j m x 0 z ∙ f m (omega arith)
   ]
 
-  pub held_all : (held : List ℕ) (j n : ℕ) → n ≤ j → Held held j → Held held n
-  held_all held j n h f m l = f m (omega arith)
-
   pub far_none : SoFar s k i 0 true
   far_none e = record { each = λ j h l. absurd (omega arith) }
 
@@ -106,11 +105,29 @@ module _ (s : List ℕ) (k i : ℕ) where
   unfolding octets_at
   laid_none T used = refl
 
-  pub laid_more : (held : List ℕ) (h n used : ℕ) (T T₀ : List ℕ) → h < n → Held held n → T ≡ sets T₀ used (octets_at s k i h) → set T (used + h) (get_or held h 0) ≡ sets T₀ used (octets_at s k i (h + 1))
+  -- the first n that are held are n octets
+  held_taken : (held : List ℕ) (n : ℕ) → n ≤ length held → Held held n → take n held ≡ octets_at s k i n
   unfolding octets_at
-  laid_more held h n used T T₀ l f e =
-      let o : octets_at s k (i + h) 1 ≡ octet_at s k (i + h) ∷ [] = refl in
-      rw (e, f h l, octets-both s k i h 1, o) (sets-sets T₀ (octets_at s k i h) (octet_at s k (i + h) ∷ []) used (used + h) (omega (arith, octets-length s k i h)))
+  held_taken held zero h f = refl
+  held_taken held (suc n) h f =
+      let p : take n held ≡ octets_at s k i n = held_taken held n (omega arith) (λ m l. f m (omega arith)) in
+      let x : get_or held n 0 ≡ octet_at s k (i + n) = f n (omega arith) in
+      let b : octets_at s k i (n + 1) ≡ octets_at s k i n ++ octet_at s k (i + n) ∷ [] = octets-both s k i n 1 in
+      let z : n + 1 ≡ suc n = omega arith in
+      take-suc held n 0 (omega arith) ∙ rw (p, x) (sym b ∙ ap (octets_at s k i) z)
+
+  pub laid-held : (held m : List ℕ) (j n used : ℕ) (T : List ℕ) (plain : Bool) → n ≤ j → j ≤ n → n ≤ length held → used + n ≤ length T → Held held j → m ≡ take n held → SoFar s k i j plain
+      → Moves s k i n T used (put_mid used (used + n - used) T m) plain
+  laid-held held m j n used T plain a b h room f e g =
+      let w : j ≡ n = omega arith in
+      let O = octets_at s k i n in
+      let l = octets-length s k i n in
+      record {
+        laid = put_mid-paste used (used + n - used) T m O n (e ∙ held_taken held n h (rw w at f)) (omega arith) (sym l)
+            ∙ ap (λ (x : List ℕ). take used T ++ x ++ drop (used + n) T) (take_all n O (omega arith))
+            ∙ sym (rw l at (sets-eq O T used (omega arith)));
+        printable = rw w at g;
+      }
 
   pub laid-all : (h n used : ℕ) (T T₀ : List ℕ) (plain : Bool) → h ≤ n → n ≤ h → T ≡ sets T₀ used (octets_at s k i h) → SoFar s k i n plain → Moves s k i n T₀ used T plain
   laid-all h n used T T₀ plain a b e f =
@@ -146,8 +163,6 @@ module _ (s : List ℕ) (k i : ℕ) where
         ];
       }
 
-pub ruleset block-ways = (held_all, far-all, laid_more, laid-all)
-
 -- nothing is wrong with printable octets
 module _ (s : List ℕ) (k i : ℕ) where
   printable-fine : (n : ℕ) → Printable s k i (i + n) → text_fault (octets_at s k i n) ≡ 0
@@ -175,7 +190,13 @@ module _ (s : List ℕ) (f : (j : ℕ) → Fits w8 (get_or s j 0)) where
 pub copied-not : (s : List ℕ) (p n used : ℕ) (T : List ℕ) → length T - used < n → Copies s p n T used T false
 copied-not s p n used T h = record { laid = λ l. absurd (omega arith); judged = λ e. refuted e }
 
-pub ruleset copy-ways = (copied, copied-not)
+-- where no text begins there is room for no bytes, and none are laid
+pub copied-past : (s : List ℕ) (p n used : ℕ) (T : List ℕ) → length T < used → Copies s p n T used T false
+unfolding bytes_at
+copied-past s p zero used T h = record { laid = λ l. refl; judged = λ e. refuted e }
+copied-past s p (suc n) used T h = record { laid = λ l. absurd (omega arith); judged = λ e. refuted e }
+
+pub ruleset copy-ways = (copied, copied-not, copied-past)
 
 -- judged: where it is known that nothing is wrong
 pub judged-fine : (x : ℕ) (fine : Bool) → (fine ≡ true → x ≡ 0) → fine ≡ true → answered {T = Unit {0}} (Ok tt) ≡ x

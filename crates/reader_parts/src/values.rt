@@ -31,7 +31,7 @@ fn printable(octet: u8) -> bool
 // Up to 16 octets, from bit k of byte i on, into texts; and whether all are printable. All are held before the first is stored, so that the back end
 // moves and tests 16 at once.
 fn block(payload: &[u8], k: u32, i: usize, n: usize, texts: &mut [u8], used: usize) -> bool
-    requires { (k < 8) × (n ≤ 16) × (Within payload.now k (i + n)) × (n ≤ length texts.old - used) }
+    requires { (k < 8) × (n ≤ 16) × (Within payload.now k (i + n)) × (used + n ≤ length texts.old) }
     ensures { Moves payload.now k i n texts.old used texts.new result }
 {
     let mut held = [0u8; 16];
@@ -41,15 +41,13 @@ fn block(payload: &[u8], k: u32, i: usize, n: usize, texts: &mut [u8], used: usi
         held[j] = x;
         plain &= printable(x);
     }
-    for h in 0..n {
-        texts[used + h] = held[h];
-    }
+    texts[used..used + n].copy_from_slice(&held[..n]);
     plain
 }
 
 // n octets, from bit k of byte i on, into texts; and whether all are printable. The last 16 may be partly those before.
 fn move_octets(payload: &[u8], k: u32, i: usize, n: usize, texts: &mut [u8], used: usize) -> bool
-    requires { (k < 8) × (Within payload.now k (i + n)) × (n ≤ length texts.old - used) }
+    requires { (k < 8) × (Within payload.now k (i + n)) × (used + n ≤ length texts.old) }
     ensures { Moves payload.now k i n texts.old used texts.new result }
 {
     if n < 16 {
@@ -74,8 +72,7 @@ fn copy(payload: &[u8], texts: &mut [u8], from: Bits, n: u32, used: usize) -> bo
     ensures { Copies payload.now from.0 n texts.old used texts.new result }
 {
     let m = n as usize;
-    let room = texts.len().saturating_sub(used);
-    if room < m {
+    if texts.len() < used || texts.len() - used < m {
         return false;
     }
     let p = from.0;

@@ -3,8 +3,7 @@ use mathlib.Core.Path.{refl}
 use native.Mathlib.Omega.{arith}
 use lib.ListN.{length-set}
 use Rattle.std.proofs.lemmas.Bool.{and_parts}
-use Rattle.reader_parts.proofs.TextWays.{held_more, far_none, far-more, laid_none, block-ways}
-use borrow.Author.Rules.{rules}
+use Rattle.reader_parts.proofs.TextWays.{held_more, far_none, far-more, laid-held}
 use Rattle.reader_parts.proofs.values.block.Goals as goal
 
 pub loop-j-init : goal.loop-j-init
@@ -19,11 +18,6 @@ loop-j-preserved c = let l = c.loop-j in
       far-more _ _ _ l.j _ l.plain _ _ l.invariant.3 o c.printable-plain.ensures (and_parts _ _),
     )
 
-pub loop-h-init : goal.loop-h-init
-loop-h-init c = (refl, omega arith, laid_none _ _ _ _ _, search (rules, block-ways), search (rules, block-ways))
-
-pub loop-h-preserved : goal.loop-h-preserved
-loop-h-preserved c = (simp length-set (omega arith), omega arith, search (rules, block-ways), search rules, search rules)
-
 pub returns : goal.returns
-returns c = search (rules, block-ways)
+returns c = let l = c.loop-j in
+    laid-held _ _ _ l.held _ l.j _ _ _ l.plain c.loop-j-test.false l.invariant.1 (omega arith) c.requires.3 l.invariant.2 c.copy_from_slice.ensures.after l.invariant.3

@@ -2,18 +2,9 @@
 use Prim.Native.Nat.{◌≤◌}
 use mathlib.Core.Path.{◌≡◌}
 use lib.ListN.{length}
-use lib.Seq.{sets}
-use Rattle.utf8.specs.Slanted.{octets_at}
 use Rattle.utf8.proofs.SlantedLaws.{SoFar}
 use Rattle.reader_parts.proofs.TextWays.{Held}
 use Rattle.reader_parts.proofs.values.block.Given as goal
 
 abbrev pub invariant-loop-j : goal.invariant-loop-j
 invariant-loop-j l = (length l.held ≡ 16) × (l.j ≤ l.n) × Held l.payload l.k l.i l.held l.j × SoFar l.payload l.k l.i l.j l.plain
-
-abbrev pub invariant-loop-h : goal.invariant-loop-h
-invariant-loop-h l = (length l.texts ≡ length l.initial.texts)
-    × (l.h ≤ l.n)
-    × (l.texts ≡ sets l.initial.texts l.used (octets_at l.payload l.k l.i l.h))
-    × Held l.payload l.k l.i l.held l.n
-    × SoFar l.payload l.k l.i l.n l.plain
