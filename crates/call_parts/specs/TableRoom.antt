@@ -2,13 +2,6 @@
 use Rattle.std.specs.Prelude.{ℕ, ◌/◌, ◌%◌, ◌≤◌, min, ◌≡◌, Bool, false, cond, eqb, leb}
 use Rattle.numbers.specs.Limit.{most_table_words}
 
--- the rungs of room for a table's words below the last, which is most_table_words; a table of form 1 has form1_words at most
-abbrev pub some_words : ℕ
-some_words = 1024
-
-abbrev pub form1_words : ℕ
-form1_words = 8964
-
 -- whether a table can have b bytes
 abbrev pub is_whole : ℕ → Bool
 is_whole b = cond (eqb (b % 4) 0) (leb (b / 4) most_table_words) false

@@ -7,10 +7,9 @@ ghost use Rattle.call_parts.specs.Promises.{Holds, mark_stored, SetByBytes};
 ghost use Rattle.call_parts.specs.TableRoom as room;
 ghost use Rattle.call_parts.specs.TableRoom.{Lends};
 
-use crate::rooms::{FEW_WORDS, FORM_1_WORDS, SOME_WORDS};
+use crate::rooms::with_table_room;
 use crate::tables::{place_in_table, words_lent};
 use buffers::load;
-use numbers::limit::MOST_TABLE_WORDS;
 use numbers::refusal::Fault;
 use table::marks::set_held;
 
@@ -63,37 +62,13 @@ fn set_with_table_room(
     }
 }
 
-// Sets a mark by a table's bytes, in room for N words of it.
-#[inline(never)]
-fn set_in<const N: usize>(
-    t: &mut [u8],
-    n: usize,
-    party: u32,
-    ty: u32,
-    mark: u32,
-) -> Result<(), Fault<usize>>
-    requires lent { Lends n (length t.old) N }
-    requires few { N ≤ most_table_words }
-    ensures { SetByBytes t.old party ty mark result t.new }
-{
-    let mut words = [0u32; N];
-    set_with_table_room(t, n, &mut words, party, ty, mark)
-}
-
-// Sets a mark by a table's bytes, in room for few words of it, or on the least rung that has room.
+// Sets a mark by a table's bytes, in room for the words of it that are looked at.
 pub fn set_bytes(t: &mut [u8], party: u32, ty: u32, mark: u32) -> Result<(), Fault<usize>>
     ensures { SetByBytes t.old party ty mark result t.new }
 {
     let n = words_lent(t.len());
-    if n <= FEW_WORDS {
-        let mut few = [0u32; FEW_WORDS];
-        return set_with_table_room(t, n, &mut few, party, ty, mark);
-    }
-    if n <= SOME_WORDS {
-        return set_in::<SOME_WORDS>(t, n, party, ty, mark);
-    }
-    if n <= FORM_1_WORDS {
-        return set_in::<FORM_1_WORDS>(t, n, party, ty, mark);
-    }
-    set_in::<MOST_TABLE_WORDS>(t, n, party, ty, mark)
+    with_table_room(
+        n,
+        &mut |room| set_with_table_room(t, n, room, party, ty, mark),
+    )
 }

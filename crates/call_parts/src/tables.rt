@@ -8,7 +8,7 @@ ghost use Rattle.call_parts.specs.Promises.{Told};
 ghost use Rattle.call_parts.specs.TableRoom as room;
 
 use crate::area::tell_place;
-use crate::rooms::{FEW_WORDS, FORM_1_WORDS, SOME_WORDS};
+use crate::rooms::with_table_room;
 use buffers::load;
 use numbers::limit::MOST_TABLE_WORDS;
 use numbers::refusal::{ACCEPTED, Refusal};
@@ -49,33 +49,12 @@ fn check_with_table_room(t: &[u8], n: usize, words: &mut [u32]) -> Result<(), Fl
     }
 }
 
-// Checks a table's bytes, in room for N words of it.
-#[inline(never)]
-fn check_in<const N: usize>(t: &[u8], n: usize) -> Result<(), Flaw>
-    requires lent { room.Lends n (length t.now) N }
-    requires few { N ≤ most_table_words }
-    ensures { verdict_is result ≡ table_verdict t.now }
-{
-    let mut words = [0u32; N];
-    check_with_table_room(t, n, &mut words)
-}
-
-// Checks a table's bytes, in room for few words of it, or on the least rung that has room.
+// Checks a table's bytes, in room for the words of it that are looked at.
 pub fn check_bytes(t: &[u8]) -> Result<(), Flaw>
     ensures { verdict_is result ≡ table_verdict t.now }
 {
     let n = words_lent(t.len());
-    if n <= FEW_WORDS {
-        let mut few = [0u32; FEW_WORDS];
-        return check_with_table_room(t, n, &mut few);
-    }
-    if n <= SOME_WORDS {
-        return check_in::<SOME_WORDS>(t, n);
-    }
-    if n <= FORM_1_WORDS {
-        return check_in::<FORM_1_WORDS>(t, n);
-    }
-    check_in::<MOST_TABLE_WORDS>(t, n)
+    with_table_room(n, &mut |room| check_with_table_room(t, n, room))
 }
 
 // Judges a table's bytes, and tells the verdict.

@@ -15,11 +15,10 @@ use buffers::{clear, load, store};
 use call_parts::area::tell;
 use call_parts::asked::{Asked, In, Out, Room, Words};
 use call_parts::rooms::{
-    FEW_EVENT_WORDS, FEW_WORDS, FORM_1_WORDS, LEAST_EVENT_WORDS, LEAST_PAYLOAD, LEAST_WORDS,
-    MANY_EVENT_WORDS, SMALL_PAYLOAD, SOME_EVENT_WORDS, SOME_WORDS,
+    FEW_EVENT_WORDS, LEAST_EVENT_WORDS, LEAST_PAYLOAD, SMALL_PAYLOAD, with_event_room,
+    with_table_room,
 };
 use call_parts::tables::{is_whole, judge_and_tell};
-use numbers::limit::{MOST_EVENT_WORDS, MOST_TABLE_WORDS};
 use numbers::refusal::Refusal;
 use numbers::{limit, refusal};
 use reader::{Reading, Refused, read};
@@ -120,37 +119,16 @@ fn read_in_room(
     try_room(words, by, payload, room, events, texts, area)
 }
 
-// Reads with room for N words of events.
-#[inline(never)]
-fn read_events_in<const N: usize>(
-    words: Words,
-    by: Asked,
-    payload: In,
-    events: Out,
-    texts: Out,
-    area: Out,
-) -> u32
-    requires lent { Slots events area N }
-    requires few { N ≤ most_event_words }
-    ensures { ReadByWords words by payload events texts area result }
-{
-    let mut room = [0u32; N];
-    read_in_room(words, by, payload, &mut room, events, texts, area)
-}
-
-// Reads with room for some events or more, on the least rung that has room.
+// Reads with room for every event that the host lends room for.
 fn read_events(words: Words, by: Asked, payload: In, events: Out, texts: Out, area: Out) -> u32
     requires { length area.old ≡ limit.area }
     ensures { ReadByWords words by payload events texts area result }
 {
     let m = slot_words(events.len());
-    if m <= SOME_EVENT_WORDS {
-        return read_events_in::<SOME_EVENT_WORDS>(words, by, payload, events, texts, area);
-    }
-    if m <= MANY_EVENT_WORDS {
-        return read_events_in::<MANY_EVENT_WORDS>(words, by, payload, events, texts, area);
-    }
-    read_events_in::<MOST_EVENT_WORDS>(words, by, payload, events, texts, area)
+    with_event_room(
+        m,
+        &mut |room| read_in_room(words, by, payload, room, events, texts, area),
+    )
 }
 
 // Reads with room for few events; and again, with room for all, where it does not suffice.
@@ -194,11 +172,7 @@ fn read_with_event_room(
     if payload.len() <= LEAST_PAYLOAD {
         return read_least_first(words, by, payload, events, texts, area);
     }
-    if slot_words(events.len()) <= FEW_EVENT_WORDS {
-        let mut few = [0u32; FEW_EVENT_WORDS];
-        return read_in_room(words, by, payload, &mut few, events, texts, area);
-    }
-    if payload.len() <= SMALL_PAYLOAD {
+    if payload.len() <= SMALL_PAYLOAD && FEW_EVENT_WORDS < slot_words(events.len()) {
         return read_few_first(words, by, payload, events, texts, area);
     }
     read_events(words, by, payload, events, texts, area)
@@ -222,45 +196,15 @@ fn read_with_table_room(
     read_with_event_room(&room[..n], by, payload, events, texts, area)
 }
 
-// Reads by a table's bytes, in room for N words of it.
-#[inline(never)]
-fn read_in<const N: usize>(
-    table: In,
-    by: Asked,
-    payload: In,
-    events: Out,
-    texts: Out,
-    area: Out,
-) -> u32
-    requires lent { Fits 4 table area N }
-    requires few { N ≤ most_table_words }
-    ensures { ReadByBytes table by payload events texts area result }
-{
-    let mut room = [0u32; N];
-    read_with_table_room(table, &mut room, by, payload, events, texts, area)
-}
-
-// Reads by a table's bytes, in room for few words of it, or on the least rung that has room.
+// Reads by a table's bytes, in room for all its words.
 fn read_whole(table: In, by: Asked, payload: In, events: Out, texts: Out, area: Out) -> u32
     requires { Fits 4 table area most_table_words }
     ensures { ReadByBytes table by payload events texts area result }
 {
-    let n = table.len() / 4;
-    if n <= LEAST_WORDS {
-        let mut least = [0u32; LEAST_WORDS];
-        return read_with_table_room(table, &mut least, by, payload, events, texts, area);
-    }
-    if n <= FEW_WORDS {
-        let mut few = [0u32; FEW_WORDS];
-        return read_with_table_room(table, &mut few, by, payload, events, texts, area);
-    }
-    if n <= SOME_WORDS {
-        return read_in::<SOME_WORDS>(table, by, payload, events, texts, area);
-    }
-    if n <= FORM_1_WORDS {
-        return read_in::<FORM_1_WORDS>(table, by, payload, events, texts, area);
-    }
-    read_in::<MOST_TABLE_WORDS>(table, by, payload, events, texts, area)
+    with_table_room(
+        table.len() / 4,
+        &mut |room| read_with_table_room(table, room, by, payload, events, texts, area),
+    )
 }
 
 // Reads by a table's bytes, and refuses those of which there are too many, or no whole words.

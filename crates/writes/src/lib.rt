@@ -11,12 +11,8 @@ ghost use Rattle.writes.specs.Promises.{Unlisted, WrittenByBytes, WrittenByWords
 use buffers::{clear, load};
 use call_parts::area::{tell, tell_place};
 use call_parts::asked::{In, Order, Out, Room, Words};
-use call_parts::rooms::{
-    FEW_EVENT_WORDS, FEW_WORDS, FORM_1_WORDS, LEAST_EVENT_WORDS, LEAST_WORDS, MANY_EVENT_WORDS,
-    SOME_EVENT_WORDS, SOME_WORDS,
-};
+use call_parts::rooms::{with_event_room, with_table_room};
 use call_parts::tables::{is_whole, judge_and_tell};
-use numbers::limit::{MOST_EVENT_WORDS, MOST_TABLE_WORDS};
 use numbers::refusal::{Fault, Refusal};
 use numbers::{limit, refusal};
 use writer::{Written, write};
@@ -84,25 +80,7 @@ fn write_in_room(
     tell_written(area, a)
 }
 
-// Writes a list's bytes, in room for N words of events.
-#[inline(never)]
-fn write_events_in<const N: usize>(
-    words: Words,
-    by: Order,
-    events: In,
-    texts: In,
-    payload: Out,
-    area: Out,
-) -> u32
-    requires lent { Fits limit.event events area N }
-    requires few { N ≤ most_event_words }
-    ensures { WrittenByWords words by events texts payload area result }
-{
-    let mut room = [0u32; N];
-    write_in_room(words, by, events, &mut room, texts, payload, area)
-}
-
-// Writes a list's bytes by a table's words, in room for few events, or on the least rung that has room.
+// Writes a list's bytes by a table's words, in room for all its events.
 fn write_with_event_room(
     words: Words,
     by: Order,
@@ -123,22 +101,10 @@ fn write_with_event_room(
     if limit::MOST_EVENTS < n {
         return refuse_unlisted(n, words, by, texts, payload, area);
     }
-    let k = size / 4;
-    if k <= LEAST_EVENT_WORDS {
-        let mut least = [0u32; LEAST_EVENT_WORDS];
-        return write_in_room(words, by, events, &mut least, texts, payload, area);
-    }
-    if k <= FEW_EVENT_WORDS {
-        let mut few = [0u32; FEW_EVENT_WORDS];
-        return write_in_room(words, by, events, &mut few, texts, payload, area);
-    }
-    if k <= SOME_EVENT_WORDS {
-        return write_events_in::<SOME_EVENT_WORDS>(words, by, events, texts, payload, area);
-    }
-    if k <= MANY_EVENT_WORDS {
-        return write_events_in::<MANY_EVENT_WORDS>(words, by, events, texts, payload, area);
-    }
-    write_events_in::<MOST_EVENT_WORDS>(words, by, events, texts, payload, area)
+    with_event_room(
+        size / 4,
+        &mut |room| write_in_room(words, by, events, room, texts, payload, area),
+    )
 }
 
 // Writes by a table's bytes, in room lent for its words.
@@ -159,45 +125,15 @@ fn write_with_table_room(
     write_with_event_room(&room[..n], by, events, texts, payload, area)
 }
 
-// Writes by a table's bytes, in room for N words of it.
-#[inline(never)]
-fn write_in<const N: usize>(
-    table: In,
-    by: Order,
-    events: In,
-    texts: In,
-    payload: Out,
-    area: Out,
-) -> u32
-    requires lent { Fits 4 table area N }
-    requires few { N ≤ most_table_words }
-    ensures { WrittenByBytes table by events texts payload area result }
-{
-    let mut room = [0u32; N];
-    write_with_table_room(table, &mut room, by, events, texts, payload, area)
-}
-
-// Writes by a table's bytes, in room for few words of it, or on the least rung that has room.
+// Writes by a table's bytes, in room for all its words.
 fn write_whole(table: In, by: Order, events: In, texts: In, payload: Out, area: Out) -> u32
     requires { Fits 4 table area most_table_words }
     ensures { WrittenByBytes table by events texts payload area result }
 {
-    let n = table.len() / 4;
-    if n <= LEAST_WORDS {
-        let mut least = [0u32; LEAST_WORDS];
-        return write_with_table_room(table, &mut least, by, events, texts, payload, area);
-    }
-    if n <= FEW_WORDS {
-        let mut few = [0u32; FEW_WORDS];
-        return write_with_table_room(table, &mut few, by, events, texts, payload, area);
-    }
-    if n <= SOME_WORDS {
-        return write_in::<SOME_WORDS>(table, by, events, texts, payload, area);
-    }
-    if n <= FORM_1_WORDS {
-        return write_in::<FORM_1_WORDS>(table, by, events, texts, payload, area);
-    }
-    write_in::<MOST_TABLE_WORDS>(table, by, events, texts, payload, area)
+    with_table_room(
+        table.len() / 4,
+        &mut |room| write_with_table_room(table, room, by, events, texts, payload, area),
+    )
 }
 
 // Writes by a table's bytes, and refuses those of which there are too many, or no whole words.

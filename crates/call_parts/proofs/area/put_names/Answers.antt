@@ -1,5 +1,5 @@
 -- `put_names`: the names passed stand as bytes, over zeros.
-use mathlib.Core.Path.{◌≡◌, refl, sym, ◌∙◌}
+use mathlib.Core.Path.{◌≡◌, refl}
 use native.Mathlib.Omega.{arith}
 use lib.ListN.{length}
 use Rattle.call_parts.proofs.Names.{names-none, names_more, names-all}
