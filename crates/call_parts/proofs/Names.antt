@@ -1,10 +1,10 @@
 -- The names of an area: those of the path, then zeros up to most_names.
 use Prim.Native.Nat.{ℕ, zero, suc, ◌+◌, ◌-◌, ◌*◌, ◌≤◌, ◌<◌}
 use mathlib.Core.Path.{◌≡◌, refl, sym, ap, ◌∙◌}
-use mathlib.Core.List.{List, [], ◌∷◌, ◌++◌, append-nil}
+use mathlib.Core.List.{List, [], ◌∷◌, ◌++◌}
 use native.Mathlib.Omega.{arith}
-use lib.ListN.{length, get_or, take, drop, replicate, length-append, length-take, length-drop, length-replicate, get_or-replicate, drop_of_length-le, get_or-eq_default, get_or-append}
-use lib.Seq.{sets, get_or-append-add, get_or-take, take_at, length-take-le}
+use lib.ListN.{length, get_or, take, drop, replicate, length-append, length-drop, length-replicate, get_or-replicate, get_or-eq_default, get_or-append}
+use lib.Seq.{sets, get_or-append-add, take_at}
 use borrow.Rule.Slice.PartMut.{put_mid}
 use Rattle.numbers.specs.Limit.{most_names}
 use Rattle.numbers.specs.Limit as limit
@@ -62,19 +62,17 @@ module _ (names zeros : List ℕ) (small : length names ≤ most_names) (clear :
       ∙ sym (spelled-append two names (replicate (most_names - length names) 0))
 
 -- the six words stored, then the names behind them
-module _ (place mode events text bits count x : ℕ) (names area area' part : List ℕ) (sized : length area ≡ limit.area) (e : x ≡ place_word place)
-    (given : count ≤ length names)
-    (w : area' ≡ bytes_of (x ∷ mode ∷ events ∷ text ∷ bits ∷ count ∷ []) ++ drop names_at area) (p : part ≡ names_of (filled most_names (take count names))) where
+module _ (place mode events text bits x : ℕ) (names area area' part : List ℕ) (sized : length area ≡ limit.area) (e : x ≡ place_word place)
+    (w : area' ≡ bytes_of (x ∷ mode ∷ events ∷ text ∷ bits ∷ length names ∷ []) ++ drop names_at area) (p : part ≡ names_of (filled most_names names)) where
   abbrev head : List ℕ
-  head = bytes_of (x ∷ mode ∷ events ∷ text ∷ bits ∷ count ∷ [])
+  head = bytes_of (x ∷ mode ∷ events ∷ text ∷ bits ∷ length names ∷ [])
 
-  pub area-told : put_mid names_at (limit.area - names_at) area' part ≡ area_of (told place mode events text bits (take count names))
+  pub area-told : put_mid names_at (limit.area - names_at) area' part ≡ area_of (told place mode events text bits names)
   unfolding area_of
   area-told =
-      let n : length area' ≡ limit.area = ap length w ∙ length-append head (drop names_at area) ∙ omega (arith, bytes-length (x ∷ mode ∷ events ∷ text ∷ bits ∷ count ∷ []), length-drop names_at area) in
-      let c : count ≡ length (take count names) = sym (length-take-le count names given) in
+      let counted : length head ≡ names_at = bytes-length (x ∷ mode ∷ events ∷ text ∷ bits ∷ length names ∷ []) in
+      let n : length area' ≡ limit.area = ap length w ∙ length-append head (drop names_at area) ∙ omega (arith, counted, length-drop names_at area) in
       ap (λ (j : ℕ). put_mid names_at (j - names_at) area' part) (sym n) ∙ tail-back names_at area' part (omega arith) ∙ ap (λ (y : List ℕ). take names_at y ++ part) w
-      ∙ ap (λ (y : List ℕ). y ++ part) (take_at head (drop names_at area) names_at (bytes-length (x ∷ mode ∷ events ∷ text ∷ bits ∷ count ∷ [])))
+      ∙ ap (λ (y : List ℕ). y ++ part) (take_at head (drop names_at area) names_at counted)
       ∙ ap (λ (y : List ℕ). head ++ y) p
-      ∙ ap (λ (y : ℕ). bytes_of (y ∷ mode ∷ events ∷ text ∷ bits ∷ count ∷ []) ++ names_of (filled most_names (take count names))) e
-      ∙ ap (λ (y : ℕ). bytes_of (place_word place ∷ mode ∷ events ∷ text ∷ bits ∷ y ∷ []) ++ names_of (filled most_names (take count names))) c
+      ∙ ap (λ (y : ℕ). bytes_of (y ∷ mode ∷ events ∷ text ∷ bits ∷ length names ∷ []) ++ names_of (filled most_names names)) e

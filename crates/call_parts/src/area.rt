@@ -1,5 +1,5 @@
 // The area in which a host finds an answer.
-ghost use Rattle.std.specs.Prelude.{◌≡◌, [], ◌*◌, ◌≤◌, length, take};
+ghost use Rattle.std.specs.Prelude.{◌≡◌, [], ◌*◌, ◌≤◌, length};
 ghost use Rattle.numbers.specs.Limit as limit;
 ghost use Rattle.numbers.specs.Limit.{most_names};
 ghost use Rattle.model.specs.Whole.{filled};
@@ -40,17 +40,21 @@ pub fn tell(
     text: u32,
     bits: u32,
     names: &[u16],
-    count: usize,
 )
     requires told { length area.old ≡ limit.area }
-    requires most { count ≤ most_names }
-    requires given { count ≤ length names.now }
-    ensures { area.new
-        ≡ meaning.area_of (meaning.told place mode events text bits (take count names.now)) }
+    requires most { length names.now ≤ most_names }
+    ensures { area.new ≡ meaning.area_of (meaning.told place mode events text bits names.now) }
 {
-    let head = [place_word(place), mode, events, text, bits, count as u32];
+    let head = [
+        place_word(place),
+        mode,
+        events,
+        text,
+        bits,
+        names.len() as u32,
+    ];
     store(&head, area);
-    put_names(&mut area[HEAD..limit::AREA], &names[..count]);
+    put_names(&mut area[HEAD..limit::AREA], names);
 }
 
 // The area of an answer that is a place alone.
@@ -58,5 +62,5 @@ pub fn tell_place(area: &mut [u8], place: usize)
     requires { length area.old ≡ limit.area }
     ensures { area.new ≡ meaning.area_of (meaning.told place 0 0 0 0 []) }
 {
-    tell(area, place, 0, 0, 0, 0, &[], 0);
+    tell(area, place, 0, 0, 0, 0, &[]);
 }

@@ -43,12 +43,11 @@ fn tell_answer(area: &mut [u8], a: Result<Reading, Refused>) -> u32
 {
     match a {
         Ok(r) => {
-            tell(area, 0, r.mode, r.events, r.text.0, r.bits.0, &[], 0);
+            tell(area, 0, r.mode, r.events, r.text.0, r.bits.0, &[]);
             refusal::ACCEPTED
         }
         Err(r) => {
-            let path = r.path;
-            tell(area, r.fault.at, 0, 0, 0, 0, &path.names, path.count);
+            tell(area, r.fault.at, 0, 0, 0, 0, &r.path.names[..r.path.count]);
             r.fault.why.number()
         }
     }

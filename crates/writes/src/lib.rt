@@ -24,7 +24,7 @@ fn tell_written(area: &mut [u8], a: Result<Written, Fault<usize>>) -> u32
 {
     match a {
         Ok(w) => {
-            tell(area, 0, w.mode, w.events, w.text.0, w.bits.0, &[], 0);
+            tell(area, 0, w.mode, w.events, w.text.0, w.bits.0, &[]);
             refusal::ACCEPTED
         }
         Err(f) => {
