@@ -13,9 +13,9 @@ use numbers::limit::{MOST_EVENT_WORDS, MOST_TABLE_WORDS};
 // room is zeroed without a call.
 const LEAST_WORDS: usize = 64;
 
-pub const FEW_WORDS: usize = 128;
+const FEW_WORDS: usize = 128;
 
-pub const SOME_WORDS: usize = 1024;
+const SOME_WORDS: usize = 1024;
 
 const FORM_1_WORDS: usize = 8964;
 

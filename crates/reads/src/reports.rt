@@ -8,7 +8,7 @@ ghost use Rattle.reads.specs.Reports.{AddedBytes, ReadInWords};
 
 use buffers::load;
 use call_parts::asked::{Asked, In, Out, Room};
-use call_parts::rooms::{FEW_WORDS, SOME_WORDS};
+use call_parts::rooms::with_table_room;
 use call_parts::tables::words_lent;
 use numbers::{limit, refusal};
 use reader::{Reading, Refused, read};
@@ -31,7 +31,7 @@ fn read_in_room(
     read(&room[..n], by.party, by.name, by.ty, payload, list, texts)
 }
 
-// The same in room for few words of the table, for some, for all.
+// The same in room for the words of the table that are looked at.
 fn read_words(
     table: In,
     n: usize,
@@ -43,16 +43,10 @@ fn read_words(
     requires { Lends n (length table.now) most_table_words }
     ensures { ReadInWords table n by payload list texts result }
 {
-    if n <= FEW_WORDS {
-        let mut few = [0u32; FEW_WORDS];
-        return read_in_room(table, n, &mut few, by, payload, list, texts);
-    }
-    if n <= SOME_WORDS {
-        let mut some = [0u32; SOME_WORDS];
-        return read_in_room(table, n, &mut some, by, payload, list, texts);
-    }
-    let mut all = [0u32; limit::MOST_TABLE_WORDS];
-    read_in_room(table, n, &mut all, by, payload, list, texts)
+    with_table_room(
+        n,
+        &mut |room| read_in_room(table, n, room, by, payload, list, texts),
+    )
 }
 
 // What a reading adds: its number, the bits used, how many events.

@@ -68,7 +68,9 @@ fn add_refused(report: &mut Report, answer: u32)
 }
 
 // What the reading of a payload of so many bytes adds: its answer, and of an accepted one the bits used and the events.
-// A report that has stopped stays as it is.
+// A report that has stopped stays as it is. Never inlined, so that the rooms in which it counts do not stand in the frame
+// from which a payload is read before.
+#[inline(never)]
 pub fn add(report: &mut [u8], answer: u32, bytes: u64, bits: u64, words: &[u32], count: usize)
     requires size { length report.old ≡ report_bytes }
     requires whole { 4 * count ≤ length words.now }
