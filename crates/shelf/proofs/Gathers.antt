@@ -13,7 +13,7 @@ use Rattle.shelf.specs.Stream.{byte_at}
 use Rattle.shelf.specs.Block.{bytes_from}
 use Rattle.shelf.specs.Judge.{place_of, byte_of, blocks, number_at, end_at}
 use Rattle.shelf.specs.Salvage.{Turn, Known, lost, from, Judged, Stretch, Entry, dropped_in, judge, onward, stretch, stretches_by, stretches, kept_of, count_of, good_entry, bad_entry, good_entries, entries_of}
-use Rattle.shelf.specs.Rescue.{known_of, judged_of, turn_at, laid, Listing, told, listing, Gathered, held, entries_in, good_in, gather_one, gathered, nothing, to_come, left_over, Keeps, Few, Within, Stands}
+use Rattle.shelf.specs.Rescue.{known_of, judged_of, turn_at, laid, Listing, told, listing, Gathered, held, entries_in, good_in, gather_one, gathered, nothing, to_come, left_over, Keeps, Within, Stands}
 use Rattle.shelf.proofs.Sides.{less}
 use Rattle.shelf.proofs.Bytes.{bytes-long, byte-of}
 use Rattle.shelf.proofs.Takes.{lost-ready, is-good, good-ready, good-most}
@@ -40,18 +40,19 @@ abbrev put-together : (records stream : ℕ) → List ℕ → Listing → Gather
 put-together records stream fresh l = record { records = records; stream = stream; fresh = fresh; listing = l }
 
 module _ (f : List ℕ) (first last reason : ℕ) (known : Known) (t : Tally) (fresh list : List ℕ) {kept : Kept} (k : Keeps f first last known kept) where
-  pub ended : {good all : Listed} {fresh' list₁ list₂ : List ℕ} → fresh' ≡ laid fresh t.stream (byte_of f) kept.start (kept.stop - kept.start)
+  pub ended : {good all : Listed} {fresh' list₁ list₂ list' : List ℕ} → list' ≡ list₂ → fresh' ≡ laid fresh t.stream (byte_of f) kept.start (kept.stop - kept.start)
       → told good list₁ ≡ listing (told t.listed list) (good_in f first last kept.start kept.stop) → told all list₂ ≡ listing (told good list₁) (bad_entry last reason)
-      → held (record { records = t.records + kept.count; stream = t.stream + (kept.stop - kept.start); listed = all }) fresh' list₂
+      → held (record { records = t.records + kept.count; stream = t.stream + (kept.stop - kept.start); listed = all }) fresh' list'
       ≡ gather_one f (held t fresh list) (stretch f first last known reason)
   unfolding gather_one entries_in good_in
-  ended {good} {all} {fresh'} {list₁} {list₂} e g h =
+  ended {good} {all} {fresh'} {list₁} {list₂} {list'} same e g h =
       let S = stretch f first last known 0 in
       let T : Stretch = record { first = first; last = last; start = S.start; stop = S.stop; count = S.count; reason = reason } in
       let X = told t.listed list in
       let B = bad_entry last reason in
       let E = good_entries (last - first) f T first in
-      ap (λ (x : List ℕ). put-together (t.records + kept.count) (t.stream + (kept.stop - kept.start)) x (told all list₂)) e
+      ap (λ (x : List ℕ). put-together (t.records + kept.count) (t.stream + (kept.stop - kept.start)) fresh' (told all x)) same
+      ∙ ap (λ (x : List ℕ). put-together (t.records + kept.count) (t.stream + (kept.stop - kept.start)) x (told all list₂)) e
       ∙ ap (put-together (t.records + kept.count) (t.stream + (kept.stop - kept.start)) (laid fresh t.stream (byte_of f) kept.start (kept.stop - kept.start)))
       (h ∙ ap (λ (x : Listing). listing x B) g)
       ∙ ap
@@ -66,17 +67,6 @@ module _ (f : List ℕ) (first last reason : ℕ) (known : Known) (t : Tally) (f
       ∙ ap (put-together (t.records + S.count) (t.stream + (S.stop - S.start)) (laid fresh t.stream (byte_of f) S.start (S.stop - S.start)))
       (sym (listing-append X E B))
       ∙ sym (ap (gather_one f (held t fresh list)) (stretch-is f first last reason known))
-
-  pub ended-within : {all : Listed} → first ≤ last → Within first t → Few (last + 1) all
-      → Within (last + 1) (record { records = t.records + kept.count; stream = t.stream + (kept.stop - kept.start); listed = all })
-  ended-within {all} h w q =
-      let a = k.after in
-      let b = k.on in
-      let c = k.most in
-      let d = k.fewer in
-      let x = w.records in
-      let y = w.stream in
-      record { records = omega arith; stream = omega arith; listed = q }
 
 -- ONE BLOCK MORE
 module _ (f : List ℕ) (first i : ℕ) (known : Known) (h : i < blocks f) (j : Result (Option Trail) Refusal) (e : judged_of j ≡ judge f i (turn_at f first i) known) where

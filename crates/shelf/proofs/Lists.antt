@@ -18,7 +18,7 @@ abbrev entry : (block reason bytes : ℕ) → Entry
 entry block reason bytes = record { block = block; reason = reason; bytes = bytes }
 
 module _ (list : List ℕ) (entries block reason bytes : ℕ) where
-  pub entered-put : {w : ℕ} {l₁ l₂ l₃ : List ℕ} → entries < length list / 12 → w ≡ min block 4294967295 → l₁ ≡ sets list (12 * entries) (four w) → l₂ ≡ sets l₁ (12 * entries + 4) (four reason)
+  entered-put : {w : ℕ} {l₁ l₂ l₃ : List ℕ} → entries < length list / 12 → w ≡ min block 4294967295 → l₁ ≡ sets list (12 * entries) (four w) → l₂ ≡ sets l₁ (12 * entries + 4) (four reason)
       → l₃ ≡ sets l₂ (12 * entries + 8) (four bytes) → l₃ ≡ entered list entries (entry block reason bytes)
   unfolding entered entry_words spelled
   entered-put {w} {l₁} {l₂} {l₃} h e e₁ e₂ e₃ =
@@ -31,6 +31,15 @@ module _ (list : List ℕ) (entries block reason bytes : ℕ) where
       ∙ sym (sets-append list at (four w) (four reason ++ four bytes))
       ∙ ap (λ (x : ℕ). sets list at (four x ++ (four reason ++ four bytes))) e
       ∙ rw (lt-ltb entries (length list / 12) h)
+
+-- and counted
+pub entered-counted : (x : Listing) (block reason bytes : ℕ) {w : ℕ} {l₁ l₂ l₃ : List ℕ} → x.entries < length x.list / 12 → w ≡ min block 4294967295 → l₁ ≡ sets x.list (12 * x.entries) (four w)
+    → l₂ ≡ sets l₁ (12 * x.entries + 4) (four reason) → l₃ ≡ sets l₂ (12 * x.entries + 8) (four bytes)
+    → record { entries = x.entries + 1; dropped = x.dropped + bytes; list = l₃ } ≡ listing x (entry block reason bytes ∷ [])
+unfolding listing
+entered-counted x block reason bytes h e e₁ e₂ e₃ =
+    let counted : List ℕ → Listing = λ l. record { entries = x.entries + 1; dropped = x.dropped + bytes; list = l } in
+    ap counted (entered-put x.list x.entries block reason bytes h e e₁ e₂ e₃)
 
 -- a good block
 dropped-most : (lo hi start stop : ℕ) → lo ≤ hi → start ≤ stop → dropped_in lo hi start stop ≤ hi - lo

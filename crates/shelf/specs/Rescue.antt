@@ -11,6 +11,7 @@ use Rattle.shelf.specs.declared.answers.Kept.{Kept}
 use Rattle.shelf.specs.declared.answers.Listed.{Listed}
 use Rattle.shelf.specs.declared.answers.Tally.{Tally}
 use Rattle.shelf.specs.declared.answers.Stand.{Stand}
+use Rattle.shelf.specs.declared.rescue.DropList.{DropList}
 use Rattle.shelf.specs.Answers.{Rescued}
 use Rattle.shelf.specs.Judge.{place_of, byte_of, blocks, number_at, used_at}
 use Rattle.shelf.specs.Shelf.{filled}
@@ -53,6 +54,9 @@ pub record Listing : Type 0 where
 
 abbrev pub told : Listed → List ℕ → Listing
 told l list = record { entries = l.entries; dropped = l.dropped; list = list }
+
+abbrev pub told_by : DropList → Listing
+told_by d = told d.listed d.list.now
 
 unfoldable pub entered : List ℕ → (entries : ℕ) → Entry → List ℕ
 entered list entries e = cond (nat_lt entries (length list / dropped)) (sets list (dropped * entries) (bytes_of (entry_words (e ∷ [])))) list

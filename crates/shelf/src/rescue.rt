@@ -1,11 +1,11 @@
 // Salvaging a damaged file: its blocks judged one by one, what is kept laid into the new file, what is dropped listed.
-ghost use Rattle.std.specs.Prelude.{◌≡◌, ◌+◌, ◌-◌, ◌*◌, ◌/◌, ◌<◌, ◌≤◌, min, slice_set};
+ghost use Rattle.std.specs.Prelude.{◌≡◌, [], ◌∷◌, ◌+◌, ◌-◌, ◌*◌, ◌/◌, ◌<◌, ◌≤◌, min, slice_set};
 ghost use Rattle.numbers.specs.Limit.{block_bytes, block_data, most_word};
 ghost use Rattle.shelf.specs.Answers.{stepped_of, reason_of};
 ghost use Rattle.shelf.specs.Judge.{place_of, byte_of, blocks, used_at, end_at};
 ghost use Rattle.shelf.specs.Salvage as meaning;
 ghost use Rattle.shelf.specs.Salvage.{dropped_in, good_entry, bad_entry, stretch, stretches};
-ghost use Rattle.shelf.specs.Rescue.{known_of, judged_of, turn_at, kept_from, place_after, laid, told, entered, listing, held, gather_one, gathered, nothing, to_come, left_over, good_in, many_blocks, Goods, Next, Ready, Keeps, Few, Within, Stands};
+ghost use Rattle.shelf.specs.Rescue.{known_of, judged_of, turn_at, kept_from, place_after, laid, told_by, listing, held, gather_one, gathered, nothing, to_come, left_over, good_in, many_blocks, Goods, Next, Ready, Keeps, Few, Within, Stands};
 
 use crate::answers::{Judged, Kept, Known, Listed, Reached, Stand, Stepped, Tally, Trail};
 use crate::judge::{File, first_at, in_step, number_at, place_of, reason, used_at, walked};
@@ -188,24 +188,6 @@ fn lay(f: &[u8], start: usize, k: usize, fresh: &mut [u8], at: usize)
     }
 }
 
-// An entry put behind the others, where the list has room for it.
-#[tactic(auto, unfolding(crate::specs::Rescue::entered))]
-fn enter(list: &mut [u8], entries: usize, block: usize, reason: Option<Refusal>, bytes: u32)
-    ensures { list.new
-        ≡ entered list.old entries (record { block = block; reason = reason_of reason; bytes = bytes }) }
-{
-    let number = match reason {
-        Some(why) => why.number(),
-        None => refusal::ACCEPTED,
-    };
-    if entries < list.len() / limit::DROPPED {
-        let at = limit::DROPPED * entries;
-        put_word(list, at, place_word(block));
-        put_word(list, at + 4, number);
-        put_word(list, at + 8, bytes);
-    }
-}
-
 // Of the bytes from lo up to hi, those before the first kept record and those behind the last.
 fn dropped_in(lo: usize, hi: usize, start: usize, stop: usize) -> usize
     requires { hi ≤ lo + 65535 }
@@ -214,68 +196,90 @@ fn dropped_in(lo: usize, hi: usize, start: usize, stop: usize) -> usize
     hi.min(start).saturating_sub(lo) + hi.saturating_sub(lo.max(stop))
 }
 
-// Lists a good block that has bytes in no kept record.
-#[tactic(auto, unfolding(crate::specs::Salvage::good_entry, crate::specs::Rescue::listing))]
-fn list_good(f: &[u8], i: usize, kept: Kept, list: &mut [u8], l: Listed) -> Listed
-    requires { (i < blocks f.now) × (used_at f.now i ≤ block_data) × (kept.start ≤ kept.stop) × Few i l }
-    ensures listed { told result list.new
-        ≡ listing (told l list.old)
-        (good_entry i (dropped_in (block_data * i) (end_at f.now i) kept.start kept.stop)) }
-    ensures few { Few (i + 1) result }
-{
-    let lo = limit::BLOCK_DATA * i;
-    let hi = lo + used_at(f, i);
-    let n = dropped_in(lo, hi, kept.start, kept.stop);
-    if n == 0 {
-        return l;
-    }
-    enter(list, l.entries, i, None, n as u32);
-    Listed {
-        entries: l.entries + 1,
-        dropped: l.dropped + n,
-    }
+// A list that is written: the room lent for it, and what it tells of.
+#[derive(Drop)]
+struct DropList<'a> {
+    list: &'a mut [u8],
+    listed: Listed,
 }
 
-// Lists the good blocks from `first` up to `last`.
-fn list_stretch(
-    f: &[u8],
-    first: usize,
-    last: usize,
-    kept: Kept,
-    list: &mut [u8],
-    l: Listed,
-) -> Listed
-    requires { (first ≤ last)
-        × (last ≤ blocks f.now)
-        × (kept.start ≤ kept.stop)
-        × Goods f.now first last
-        × Few first l }
-    ensures listed { told result list.new
-        ≡ listing (told l list.old) (good_in f.now first last kept.start kept.stop) }
-    ensures few { Few last result }
-{
-    let mut now = l;
-    for i in first..last {
-        now = list_good(f, i, kept, list, now);
+impl DropList<'_> {
+    // An entry put behind the others, where the list has room for it, and counted.
+    #[tactic(auto, unfolding(crate::specs::Rescue::entered, crate::specs::Rescue::listing))]
+    fn enter(&mut self, block: usize, reason: Option<Refusal>, bytes: usize)
+        requires { (block < many_blocks) × (bytes ≤ block_data) × Few block self.old.listed }
+        ensures same { self.new.list.ghost_name ≡ self.old.list.ghost_name }
+        ensures listed { told_by self.new
+            ≡ listing (told_by self.old)
+            (record { block = block; reason = reason_of reason; bytes = bytes } ∷ []) }
+        ensures few { Few (block + 1) self.new.listed }
+    {
+        let number = match reason {
+            Some(why) => why.number(),
+            None => refusal::ACCEPTED,
+        };
+        let entries = self.listed.entries;
+        self.listed.entries += 1;
+        self.listed.dropped += bytes;
+        if entries < self.list.len() / limit::DROPPED {
+            let at = limit::DROPPED * entries;
+            put_word(self.list, at, place_word(block));
+            put_word(self.list, at + 4, number);
+            put_word(self.list, at + 8, bytes as u32);
+        }
     }
-    now
-}
 
-// Lists a bad block.
-#[tactic(auto, unfolding(crate::specs::Salvage::bad_entry, crate::specs::Rescue::listing))]
-fn list_bad(list: &mut [u8], i: usize, reason: Option<Refusal>, l: Listed) -> Listed
-    requires { (i < many_blocks) × Few i l }
-    ensures listed { told result list.new
-        ≡ listing (told l list.old) (bad_entry i (reason_of reason)) }
-    ensures few { Few (i + 1) result }
-{
-    if reason.is_none() {
-        return l;
+    // Lists a good block that has bytes in no kept record.
+    #[tactic(auto, unfolding(crate::specs::Salvage::good_entry, crate::specs::Rescue::listing))]
+    fn list_good(&mut self, f: &[u8], i: usize, kept: Kept)
+        requires { (i < blocks f.now)
+            × (used_at f.now i ≤ block_data)
+            × (kept.start ≤ kept.stop)
+            × Few i self.old.listed }
+        ensures same { self.new.list.ghost_name ≡ self.old.list.ghost_name }
+        ensures listed { told_by self.new
+            ≡ listing (told_by self.old)
+            (good_entry i (dropped_in (block_data * i) (end_at f.now i) kept.start kept.stop)) }
+        ensures few { Few (i + 1) self.new.listed }
+    {
+        let lo = limit::BLOCK_DATA * i;
+        let hi = lo + used_at(f, i);
+        let n = dropped_in(lo, hi, kept.start, kept.stop);
+        if n > 0 {
+            self.enter(i, None, n);
+        }
     }
-    enter(list, l.entries, i, reason, 0);
-    Listed {
-        entries: l.entries + 1,
-        dropped: l.dropped,
+
+    // Lists the good blocks from `first` up to `last`.
+    fn list_stretch(&mut self, f: &[u8], first: usize, last: usize, kept: Kept)
+        requires { (first ≤ last)
+            × (last ≤ blocks f.now)
+            × (kept.start ≤ kept.stop)
+            × Goods f.now first last
+            × Few first self.old.listed }
+        ensures same { self.new.list.ghost_name ≡ self.old.list.ghost_name }
+        ensures listed { told_by self.new
+            ≡ listing (told_by self.old)
+            (good_in f.now first last kept.start kept.stop) }
+        ensures few { Few last self.new.listed }
+    {
+        for i in first..last {
+            self.list_good(f, i, kept);
+        }
+    }
+
+    // Lists a bad block.
+    #[tactic(auto, unfolding(crate::specs::Salvage::bad_entry, crate::specs::Rescue::listing))]
+    fn list_bad(&mut self, i: usize, reason: Option<Refusal>)
+        requires { (i < many_blocks) × Few i self.old.listed }
+        ensures same { self.new.list.ghost_name ≡ self.old.list.ghost_name }
+        ensures listed { told_by self.new
+            ≡ listing (told_by self.old) (bad_entry i (reason_of reason)) }
+        ensures few { Few (i + 1) self.new.listed }
+    {
+        if reason.is_some() {
+            self.enter(i, reason, 0);
+        }
     }
 }
 
@@ -298,11 +302,16 @@ fn end_stretch(
     let k = kept.stop - kept.start;
     let tally = s.tally;
     lay(f, kept.start, k, fresh, tally.stream);
-    let good = list_stretch(f, s.first, last, kept, list, tally.listed);
+    let mut drops = DropList {
+        list,
+        listed: tally.listed,
+    };
+    drops.list_stretch(f, s.first, last, kept);
+    drops.list_bad(last, reason);
     Tally {
         records: tally.records + kept.count,
         stream: tally.stream + k,
-        listed: list_bad(list, last, reason, good),
+        listed: drops.listed,
     }
 }
 

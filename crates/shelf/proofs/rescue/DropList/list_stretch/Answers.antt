@@ -1,9 +1,9 @@
 use Rattle.std.proofs.Common.{rules}
 use Rattle.shelf.proofs.Lists.{goods-at, good-again, good-done, few-end}
-use Rattle.shelf.proofs.rescue.list_stretch.Goals as goal
+use Rattle.shelf.proofs.rescue.DropList.list_stretch.Goals as goal
 
-pub list_good-now-requires : goal.list_good-now-requires
-list_good-now-requires c = search (rules, goods-at)
+pub list_good-requires : goal.list_good-requires
+list_good-requires c = search (rules, goods-at)
 
 pub loop-i-preserved : goal.loop-i-preserved
 loop-i-preserved c = search (rules, good-again)
