@@ -10,8 +10,6 @@ use native.Mathlib.Nat.{add-zero}
 use native.Mathlib.Numerals.{add-one}
 use native.Mathlib.Omega.{arith}
 use native.Mathlib.Decide.{dec_lt}
-use mir.Val.{Fits}
-use mir.Syntax.{w8}
 use lib.Dec.{eqb}
 use lib.ListN.{length, get_or, take, drop}
 use lib.Seq.{drop-cons, take_all}
@@ -22,7 +20,7 @@ use Rattle.utf8.proofs.Look.{refuted, look-here}
 use Rattle.utf8.proofs.Rows.{among, start-among}
 use Rattle.utf8.proofs.Run.{run-nil, run-cons, run-append, run_more, run-fault}
 use Rattle.utf8.proofs.ControlLaws.{control-past, control-append, cond-none, control-more}
-use Rattle.utf8.specs.Slanted.{octet_at, octets_at, Printable, Passed, Whole, Went, Skipped}
+use Rattle.utf8.specs.Slanted.{octet_at, octets_at, AllBytes, Printable, Passed, Whole, Went, Skipped}
 use Rattle.utf8.specs.declared.State.{State}
 use Rattle.utf8.specs.declared.State.TheVariants.{Start, OneLeft}
 
@@ -136,30 +134,30 @@ module _ (x y : ℕ) (f : x < 256) (g : y < 256) where
 test-fails : (n : ℕ) → not (eqb n 0) ≡ true → n ≡ 0 → ⊥
 test-fails n e = eqb-false n 0 (not-true (eqb n 0) e)
 
-module _ (s : List ℕ) (bytes : (i : ℕ) → Fits w8 (get_or s i 0)) where
+module _ (s : List ℕ) (bytes : AllBytes s) where
   pub octet-head : (k i : ℕ) → k < 6 → In 0x20 0x7F (get_or s i 0 * 2 ^ k % 256) → In 0x20 0x7F (octet_at s k i)
   unfolding octet_at
-  octet-head zero i h e = let b = (bytes i).fits in (omega arith, omega arith)
+  octet-head zero i h e = let b = bytes i in (omega arith, omega arith)
   octet-head (suc k) i h e =
       let z : 8 - suc k ≡ 7 - k = omega arith in
-      rw z at (joined-head (get_or s i 0) (get_or s (suc i) 0) (bytes i).fits (bytes (suc i)).fits (suc k) (omega arith) (omega arith) h e)
+      rw z at (joined-head (get_or s i 0) (get_or s (suc i) 0) (bytes i) (bytes (suc i)) (suc k) (omega arith) (omega arith) h e)
 
   pub octet-exact : (k i x : ℕ) → x ≡ octet_at s k i → In 0x20 0x7F x → In 0x20 0x7F (octet_at s k i)
   octet-exact k i x e h = rw (← e) h
 
   pub octet-first : (k i : ℕ) → k < 6 → get_or s i 0 / 2 ^ (7 - k) % 2 ≡ 0 → not (eqb (get_or s i 0 / 2 ^ (5 - k) % 4) 0) ≡ true → In 0x20 0x7F (octet_at s k i)
   unfolding octet_at
-  octet-first zero i h a b = let c = (bytes i).fits in let d : get_or s i 0 / 2 ^ (5 - 0) % 4 ≡ 0 → ⊥ = test-fails _ b in (omega arith, omega arith)
+  octet-first zero i h a b = let c = bytes i in let d : get_or s i 0 / 2 ^ (5 - 0) % 4 ≡ 0 → ⊥ = test-fails _ b in (omega arith, omega arith)
   octet-first (suc k) i h a b =
       let z : 8 - suc k ≡ 7 - k = omega arith in
-      rw z at (joined-first (get_or s i 0) (get_or s (suc i) 0) (bytes i).fits (bytes (suc i)).fits (suc k) (omega arith) (omega arith) h a (test-fails _ b))
+      rw z at (joined-first (get_or s i 0) (get_or s (suc i) 0) (bytes i) (bytes (suc i)) (suc k) (omega arith) (omega arith) h a (test-fails _ b))
 
   pub octet-second : (k i : ℕ) → 6 ≤ k → k < 8 → get_or s i 0 / 2 ^ (7 - k) % 2 ≡ 0 → not (eqb (get_or s (i + 1) 0 / 2 ^ (13 - k)) 0) ≡ true → In 0x20 0x7F (octet_at s k i)
   unfolding octet_at
   octet-second zero i l h a b = absurd (omega arith)
   octet-second (suc k) i l h a b =
       let z : 8 - suc k ≡ 7 - k = omega arith in
-      rw z at (joined-second (get_or s i 0) (get_or s (suc i) 0) (bytes i).fits (bytes (suc i)).fits (suc k) l h a (test-fails _ (rw add-one at b)))
+      rw z at (joined-second (get_or s i 0) (get_or s (suc i) 0) (bytes i) (bytes (suc i)) (suc k) l h a (test-fails _ (rw add-one at b)))
 
 -- octets in two parts
 octets-append : (s : List ℕ) (k i n m : ℕ) → octets_at s k i (n + m) ≡ octets_at s k i n ++ octets_at s k (i + n) m

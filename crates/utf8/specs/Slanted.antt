@@ -16,6 +16,10 @@ unfoldable pub octets_at : List ℕ → ℕ → ℕ → ℕ → List ℕ
 octets_at s k i zero = []
 octets_at s k i (suc n) = octet_at s k i ∷ octets_at s k (suc i) n
 
+-- each is a byte
+abbrev pub AllBytes : List ℕ → Type 0
+AllBytes s = (i : ℕ) → get_or s i 0 < 256
+
 -- the octets up to bit k of byte to are there
 abbrev pub Within : List ℕ → ℕ → ℕ → Type 0
 Within s k to = to + min k 1 ≤ length s

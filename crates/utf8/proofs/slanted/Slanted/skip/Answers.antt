@@ -1,7 +1,7 @@
 -- Nothing is passed within a character.
 use Rattle.utf8.proofs.SlantedLaws.{skipped-went, skipped-none}
 use borrow.Author.Rules.{rules}
-use Rattle.utf8.proofs.slanted.skip.Goals as goal
+use Rattle.utf8.proofs.slanted.Slanted.skip.Goals as goal
 
 pub returns-in-Start : goal.returns-in-Start
 returns-in-Start c = search (rules, skipped-went)
