@@ -1,7 +1,10 @@
 -- The mode as the code has it, and what an element has to choose from by it.
-use Rattle.std.specs.Prelude.{ℕ, ◌≡◌, Bool, true, false, cond, List, []}
+use Rattle.std.specs.Prelude.{ℕ, ◌<◌, ◌≡◌, Bool, true, false, cond, eqb, List, []}
+use Rattle.numbers.specs.Limit.{most_word}
 use Rattle.table.specs.Words.{substitutes_in}
 use Rattle.table.specs.Rows.{table_of}
+use Rattle.table.specs.Views.{Listed}
+use Rattle.table.specs.declared.answers.TypeList.{TypeList}
 use Rattle.model.specs.Model.{Types}
 use Rattle.model.specs.Items as items
 use Rattle.model.specs.declared.Lengths.{Lengths}
@@ -20,6 +23,18 @@ mode_is m = record { lengths = lengths_is m.lengths; casting = m.choices.derived
 -- substitutes and derived types to choose from, or not
 abbrev pub offers : Bool → Bool → Choices
 offers substitutes derived = record { any = cond substitutes true derived; substitutes = substitutes; derived = derived }
+
+-- the root is of no row, and has nothing to choose from
+abbrev pub no_row : ℕ
+no_row = most_word
+
+abbrev pub row_choices : Choices → ℕ → Choices
+row_choices c row = cond (eqb row no_row) (record { any = false; substitutes = false; derived = false }) c
+
+-- a list of types as the code has it, at a place that can be counted on from
+pub record Lists (l types : List ℕ) (r : TypeList) : Type 0 where
+  pub listed : Listed l types r
+  pub near : r.first < 4398046511104
 
 -- what an element of a row and a type has to choose from
 abbrev pub types_by : List ℕ → Choices → ℕ → ℕ → Types

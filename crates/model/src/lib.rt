@@ -2,8 +2,12 @@
 // each by itself in proofs/.
 #![tactic(auto)]
 
-ghost use Rattle.std.specs.Prelude.{◌≡◌};
-ghost use Rattle.model.specs.Modes.{offers};
+ghost use Rattle.std.specs.Prelude.{◌≡◌, cond, []};
+ghost use Rattle.table.specs.Rows.{table_of};
+ghost use Rattle.model.specs.Modes.{offers, row_choices, Lists};
+
+use numbers::limit;
+use table::{TypeList, rows};
 
 // Length coding: never, by a flag, always.
 #[derive(Clone, Copy)]
@@ -30,6 +34,49 @@ pub fn offered(substitutes: bool, derived: bool) -> Choices
         any,
         substitutes,
         derived,
+    }
+}
+
+// The root is of no row.
+pub const NO_ROW: u32 = limit::MOST_WORD;
+
+// No types.
+const NO_TYPES: TypeList = TypeList {
+    first: 0,
+    paired: false,
+    count: 0,
+};
+
+impl Choices {
+    // What an element of a row has to choose from: the root has nothing.
+    pub fn of_row(self, row: u32) -> Choices
+        ensures { result ≡ row_choices self row }
+    {
+        if row == NO_ROW {
+            return offered(false, false);
+        }
+        self
+    }
+
+    // The types of a row's substitutes, where any are looked for.
+    pub fn substitutes_of(self, table: &[u32], row: u32) -> TypeList
+        ensures { Lists table.now (cond self.substitutes ((table_of table.now).substitutes row) [])
+            result }
+    {
+        if self.substitutes {
+            return rows::substitutes(table, row);
+        }
+        NO_TYPES
+    }
+
+    // The derived types of a type, where any are looked for.
+    pub fn derived_of(self, table: &[u32], t: u32) -> TypeList
+        ensures { Lists table.now (cond self.derived ((table_of table.now).derived t) []) result }
+    {
+        if self.derived {
+            return rows::derived(table, t);
+        }
+        NO_TYPES
     }
 }
 

@@ -25,10 +25,10 @@ use Rattle.table.specs.declared.answers.Content.TheVariants.{Particles}
 use Rattle.table.specs.declared.answers.Particle as code·particle
 use Rattle.table.specs.declared.answers.Particle.TheVariants.{Element, Sequence, Choice, Occurs}
 use Rattle.model.specs.Model.{Types}
-use Rattle.model.specs.Modes.{types_by}
+use Rattle.model.specs.Modes.{types_by, row_choices}
 use Rattle.model.specs.declared.Mode.{Mode}
 use Rattle.reader_parts.specs.Heads.{Head, Within, Heads}
-use Rattle.reader_parts.specs.Opening.{row_choices, Below, Opens}
+use Rattle.reader_parts.specs.Opening.{Below, Opens}
 use Rattle.reader_parts.specs.Paths.{Pushed}
 use Rattle.reader_parts.specs.declared.Cursor.{Cursor}
 use Rattle.reader_parts.specs.declared.Inner.{Inner}

@@ -39,12 +39,11 @@ use Rattle.model.proofs.Buffers.{filled-sets}
 use Rattle.reader_parts.proofs.Bytes.{bytes-few}
 use Rattle.model.specs.Items as items
 use Rattle.model.specs.Model.{table_in}
-use Rattle.model.specs.Modes.{lengths_is, mode_is, Choosing}
+use Rattle.model.specs.Modes.{lengths_is, mode_is, Choosing, no_row, row_choices}
 use Rattle.model.specs.declared.Mode.{Mode}
 use Rattle.model.proofs.ModeLaws.{types-only}
 use Rattle.model.proofs.Steps.{root-element}
 use Rattle.reader_parts.proofs.Laws.{Went, did-go, did-stop}
-use Rattle.reader_parts.specs.Opening.{no_row, row_choices}
 use Rattle.reader_parts.specs.Out.{room_of, outcome}
 use Rattle.reader_parts.specs.Paths.{back, names_of}
 use Rattle.reader_parts.specs.declared.Cursor.{Cursor}

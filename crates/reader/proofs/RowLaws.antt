@@ -17,13 +17,12 @@ use Rattle.table.proofs.Laws.{counts-ok, row_ok}
 use Rattle.model.specs.Model.{Answer}
 use Rattle.model.specs.Items as items
 use Rattle.model.specs.Items.{head_at}
-use Rattle.model.specs.Modes.{types_by}
+use Rattle.model.specs.Modes.{types_by, no_row}
 use Rattle.model.specs.declared.Mode.{Mode}
 use Rattle.model.proofs.ModeLaws.{types-by}
 use Rattle.model.specs.Read.{Room, after, code, opened}
 use Rattle.model.proofs.Join.{after-done}
 use Rattle.model.proofs.Steps as steps-laws
-use Rattle.reader_parts.specs.Opening.{no_row}
 use Rattle.reader_parts.proofs.OpeningWays.{choices-row}
 use Rattle.reader.specs.Entering.{rows_of}
 use Rattle.reader.specs.Meaning.{ReadyFor, Fits, Lies, KnownRows, schema, lengths, row_for, particle·, row·, rounds·, runs·, list·, below·, element·, inside·, choose·, occur·}

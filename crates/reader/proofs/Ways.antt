@@ -23,10 +23,9 @@ use Rattle.table.specs.declared.answers.Particle.TheVariants.{Element}
 use Rattle.model.specs.Model.{Answer}
 use Rattle.model.specs.Model.Nodes.{none}
 use Rattle.model.specs.Model.Answer.{given, refused}
-use Rattle.model.specs.Modes.{types_by}
+use Rattle.model.specs.Modes.{types_by, no_row, row_choices}
 use Rattle.model.specs.declared.Mode.{Mode}
 use Rattle.model.specs.Read.{Room, after}
-use Rattle.reader_parts.specs.Opening.{no_row, row_choices}
 use Rattle.reader_parts.specs.Out.{Step, room_of, step_view, outcome, ending, Closes}
 use Rattle.reader_parts.specs.Paths.{names_of, Pushed}
 use Rattle.reader_parts.specs.declared.Cursor.{Cursor}

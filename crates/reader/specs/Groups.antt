@@ -13,9 +13,8 @@ use Rattle.model.specs.Model.Answer.{refused}
 use Rattle.model.specs.Model.Item.{picked, counted}
 use Rattle.model.specs.Items.{item_at}
 use Rattle.model.specs.Read.{Room, after, code, stored}
-use Rattle.model.specs.Modes.{types_by}
+use Rattle.model.specs.Modes.{types_by, row_choices}
 use Rattle.model.specs.declared.Mode.{Mode}
-use Rattle.reader_parts.specs.Opening.{row_choices}
 use Rattle.reader_parts.specs.Out.{Out, Step, room_of, outcome}
 use Rattle.reader_parts.specs.Out.Out.{went, stopped}
 use Rattle.reader_parts.specs.declared.Cursor.{Cursor}

@@ -15,11 +15,10 @@ use Rattle.model.specs.Model.Nodes.{none}
 use Rattle.model.specs.Model.Answer.{given, refused}
 use Rattle.model.specs.Model.Item.{picked, counted}
 use Rattle.model.specs.Items.{Lengths, item_at, head_at}
-use Rattle.model.specs.Modes.{lengths_is, types_by, Choosing}
+use Rattle.model.specs.Modes.{lengths_is, types_by, Choosing, no_row, row_choices}
 use Rattle.model.specs.Read.{Room, after, code, stored, opened}
 use Rattle.model.specs.Steps.{particle_at, rounds_at, content_at, inside_at}
 use Rattle.model.specs.declared.Mode.{Mode}
-use Rattle.reader_parts.specs.Opening.{no_row, row_choices}
 use Rattle.reader_parts.specs.Out.{room_of, outcome, ending}
 use Rattle.reader_parts.specs.declared.Cursor.{Cursor}
 use Rattle.reader_parts.specs.declared.Head.{Head}

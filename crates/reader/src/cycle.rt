@@ -20,11 +20,10 @@ ghost use Rattle.reader.specs.Meaning.{ReadyFor, Owned, KnownRows, Walks, row_fo
 use crate::entering::{Entered, Entry, enter};
 use crate::groups::{Aim, Run, reached};
 use crate::refusal_path::{Halt, tell};
-use model::Mode;
+use model::{Mode, NO_ROW};
 use numbers::limit;
 use numbers::refusal::{Fault, Refusal};
 use reader_parts::ends::close;
-use reader_parts::opening::NO_ROW;
 use reader_parts::{Cursor, Path};
 use table::{Particle, inside};
 use wire::Bits;

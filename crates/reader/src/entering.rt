@@ -4,8 +4,7 @@ ghost use Rattle.std.specs.Prelude.{◌≡◌, ◌≤◌, ◌<◌};
 ghost use Rattle.table.specs.Words.{types_in, particles_in};
 ghost use Rattle.table.specs.Rows.{table_of};
 ghost use Rattle.table.specs.Views.{content_is, row_is};
-ghost use Rattle.model.specs.Modes.{types_by};
-ghost use Rattle.reader_parts.specs.Opening.{row_choices};
+ghost use Rattle.model.specs.Modes.{types_by, row_choices};
 ghost use Rattle.reader.specs.Meaning.{ReadyFor, Owned, reach_of};
 ghost use Rattle.reader.specs.Entering.{filled_by, rows_of, entry_of, Fills, Enters};
 

@@ -130,19 +130,6 @@ module _ (l : List ℕ) (b : ℕ → ℕ) (wall at own : ℕ) (list : TypeList) 
 
 pub ruleset pick-ways = (pick-wrong, pick-own, pick-listed)
 
--- the types of a list, where any are looked for
-module _ (l types : List ℕ) (c : Bool) (r : TypeList) where
-  pub listed-some : c ≡ true → Listed l types r → Listed l (cond c types []) r
-  listed-some e h = rw e h
-
-  pub listed-none : c ≡ false → r.count ≡ 0 → Listed l (cond c types []) r
-  listed-none e z = rw e (record { count-is = z; each = λ k h. absurd (omega arith) })
-
-pub first_small : (n : ℕ) → n ≡ 0 → n < 4398046511104
-first_small n e = omega arith
-
-pub ruleset listed-ways = (listed-some, listed-none, first_small)
-
 -- nothing to choose from
 module _ (b : ℕ → ℕ) (wall at : ℕ) where
   none_in : at ≤ wall → code_at (one_of 0) b wall at ≡ got (0, at)

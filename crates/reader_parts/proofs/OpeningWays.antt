@@ -16,7 +16,7 @@ use Rattle.model.specs.Model.{Event, event, start, flag_of, Types, sends, codes,
 use Rattle.model.specs.Model.Nodes.{none, leaf}
 use Rattle.model.specs.Model.Answer.{given, refused}
 use Rattle.model.specs.Items.{codes_at}
-use Rattle.model.specs.Modes.{types_by, Choosing}
+use Rattle.model.specs.Modes.{types_by, Choosing, no_row, row_choices}
 use Rattle.model.specs.Read.{Room, Into, after, code, stored, cast_at, entered, mark, bare, sized}
 use Rattle.model.specs.declared.Choices.{Choices}
 use Rattle.model.proofs.Join.{after_none, after-after}
@@ -33,7 +33,7 @@ use Rattle.reader_parts.specs.declared.Opened.{Opened}
 use Rattle.reader_parts.specs.declared.Opened.TheVariants.{Refuse, Blank, Full, In}
 use Rattle.reader_parts.specs.Out.{Step, room_of, step_view, outcome, ending, Stores}
 use Rattle.reader_parts.specs.Codes.{Coded, coded_is, Sent, Says, Tells}
-use Rattle.reader_parts.specs.Opening.{no_row, row_choices, becomes, behind_head, rest_of, opened_view, from_codes, Placed, Below, Begins, Opens, OpensPlain}
+use Rattle.reader_parts.specs.Opening.{becomes, behind_head, rest_of, opened_view, from_codes, Placed, Below, Begins, Opens, OpensPlain}
 use Rattle.reader_parts.proofs.CodeWays.{codes-none, codes-past}
 use Rattle.reader_parts.proofs.EndsLaws.{entered-left}
 use Rattle.reader_parts.proofs.StoreWays.{stored-full, stored-in}
@@ -41,20 +41,12 @@ use Rattle.reader_parts.proofs.Laws.{did-go, did-stop, after-go}
 
 -- what an element of a row has to choose from
 module _ (c : Choices) (row : ℕ) where
-  abbrev nothing : Choices
-  nothing = record { any = false; substitutes = false; derived = false }
-
-  pub choices-root : row ≡ no_row → nothing ≡ row_choices c row
-  choices-root e = rw (eq-eqb row no_row e) refl
-
   pub choices-row : (row ≡ no_row → ⊥) → c ≡ row_choices c row
   choices-row e = rw (ne_eqb row no_row e) refl
 
   -- who looks for substitutes is of a row
   pub row-owned : (P : ℕ) → ((row ≡ no_row → ⊥) → row < P) → (row_choices c row).substitutes ≡ true → row < P
   row-owned P h e = h (λ z. let f = rw (eq-eqb row no_row z) at e in let y : ◌≡◌ {A = ℕ} 0 1 = cc in absurd (omega arith))
-
-pub ruleset choices-ways = (choices-root, choices-row)
 
 -- flag
 pub flag_is : (coded : Bool) → bool_byte coded ≡ flag_of coded

@@ -1,24 +1,15 @@
 -- What becomes of an element behind its head, and what is left of it where it is open.
-use Rattle.std.specs.Prelude.{ℕ, ◌<◌, ◌≡◌, List, ◌∷◌, Bool, true, false, cond, eqb}
-use Rattle.numbers.specs.Limit.{most_word}
+use Rattle.std.specs.Prelude.{ℕ, ◌<◌, ◌≡◌, List, ◌∷◌, Bool, true, false, cond}
 use Rattle.wire.specs.Res.{Ensures}
 use Rattle.model.specs.Model.{Types, only, codes, Answer}
 use Rattle.model.specs.Items.{codes_at}
 use Rattle.model.specs.Read.{Room, Into, after, code, cast_at, mark, bare, sized}
-use Rattle.model.specs.declared.Choices.{Choices}
 use Rattle.reader_parts.specs.declared.Cursor.{Cursor}
 use Rattle.numbers.specs.Refused.{number_of}
 use Rattle.reader_parts.specs.declared.Opened.{Opened}
 use Rattle.reader_parts.specs.declared.Opened.TheVariants.{Refuse, Blank, Full, In}
 use Rattle.reader_parts.specs.Out.{room_of, Out, outcome, ending}
 use Rattle.reader_parts.specs.Out.Out.{went, stopped}
-
--- the root is of no row, and has nothing to choose from
-abbrev pub no_row : ℕ
-no_row = most_word
-
-abbrev pub row_choices : Choices → ℕ → Choices
-row_choices c row = cond (eqb row no_row) (record { any = false; substitutes = false; derived = false }) c
 
 module _ (name : ℕ) (coded : Bool) (body wall : ℕ) where
   -- by whether the effective type is held: Start and the rest, a Blank, or 9; f reads what is inside, k is the substitute, p the place past the codes

@@ -1,11 +1,9 @@
 // An element's codes, behind its head: which substitute stands for it, which derived type it has; and the event that tells them.
-ghost use Rattle.std.specs.Prelude.{◌≡◌, cond, [], ◌*◌, ◌≤◌, ◌<◌, length};
+ghost use Rattle.std.specs.Prelude.{◌≡◌, ◌*◌, ◌≤◌, ◌<◌, length};
 ghost use Rattle.wire.specs.Bits.{bit_at};
 ghost use Rattle.wire.specs.Answer.{read_is};
 ghost use Rattle.value.specs.Code.{code_at};
 ghost use Rattle.value.specs.Simple.{one_of};
-ghost use Rattle.table.specs.Rows.{table_of};
-ghost use Rattle.table.specs.Views.{Listed};
 ghost use Rattle.model.specs.Modes.{types_by};
 ghost use Rattle.reader_parts.specs.Codes.{sends_of, Picks, Says, Tells};
 
@@ -49,39 +47,6 @@ fn pick(table: &[u32], payload: &[u8], wall: Bits, at: Bits, own: u32, list: Typ
     Ok((rows::listed(table, list, k - 1), k, next))
 }
 
-// No types.
-fn nothing() -> TypeList
-    ensures { (result.count ≡ 0) × (result.first ≡ 0) }
-{
-    TypeList {
-        first: 0,
-        paired: false,
-        count: 0,
-    }
-}
-
-// The substitutes of a row, where any are looked for.
-fn substitutes(table: &[u32], choices: Choices, row: u32) -> TypeList
-    ensures { (Listed table.now (cond choices.substitutes ((table_of table.now).substitutes row) []) result)
-        × (result.first < 4398046511104) }
-{
-    if choices.substitutes {
-        return rows::substitutes(table, row);
-    }
-    nothing()
-}
-
-// The derived types of a type, where any are looked for.
-fn derived(table: &[u32], choices: Choices, t: u32) -> TypeList
-    ensures { (Listed table.now (cond choices.derived ((table_of table.now).derived t) []) result)
-        × (result.first < 4398046511104) }
-{
-    if choices.derived {
-        return rows::derived(table, t);
-    }
-    nothing()
-}
-
 // A flag bit is sent where there is something to choose from.
 fn sends(swaps: u32, casts: u32) -> bool
     ensures { result ≡ sends_of swaps casts }
@@ -102,9 +67,9 @@ pub fn codes(
     requires { wall.0 ≤ 8 * length payload.now }
     ensures { Says (types_by table.now choices t row) (bit_at payload.now) wall.0 at.0 result }
 {
-    let swaps = substitutes(table, choices, row);
+    let swaps = choices.substitutes_of(table, row);
     let (own, substitute, p) = pick(table, payload, wall, at, t, swaps)?;
-    let casts = derived(table, choices, own);
+    let casts = choices.derived_of(table, own);
     let (effective, _, next) = pick(table, payload, wall, p, own, casts)?;
     let sent = sends(swaps.count, casts.count);
     Ok(Cast {

@@ -4,34 +4,17 @@ ghost use Rattle.std.specs.Prelude.{◌≡◌, ◌*◌, ◌≤◌, length};
 ghost use Rattle.wire.specs.Bits.{bit_at};
 ghost use Rattle.table.specs.Rows.{held_of};
 ghost use Rattle.model.specs.Model.{flag_of};
-ghost use Rattle.model.specs.Modes.{types_by, Choosing};
-ghost use Rattle.reader_parts.specs.Opening.{row_choices, Begins, OpensPlain, Opens};
+ghost use Rattle.model.specs.Modes.{row_choices, types_by, Choosing};
+ghost use Rattle.reader_parts.specs.Opening.{Begins, OpensPlain, Opens};
 
 use crate::codes::{codes, tell};
 use crate::storing::{store, store_seldom};
 use crate::{Cursor, Inner, Opened};
 use model::Choices;
+use numbers::kind;
 use numbers::refusal::{Fault, Refusal};
-use numbers::{kind, limit};
 use table::rows;
 use wire::Bits;
-
-// The root is of no row.
-pub const NO_ROW: u32 = limit::MOST_WORD;
-
-// What an element of a row has to choose from: the root has nothing.
-fn choices_of(choices: Choices, row: u32) -> Choices
-    ensures { result ≡ row_choices choices row }
-{
-    if row == NO_ROW {
-        return Choices {
-            any: false,
-            substitutes: false,
-            derived: false,
-        };
-    }
-    choices
-}
 
 // A Start's second word.
 fn flag(coded: bool) -> u32
@@ -116,7 +99,7 @@ fn open_cast(
         (bit_at payload.now) (held_of table.now party) c events.old result
         events.new }
 {
-    let own = choices_of(choices, row);
+    let own = choices.of_row(row);
     match codes(table, payload, own, t, row, wall, body) {
         Err(why) => Opened::Refuse(Fault { why, at: body }),
         Ok(cast) => {

@@ -31,7 +31,7 @@ use Rattle.model.specs.Model.{Types, codes, sends, only, table_in, value, maybe}
 use Rattle.model.specs.Model.Plan.{done}
 use Rattle.model.specs.Model.Item.{required, optional, valued, picked, counted}
 use Rattle.model.specs.Items.{Lengths}
-use Rattle.model.specs.Modes.{lengths_is, types_by}
+use Rattle.model.specs.Modes.{lengths_is, types_by, no_row, row_choices}
 use Rattle.model.proofs.ModeLaws.{types-by, types-only}
 use Rattle.model.specs.declared.Choices.{Choices}
 use Rattle.model.specs.declared.Mode.{Mode}
@@ -50,7 +50,6 @@ use Rattle.writer_parts.proofs.NoteLaws.{spells-none, spells-by, spells-same}
 use Rattle.writer_parts.specs.Walk.{Judgement, events_in, events_at, texts_at, between, past, Ready, Sealing, Walked, Walks, wanted, judged, noted, alone}
 use Rattle.writer_parts.proofs.WalkLaws.{went, stopped, walked_as, stays, along-stop, along-go, alone-noted, events-next, events-none, events-count, judged-in, taken-like, taken-unlike}
 use Rattle.writer_parts.specs.Parts.{present, required·, optional·, attribute·, attributes·, own·, values·}
-use Rattle.writer_parts.specs.Opening.{no_row, row_choices}
 use Rattle.writer.specs.Meaning.{Owned, Known, Rounds, Given, RightFor, Within, deep_at, particle·, inside·, element·, choose·, rounds·, occur·, row·, list·}
 use Rattle.writer_parts.proofs.JudgingWays.{some}
 use Rattle.writer_parts.proofs.Leads.{Leads, leads-start, leads-end, leads-stop, leads-go}

@@ -11,7 +11,7 @@ use Rattle.table.specs.Rows.{table_of, held_of}
 use Rattle.table.proofs.Walk.{types_are}
 use Rattle.table.specs.Words.{types_in}
 use Rattle.model.specs.Model.{only, table_in}
-use Rattle.model.specs.Modes.{lengths_is, mode_is}
+use Rattle.model.specs.Modes.{lengths_is, mode_is, no_row}
 use Rattle.model.specs.declared.Mode.{Mode}
 use Rattle.model.specs.Write.{Bare, Out, element_out, write}
 use Rattle.model.specs.WriteSteps.{inside_out}
@@ -28,7 +28,6 @@ use Rattle.std.specs.Prelude.{Result, Ok, Err}
 use Rattle.writer_parts.specs.Notes.{spells}
 use Rattle.writer_parts.specs.Walk.{Judgement, events_in, events_at, texts_at, between, Ready, Walked, Walks}
 use Rattle.writer_parts.proofs.WalkLaws.{went, stopped, events-count}
-use Rattle.writer_parts.specs.Opening.{no_row}
 use Rattle.writer.specs.Meaning.{RightFor, Rounds, element·, inside·, row·, list·}
 use Rattle.writer.specs.Answers.{Answer, says, origin, Writes}
 use Rattle.writer.proofs.Answers.{unmade-writes}

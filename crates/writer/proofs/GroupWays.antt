@@ -17,14 +17,13 @@ use Rattle.table.proofs.RowsInside.{particle-inside}
 use Rattle.table.specs.declared.answers.Particle as particle_t
 use Rattle.table.specs.declared.answers.Particle.TheVariants as pv
 use Rattle.model.specs.Model.Item.{picked, counted}
-use Rattle.model.specs.Modes.{types_by}
+use Rattle.model.specs.Modes.{types_by, no_row, row_choices}
 use Rattle.model.specs.declared.Mode.{Mode}
 use Rattle.model.specs.Write.{Bare, Out}
 use Rattle.model.proofs.OutLaws.{along-done}
 use Rattle.writer_parts.specs.declared.Spot.{Spot}
 use Rattle.numbers.specs.declared.refusal.Fault.{Fault}
 use Rattle.std.specs.Prelude.{Result, Ok, Err}
-use Rattle.writer_parts.specs.Opening.{no_row, row_choices}
 use Rattle.writer_parts.specs.Walk.{Judgement, events_at, texts_at, Ready, Walks, alone}
 use Rattle.writer_parts.proofs.WalkLaws.{walked_as, stays}
 use Rattle.writer_parts.proofs.AttributeWays.{ready_on, item-here}

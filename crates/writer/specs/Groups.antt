@@ -4,11 +4,10 @@ use Rattle.numbers.specs.declared.refusal.Fault.{Fault}
 use Rattle.table.specs.Words.{types_in, particles_in}
 use Rattle.table.specs.declared.answers.Particle.{Particle}
 use Rattle.table.specs.declared.answers.Particle.TheVariants as row·is
-use Rattle.model.specs.Modes.{types_by}
+use Rattle.model.specs.Modes.{types_by, row_choices}
 use Rattle.model.specs.declared.Mode.{Mode}
 use Rattle.model.specs.Write.{Bare, Out}
 use Rattle.writer_parts.specs.declared.Spot.{Spot}
-use Rattle.writer_parts.specs.Opening.{row_choices}
 use Rattle.writer_parts.specs.Walk.{Judgement, Ready, Walks}
 use Rattle.writer.specs.Meaning.{RightFor, Within, Owned, element·, choose·, occur·, rounds·}
 use Rattle.writer.specs.declared.groups.Aim.{Aim}

@@ -13,11 +13,10 @@ use Rattle.table.specs.declared.answers.Particle.TheVariants.{Element}
 use Rattle.model.specs.Model.{Types, table_in}
 use Rattle.model.specs.Model.Item.{picked, counted}
 use Rattle.model.specs.Items.{Lengths}
-use Rattle.model.specs.Modes.{lengths_is, types_by, Choosing}
+use Rattle.model.specs.Modes.{lengths_is, types_by, Choosing, no_row, row_choices}
 use Rattle.model.specs.declared.Mode.{Mode}
 use Rattle.model.specs.Write.{Bare, Out, wrote, along, too_deep, element_out}
 use Rattle.model.specs.WriteSteps.{item_then, particle_out, rounds_out, content_out, inside_out}
-use Rattle.writer_parts.specs.Opening.{no_row, row_choices}
 use Rattle.writer_parts.specs.Walk.{events_in}
 
 -- a table without fault, and a mode that knows what this table has to choose from; rows within it

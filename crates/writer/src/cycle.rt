@@ -9,21 +9,19 @@ ghost use Rattle.numbers.specs.Limit.{most_open};
 ghost use Rattle.table.specs.First.Verdict.{right};
 ghost use Rattle.table.specs.Valid.{verdict};
 ghost use Rattle.table.specs.Words.{types_in, particles_in};
-ghost use Rattle.model.specs.Modes.{types_by};
-ghost use Rattle.writer_parts.specs.Opening.{row_choices};
+ghost use Rattle.model.specs.Modes.{types_by, row_choices};
 ghost use Rattle.writer_parts.specs.Walk.{Ready, Walks};
 ghost use Rattle.writer.specs.Meaning.{RightFor, Within, Owned, Known, Rounds, Given};
 ghost use Rattle.writer.specs.Meaning.{deep_at, element·, particle·, rounds·, row·, list·};
 
 use crate::groups::{Aim, reached};
-use model::Mode;
+use model::{Mode, NO_ROW};
 use numbers::refusal::{Fault, Refusal};
 use table::{Content, Particle, inside};
 use writer_parts::attributes::before_rows;
 use writer_parts::codes::note_codes;
 use writer_parts::ends::close;
 use writer_parts::heads::unlike_start;
-use writer_parts::opening::{NO_ROW, choices_of};
 use writer_parts::{Judgement, Spot};
 
 // An element of a name, a row and a type: its Start, its codes, what is inside it by its effective type, its End.
@@ -62,8 +60,7 @@ fn element(
         used: c.used,
         bits: c.bits,
     };
-    let all = mode.choices;
-    let choices = choices_of(all, row);
+    let choices = mode.choices.of_row(row);
     let mut f = o;
     let mut ty = t;
     if choices.any {

@@ -19,12 +19,11 @@ use buffers::clear;
 use cycle::particle;
 use front::{Order, judge_after, judge_before};
 use ink::draw;
-use model::Mode;
+use model::{Mode, NO_ROW};
 use numbers::limit;
 use numbers::refusal::Fault;
 use wire::{Bits, Bytes};
 use writer_parts::Spot;
-use writer_parts::opening::NO_ROW;
 
 // What was written: the number of the mode, the events and text bytes taken, the bits of the payload.
 #[derive(Clone, Copy)]

@@ -34,7 +34,7 @@ use Rattle.table.specs.declared.answers.TypeList.{TypeList}
 use Rattle.value.specs.Code.{bits_of, fits, code_out, word_less, Code, choice, shifted}
 use Rattle.value.specs.Simple.{one_of}
 use Rattle.model.specs.Model.{Types, chosen, default_type, sends, codes}
-use Rattle.model.specs.Modes.{types_by}
+use Rattle.model.specs.Modes.{Lists, types_by}
 use Rattle.model.specs.Items.{substitute_code, type_code}
 use Rattle.model.specs.Write.{Bare, Out, coded, as_cast, place_in, standing, codes_out, casts}
 use Rattle.model.proofs.OutLaws.{casts-none}
@@ -48,7 +48,7 @@ use Rattle.numbers.specs.declared.refusal.Refusal.TheVariants as why
 use Rattle.numbers.specs.Refused.{number_of}
 use Rattle.writer_parts.specs.Notes.{Spelling, note_bits, keeps, Noted, Short, most_choices, Flagged}
 use Rattle.writer_parts.specs.Walk.{events_in, events_at, texts_at, between, Ready, wanted, judged, KindJudged}
-use Rattle.writer_parts.specs.Codes.{Rowed, Lists, Chosen, Placed, Stands, Spelled, Spells, Casts}
+use Rattle.writer_parts.specs.Codes.{Rowed, Chosen, Placed, Stands, Spelled, Spells, Casts}
 use Rattle.writer_parts.proofs.NoteLaws.{spells-none}
 use Rattle.writer_parts.proofs.NoteWays.{coded-long, none_is, some_is}
 use Rattle.writer_parts.proofs.WalkLaws.{went, events-count, judged-in, taken-like, taken-unlike}
@@ -115,16 +115,6 @@ module _ (a b : Coded) (fa : a.size ≤ 11) (fb : b.size ≤ 11) (la : a.bits < 
   pair-done = record { code = record { is = rw (raised, digits-split a.size b.size a.bits b.bits lb); low = rw raised both_under }; few = omega arith }
 
 pub ruleset pair_ways = (pair-long, pair-shift, pair_fits, pair-done)
-
--- substitutes, derived: a list of the table, or nothing
-module _ (l types : List ℕ) (u : Bool) (r : TypeList) where
-  pub lists-some : u ≡ true → Listed l types r → r.first < 4398046511104 → Lists l (cond u types []) r
-  lists-some e h n = rw e (record { listed = h; near = n })
-
-  pub lists-none : u ≡ false → r.count ≡ 0 → r.first ≡ 0 → Lists l (cond u types []) r
-  lists-none e h n = rw e (record { listed = record { count-is = h; each = λ k g. absurd (omega arith) }; near = omega arith })
-
-pub ruleset lists_ways = (lists-some, lists-none)
 
 -- due
 sends-first : (a b : List ℕ) → 0 < length a → sends a b ≡ true

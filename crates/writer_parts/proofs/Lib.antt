@@ -7,7 +7,6 @@ pub mod Leads
 mod LeafWays
 pub mod NoteLaws
 pub mod NoteWays
-mod OpeningWays
 pub mod WalkLaws
 mod PenLaws
 mod PenWays

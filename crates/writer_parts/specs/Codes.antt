@@ -20,11 +20,6 @@ pub record Rowed (l : List ℕ) (c : Choices) (row : ℕ) : Type 0 where
   pub known : c.substitutes ≡ true → row < particles_in l
   pub neither : c.any ≡ false → (c.substitutes ≡ false) × (c.derived ≡ false)
 
--- a list of types as the code has it, at a place that can be counted on from
-pub record Lists (l types : List ℕ) (r : TypeList) : Type 0 where
-  pub listed : Listed l types r
-  pub near : r.first < 4398046511104
-
 -- of the types of a list as the code has it: number q of them, counted from 1, or t; where p stands, counted from 1; the same with t before them
 pub record Chosen (l : List ℕ) (s : TypeList) (t q r : ℕ) : Type 0 where
   pub is : (types : List ℕ) → Listed l types s → r ≡ chosen t types q

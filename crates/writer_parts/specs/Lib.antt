@@ -3,5 +3,4 @@ pub mod Pen
 pub mod Walk
 pub mod Heads
 pub mod Codes
-pub mod Opening
 pub mod Parts

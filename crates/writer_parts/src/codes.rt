@@ -1,17 +1,16 @@
 // An element's codes: which substitute it is and which derived type it has. Their event stands behind Start, where there is something to choose from.
-ghost use Rattle.std.specs.Prelude.{◌≡◌, true, cond, [], ◌++◌, ◌^◌, ◌≤◌, ◌<◌};
+ghost use Rattle.std.specs.Prelude.{◌≡◌, true, ◌++◌, ◌^◌, ◌≤◌, ◌<◌};
 ghost use Rattle.wire.specs.Bits.{digits};
 ghost use Rattle.value.specs.Code.{bits_of};
 ghost use Rattle.value.specs.Simple.{one_of};
 ghost use Rattle.table.specs.First.Verdict.{right};
 ghost use Rattle.table.specs.Valid.{verdict};
 ghost use Rattle.table.specs.Words.{types_in};
-ghost use Rattle.table.specs.Rows.{table_of};
 ghost use Rattle.model.specs.Model.{codes};
 ghost use Rattle.model.specs.Modes.{types_by};
 ghost use Rattle.writer_parts.specs.Notes.{Short, most_choices};
 ghost use Rattle.writer_parts.specs.Walk.{Ready};
-ghost use Rattle.writer_parts.specs.Codes.{Rowed, Lists, Chosen, Placed, Stands, Spells, Casts};
+ghost use Rattle.writer_parts.specs.Codes.{Rowed, Chosen, Placed, Stands, Spells, Casts};
 
 use crate::judging::{keep, of_kind};
 use crate::notes::{flagged, note_of};
@@ -90,40 +89,6 @@ fn standing(table: &[u32], types: TypeList, t: u32, p: u32) -> u32
     place_in(table, types, p)
 }
 
-// No types.
-fn nothing() -> TypeList
-    ensures { (result.count ≡ 0) × (result.first ≡ 0) }
-{
-    TypeList {
-        first: 0,
-        paired: false,
-        count: 0,
-    }
-}
-
-// The types of a row's substitutes, where the table has any.
-#[tactic(auto, using(crate::proofs::CodeWays::lists_ways))]
-fn substitutes(table: &[u32], choices: Choices, row: u32) -> TypeList
-    ensures { Lists table.now (cond choices.substitutes ((table_of table.now).substitutes row) [])
-        result }
-{
-    if choices.substitutes {
-        return rows::substitutes(table, row);
-    }
-    nothing()
-}
-
-// The derived types of type t, where type codes are sent.
-#[tactic(auto, using(crate::proofs::CodeWays::lists_ways))]
-fn derived(table: &[u32], choices: Choices, t: u32) -> TypeList
-    ensures { Lists table.now (cond choices.derived ((table_of table.now).derived t) []) result }
-{
-    if choices.derived {
-        return rows::derived(table, t);
-    }
-    nothing()
-}
-
 // Whether an element of a row and a type has codes.
 #[tactic(auto, using(crate::proofs::CodeWays::due_ways))]
 fn due(table: &[u32], choices: Choices, t: u32, row: u32) -> bool
@@ -133,11 +98,11 @@ fn due(table: &[u32], choices: Choices, t: u32, row: u32) -> bool
     if !choices.any {
         return false;
     }
-    let swaps = substitutes(table, choices, row);
+    let swaps = choices.substitutes_of(table, row);
     if 0 < swaps.count {
         return true;
     }
-    let types = derived(table, choices, t);
+    let types = choices.derived_of(table, t);
     0 < types.count
 }
 
@@ -147,13 +112,13 @@ fn spell(table: &[u32], choices: Choices, t: u32, row: u32, p: u32, q: u32) -> S
     requires { (verdict table.now ≡ right) × (t < types_in table.now) × (Rowed table.now choices row) }
     ensures { Spells table.now (types_by table.now choices t row) p q result }
 {
-    let swaps = substitutes(table, choices, row);
+    let swaps = choices.substitutes_of(table, row);
     let n = swaps.count;
     if n < q {
         return Err(Refusal::OutsideRow);
     }
     let own = default_type(table, swaps, t, q);
-    let types = derived(table, choices, own);
+    let types = choices.derived_of(table, own);
     let m = types.count;
     let k = standing(table, types, own, p);
     if m < k {

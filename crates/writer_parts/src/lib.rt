@@ -8,7 +8,6 @@ pub mod heads; // heads.rt: an element's Start judged, its flag and length as a 
 pub mod judging; // judging.rt: one event judged, and its note kept
 pub mod leaves; // leaves.rt: one event judged and noted
 pub mod notes; // notes.rt: a code as a number, and the note of one
-pub mod opening; // opening.rt: what an element has to choose from
 pub mod pen; // pen.rt: notes into a lent buffer
 pub mod values; // values.rt: a simple value with its text, a branch, a count
 

@@ -5,10 +5,9 @@ use native.Mathlib.Omega.{arith}
 use borrow.Author.Rules.{rules}
 use Rattle.writer_parts.specs.Walk.{Walks, past}
 use Rattle.table.proofs.RowsInside.{type-inside, particle-inside}
-use Rattle.model.specs.Modes.{types_by}
+use Rattle.model.specs.Modes.{types_by, row_choices}
 use Rattle.std.specs.Prelude.{Ok}
 use Rattle.writer_parts.specs.Codes as codes_p
-use Rattle.writer_parts.specs.Opening.{row_choices}
 use Rattle.writer.specs.Meaning.{inside·}
 use Rattle.writer.proofs.CycleWays.{content-ways, element-word, one-row-ways, particle-ways, rows-ways, row-chosen, cast-went, uncast-went, element-ready, element-unlike, element-uncast, element-unheld, element-stop, element-sealing, element-kept, element-go, inside-stop, inside-rows, inside-none, content-row, rows-known, particle-fits}
 use Rattle.writer.proofs.GroupWays.{given-fits, aim-refused, target-type, target-owned, target-depth, target-ready, target-walked, run-within, run-ready, run-walked, run_none, opened-within, opened-walked}
@@ -21,7 +20,7 @@ element-cast : (t : ℕ) (c : element-Joined-choices t)
     → codes_p.Went c.args.table.now c.args.events.now c.args.texts.now (types_by c.args.table.now (row_choices c.args.mode.choices c.args.row) c.args.t c.args.row) (past c.args.c) c.args.notes.now c.if-choices.ty c.if-choices.f c.if-choices.notes
 element-cast t c =
     let fine = c.in_default.not-Err in
-    let by = c.choices_of-choices.ensures in
+    let by = c.of_row-choices.ensures in
     elim c.if-choices.branch [
       | element-then-choices+in-Ok w ↦ rw (w.notes-is, w.f-is, w.ty-is) (cast-went _ _ _ _ _ _ _ _ (rw by at w.note_codes.ensures) _ _ w.in-Ok.is)
       | element-else-choices w ↦
@@ -65,7 +64,7 @@ element-bounds-events-at t c = search (rules, element-word)
 pub element-note_codes-requires : goal.element-note_codes-requires
 element-note_codes-requires t c =
     let fine = c.in_default.not-Err in
-    (element-ready _ _ _ _ c.requires.0 _ _ c.unlike_start.ensures fine, c.requires.1.is, c.requires.3, rw c.choices_of-choices.ensures (row-chosen _ _ _ c.requires.2 c.requires.1.choosing.neither))
+    (element-ready _ _ _ _ c.requires.0 _ _ c.unlike_start.ensures fine, c.requires.1.is, c.requires.3, rw c.of_row-choices.ensures (row-chosen _ _ _ c.requires.2 c.requires.1.choosing.neither))
 
 pub element-returns-in-Err : goal.element-returns-in-Err
 element-returns-in-Err t c = element-unlike _ _ _ _ c.requires.0 _ c.args.mode c.args.depth _ _ _ c.unlike_start.ensures _ c.in-Err.is
@@ -73,7 +72,7 @@ element-returns-in-Err t c = element-unlike _ _ _ _ c.requires.0 _ c.args.mode c
 pub element-returns-in-Err-note_codes : goal.element-returns-in-Err-note_codes
 element-returns-in-Err-note_codes t c =
     let fine = c.in_default.not-Err in
-    element-uncast _ _ _ _ c.requires.0 _ c.args.mode c.args.depth _ _ _ c.unlike_start.ensures fine _ _ (rw c.choices_of-choices.ensures at c.note_codes.ensures) _ c.in-Err-note_codes.is
+    element-uncast _ _ _ _ c.requires.0 _ c.args.mode c.args.depth _ _ _ c.unlike_start.ensures fine _ _ (rw c.of_row-choices.ensures at c.note_codes.ensures) _ c.in-Err-note_codes.is
 
 pub element-held-held-requires : goal.element-held-held-requires
 element-held-held-requires t c = (type-inside _ c.requires.1.is _ (element-cast t c).known, omega (arith, c.requires.1.party_known))

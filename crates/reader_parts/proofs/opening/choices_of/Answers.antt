@@ -1,9 +1,0 @@
-use borrow.Author.Rules.{rules}
-use Rattle.reader_parts.proofs.OpeningWays.{choices-ways}
-use Rattle.reader_parts.proofs.opening.choices_of.Goals as goal
-
-pub returns-then-row-eq-NO_ROW : goal.returns-then-row-eq-NO_ROW
-returns-then-row-eq-NO_ROW c = search (rules, choices-ways)
-
-pub returns : goal.returns
-returns c = search (rules, choices-ways)
