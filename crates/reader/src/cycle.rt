@@ -108,10 +108,8 @@ fn content(
     let n = path.count;
     path.names[n] = name as u16;
     path.count = n + 1;
-    let c = x.cursor;
-    particle(
-        table, payload, events, texts, told, mode, depth, wall, c, path, 0, 0, x.first, x.step,
-        x.count,
+    rows_in(
+        table, payload, events, texts, told, mode, depth, wall, path, x,
     )
 }
 

@@ -18,7 +18,7 @@ use Rattle.reader.proofs.cycle.+content_element_particle_rows_in.Goals.{particle
 pub content-returns : goal.content-returns
 content-returns t c = let path = c.args.path in
     let spare : path.count < length path.names = search (rules, c.well_formed.1.1.1.1.1.1.1.1.1.0, c.requires.2) in
-    content-pushed c.args.table.now c.args.payload.now c.args.mode c.args.depth c.args.x.first c.args.x.step c.args.x.count c.args.wall.0 c.args.x.cursor path (record { names = set path.names path.count c.args.name; count = path.count + 1 }) c.args.name c.args.events.now c.args.texts.now c.particle.result c.particle.new.told c.particle.new.events c.particle.new.texts (push-names path _ c.args.name spare refl refl) c.particle.ensures
+    content-pushed c.args.table.now c.args.payload.now c.args.mode c.args.depth c.args.x.first c.args.x.step c.args.x.count c.args.wall.0 c.args.x.cursor path (record { names = set path.names path.count c.args.name; count = path.count + 1 }) c.args.name c.args.events.now c.args.texts.now c.rows_in.result c.rows_in.new.told c.rows_in.new.events c.rows_in.new.texts (push-names path _ c.args.name spare refl refl) c.rows_in.ensures
 
 pub element-returns-then-depth-opens : goal.element-returns-then-depth-opens
 element-returns-then-depth-opens t c = search (rules, rest-deep)

@@ -8,10 +8,10 @@ use Rattle.reader.proofs.Ways.{Left}
 use Rattle.reader.proofs.cycle.+content_element_particle_rows_in.Given as goal
 
 abbrev pub decreases-content : goal.decreases-content
-decreases-content l = 4 * l.depth + 1
+decreases-content l = 4 * l.depth + 2
 
 abbrev pub decreases-element : goal.decreases-element
-decreases-element l = 4 * l.depth + 2
+decreases-element l = 4 * l.depth + 3
 
 abbrev pub decreases-particle : goal.decreases-particle
 decreases-particle l = 4 * l.depth + 0
