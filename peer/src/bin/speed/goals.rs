@@ -49,7 +49,7 @@ const GOALS: [Goal; 20] = [
     goal("texts in ASCII, 8,192 bytes", 36, Write, Peer, 1.0),
     goal("64 rows open", 704, Read, Peer, 1.5).reached(2.29),
     goal("64 rows open", 704, Write, Peer, 1.5).reached(1.54),
-    goal("2,048 events", 36, Read, Peer, 1.2).reached(1.30),
+    goal("2,048 events", 36, Read, Peer, 1.2).reached(1.31),
     goal("2,048 events", 36, Write, Peer, 1.0).reached(1.17),
     goal("guide of 50 programmes, refused at the end", 132, Read, Peer, 1.0).reached(1.05),
     goal("guide of 50 programmes, refused at the end", 132, Write, Peer, 1.0),
