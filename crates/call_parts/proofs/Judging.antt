@@ -9,11 +9,13 @@ use lib.ListN.{length, take, drop}
 use Rattle.numbers.specs.Refusal as refusal
 use Rattle.numbers.specs.Refusal.{accepted}
 use Rattle.numbers.specs.Limit.{most_table_words}
-use Rattle.table.specs.First.Verdict.{right, wrong}
+use Rattle.table.specs.First.Verdict.{wrong}
 use Rattle.table.specs.Valid.{verdict}
 use Rattle.table.specs.Views.{Checked, verdict_is}
 use Rattle.table.specs.declared.answers.Flaw.{Flaw}
 use Rattle.std.specs.Prelude.{Ok, Err}
+use Rattle.std.specs.Result.{MatchResult, IsErrAnd}
+use Rattle.std.proofs.lemmas.Result.{err_from_is_err_and}
 use Rattle.buffers.specs.Bytes.{words_of}
 use Rattle.call_parts.specs.Area.{area_of, told}
 use Rattle.call_parts.specs.Calls.{table_verdict, judged}
@@ -46,11 +48,17 @@ module _ (t room words : List ℕ) (k : ℕ) (h : Lends k (length t) (length roo
       verdict-lent t k s.tells ∙ ap (λ (x : List ℕ). moved k (length t / 4) (verdict x)) (sym s.front)
       ∙ ap (moved k (length t / 4)) (sym e)
 
-  pub judged-right : v ≡ Ok tt → right ≡ table_verdict t
-  judged-right r = sym (judged-is ∙ ap (λ (x : Checked). moved k (length t / 4) (verdict_is x)) r)
+-- what a `map_err` that moves a flaw's place answers, by what it was given
+flaw-moved : (k m : ℕ) (Q : Flaw → Flaw → Type 0) → ((i x : Flaw) → Q i x → x.0 ≡ place_in_table k m i.0)
+    → (a r : Checked) → MatchResult a (λ u. r ≡ Ok u) (λ i. IsErrAnd r (Q i)) → verdict_is r ≡ moved k m (verdict_is a)
+flaw-moved k m Q g (Ok u) r h = ap verdict_is h
+flaw-moved k m Q g (Err i) r h = let p = err_from_is_err_and r h in ap verdict_is p.1 ∙ ap wrong (g i p.0 p.2)
 
-  pub judged-wrong : (i : Flaw) → v ≡ Err i → (p : ℕ) → p ≡ place_in_table k (length t / 4) i.0 → wrong p ≡ table_verdict t
-  judged-wrong i r p q = ap wrong q ∙ sym (judged-is ∙ ap (λ (x : Checked). moved k (length t / 4) (verdict_is x)) r)
+pub judged-moved : (t room words : List ℕ) (k : ℕ) → Lends k (length t) (length room) → words ≡ take k (words_of t) ++ drop k room
+    → (v : Checked) → verdict_is v ≡ verdict (take k words)
+    → (Q : Flaw → Flaw → Type 0) → ((i x : Flaw) → Q i x → x.0 ≡ place_in_table k (length t / 4) i.0)
+    → (r : Checked) → MatchResult v (λ u. r ≡ Ok u) (λ i. IsErrAnd r (Q i)) → verdict_is r ≡ table_verdict t
+judged-moved t room words k h l v e Q g r m = flaw-moved k (length t / 4) Q g v r m ∙ sym (judged-is t room words k h l v e)
 
 -- the verdict told
 module _ (t area : List ℕ) (v : Checked) (e : verdict_is v ≡ table_verdict t) where

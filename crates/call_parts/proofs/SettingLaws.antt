@@ -14,6 +14,8 @@ use Rattle.numbers.specs.declared.refusal.Refusal.{Refusal}
 use Rattle.numbers.specs.declared.refusal.Refusal.TheVariants as variant
 use Rattle.numbers.specs.declared.refusal.Fault.{Fault}
 use Rattle.std.specs.Prelude.{Ok, Err}
+use Rattle.std.specs.Result.{MatchResult, IsErrAnd}
+use Rattle.std.proofs.lemmas.Result.{err_from_is_err_and}
 use Rattle.table.specs.First.{Verdict}
 use Rattle.table.specs.First.Verdict.{right, wrong}
 use Rattle.table.specs.Valid.{verdict}
@@ -113,6 +115,33 @@ pub front-set : (n : ℕ) (l w : List ℕ) (s : Set) (party type mark : ℕ) →
     → setting_is s w ≡ setting (take n l) party type mark → setting_is s (take n (w ++ drop n l)) ≡ setting (take n l) party type mark
 front-set n l w s party type mark h k e = ap (setting_is s) (take_at w (drop n l) n (omega (arith, length-take n l))) ∙ e
 
+-- what a `map_err` that moves a fault's place answers, by what it was given
+abbrev place_moved : (seen given : ℕ) → Fault ℕ → Fault ℕ
+place_moved seen given f = record { why = f.why; at = place_in_table seen given f.at }
+
+abbrev Moved : (Fault ℕ → Fault ℕ → Type 0) → Set → Set → Type 0
+Moved Q s r = MatchResult s (λ u. r ≡ Ok u) (λ f. IsErrAnd r (Q f))
+
+pub moved-kept : (Q : Fault ℕ → Fault ℕ → Type 0) (s r : Set) → Moved Q s r → r ≡ Ok tt → s ≡ Ok tt
+moved-kept Q (Ok u) r h k = refl
+moved-kept Q (Err f) r h k =
+    let p = err_from_is_err_and r h in
+    let y : ◌≡◌ {A = Set} (Ok tt) (Err p.0) = sym k ∙ p.1 in
+    let o : ◌≡◌ {A = ℕ} 0 1 = cc in
+    absurd (omega arith)
+
+pub moved-lost : (k m : ℕ) (Q : Fault ℕ → Fault ℕ → Type 0) → ((f x : Fault ℕ) → Q f x → x ≡ place_moved k m f)
+    → (s r : Set) → Moved Q s r → (x : Fault ℕ) → r ≡ Err x → (f : Fault ℕ) × (s ≡ Err f) × (x ≡ place_moved k m f)
+moved-lost k m Q g (Ok u) r h x e =
+    let y : ◌≡◌ {A = Set} (Ok u) (Err x) = sym h ∙ e in
+    let o : ◌≡◌ {A = ℕ} 0 1 = cc in
+    absurd (omega arith)
+moved-lost k m Q g (Err f) r h x e =
+    let p = err_from_is_err_and r h in
+    let y : ◌≡◌ {A = Set} (Err x) (Err p.0) = sym e ∙ p.1 in
+    let z : x ≡ p.0 = cc in
+    (f, refl, z ∙ g f p.0 p.2)
+
 -- no refusal has the number of an acceptance
 refusal-some : (e : Refusal) → number_of e ≡ 0 → ⊥
 refusal-some variant.Table z = absurd (omega arith)
@@ -191,13 +220,12 @@ module _ (t room words left : List ℕ) (k : ℕ) (h : Lends k (length t) (lengt
           ∙ (agrees t party type mark v).place
       go (few i v n p) = ap (place_in_table k m) p ∙ sym (rw v)
 
-  pub set-refused : (f : Fault ℕ) → s ≡ Err f → (place : ℕ) → place ≡ place_in_table k m f.at
-      → SetByBytes t party type mark (Err record { why = f.why; at = place }) t
-  set-refused f r place p =
+  pub set-refused : (f : Fault ℕ) → s ≡ Err f → SetByBytes t party type mark (Err (place_moved k m f)) t
+  set-refused f r =
       let n : number_of f.why ≡ (set_outcome t party type).number = sym (ap set_number r) ∙ number_is in
       record {
         number = n;
-        place = p ∙ ap (place_in_table k m) (sym (ap set_place r)) ∙ place_is;
+        place = ap (place_in_table k m) (sym (ap set_place r)) ∙ place_is;
         table = refused-left t party type mark _ (λ z. refusal-some f.why (n ∙ z));
       }
 

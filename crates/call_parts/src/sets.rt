@@ -50,16 +50,12 @@ fn set_with_table_room(
     ensures { SetByBytes t.old party ty mark result t.new }
 {
     load(t, words, n);
-    match set_in_words(words, n, party, ty, mark) {
-        Ok(()) => {
-            store_mark(t, words, ty);
-            Ok(())
-        }
-        Err(Fault { why, at }) => Err(Fault {
-            why,
-            at: place_in_table(n, t.len() / 4, at),
-        }),
-    }
+    set_in_words(words, n, party, ty, mark).map_err(|Fault { why, at }| Fault {
+        why,
+        at: place_in_table(n, t.len() / 4, at),
+    })?;
+    store_mark(t, words, ty);
+    Ok(())
 }
 
 // Sets a mark by a table's bytes, in room for the words of it that are looked at.

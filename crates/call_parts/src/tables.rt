@@ -42,11 +42,7 @@ fn check_with_table_room(t: &[u8], n: usize, words: &mut [u32]) -> Result<(), Fl
     ensures { verdict_is result ≡ table_verdict t.now }
 {
     load(t, words, n);
-    // Not `map_err`: what its closure answers stays hidden in the proof here.
-    match check(&words[..n]) {
-        Ok(()) => Ok(()),
-        Err(Flaw(i)) => Err(Flaw(place_in_table(n, t.len() / 4, i))),
-    }
+    check(&words[..n]).map_err(|Flaw(i)| Flaw(place_in_table(n, t.len() / 4, i)))
 }
 
 // Checks a table's bytes, in room for the words of it that are looked at.
