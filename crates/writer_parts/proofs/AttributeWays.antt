@@ -55,6 +55,7 @@ use Rattle.writer_parts.specs.declared.attributes.Marked.{Marked}
 use Rattle.writer_parts.specs.declared.attributes.Marked.TheVariants as mv
 use Rattle.writer_parts.specs.Parts.{present, required·, optional·, attribute·, attributes·, flag_item, own·, values·, attribute_in, bare·, slot·, slot_at·, Slots, Marks}
 use Rattle.writer_parts.proofs.Leads.{Leads, leads-start, leads-end, leads-stop, leads-go}
+use Rattle.writer_parts.proofs.PutWays.{put-kept}
 use Rattle.writer_parts.proofs.JudgingWays.{kind-fine, kind-faulty, unlike-first, unlike-second, like, noted-unlike, noted-got, word-first, word-second, kind-room, place-near, next-near}
 use Rattle.writer_parts.proofs.ValueWays.{item-as, item-unlike, coded-go, picked-spelt}
 
@@ -131,7 +132,7 @@ module _ (L X : List ℕ) (c : Spot) (N : List ℕ) (r : Ready L X N c) (name : 
           rw m (optional-as L X c N (Ok (record { event = c.event + 1; used = c.used; bits = c.bits + 1 })) M name q (sym n ∙ ap (λ (i : ℕ). min i 1) second)
           (coded-go L X c N (wanted 2 name q) r l (cv.Plain (iv.Choice 2)) q (Ok g) s g refl (2199023255552 + q) (note-of-done g (omega arith) (omega arith)) M k))
 
-pub ruleset note_attribute_ways = (kind-fine, kind-faulty, flag-unlike, word-first, word-second, place-near, next-near, kind-room, flag-name, flag-many, flag-absent, flag-must, flag-may, flag-bits)
+pub ruleset note_attribute_ways = (put-kept, kind-fine, kind-faulty, flag-unlike, word-first, word-second, place-near, next-near, kind-room, flag-name, flag-many, flag-absent, flag-must, flag-may, flag-bits)
 
 -- an item and then the rest
 module _ (L X : List ℕ) (c : Spot) (N : List ℕ) (r : Judgement) (M : List ℕ) (i : Item) (k : ℕ → List Bare → List ℕ → Out) (h : Walks L X (alone i) c N r M) where

@@ -52,6 +52,7 @@ use Rattle.writer_parts.specs.Codes.{Rowed, Chosen, Placed, Stands, Spelled, Spe
 use Rattle.writer_parts.proofs.NoteLaws.{spells-none}
 use Rattle.writer_parts.proofs.NoteWays.{coded-long, none_is, some_is}
 use Rattle.writer_parts.proofs.WalkLaws.{went, events-count, judged-in, taken-like, taken-unlike}
+use Rattle.writer_parts.proofs.PutWays.{put-kept}
 use Rattle.writer_parts.proofs.JudgingWays.{some, like as like-words, kind-fine, kind-faulty, word-first, word-second, kind-room, noted-spelt, noted-got}
 
 -- one_of, of at most most_choices
@@ -438,7 +439,7 @@ module _ (L X : List ℕ) (c : Spot) (N : List ℕ) (r : Ready L X N c) where
   pub due-next : (k : ℕ) → KindJudged L c.event k 0 → FitsIn w64 (c.event + 1)
   due-next k h = let i = h.there refl in let f = r.few in record { fits = omega arith }
 
-pub ruleset note_due_ways = (kind-fine, kind-faulty, word-first, word-second, kind-room, due-next, due-fits, due-unlike, due-refused, due-few, due-low, due-noted)
+pub ruleset note_due_ways = (put-kept, kind-fine, kind-faulty, word-first, word-second, kind-room, due-next, due-fits, due-unlike, due-refused, due-few, due-low, due-noted)
 
 -- note_codes
 module _ (l L X : List ℕ) (c : Choices) (t row : ℕ) (a : Spot) (N : List ℕ) (d : Bool) (e : d ≡ codes (types_by l c t row)) where

@@ -22,6 +22,7 @@ use Rattle.writer_parts.proofs.NoteLaws.{note-none, spells_one, spells-by, spell
 use Rattle.writer_parts.proofs.NoteWays.{coded-long}
 use Rattle.writer_parts.specs.Walk.{events_at, texts_at, Ready, between, past, Sealing, Walked, wanted, judged}
 use Rattle.writer_parts.proofs.WalkLaws.{judged-in, taken-like, taken-unlike}
+use Rattle.writer_parts.proofs.PutWays.{put-fine}
 use Rattle.writer_parts.proofs.JudgingWays.{some, fine, faulty}
 
 -- close
@@ -91,4 +92,4 @@ module _ (L X : List ℕ) (c e : Spot) (N : List ℕ) (lengths : lengths_t.Lengt
           };
         }
 
-pub ruleset close_ways = (fine, faulty, close-unlike, close-in, close-room, close-start, close-less, close-next, close-fits, close-go)
+pub ruleset close_ways = (put-fine, fine, faulty, close-unlike, close-in, close-room, close-start, close-less, close-next, close-fits, close-go)

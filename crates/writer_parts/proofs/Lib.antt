@@ -10,4 +10,5 @@ pub mod NoteWays
 pub mod WalkLaws
 mod PenLaws
 mod PenWays
+pub mod PutWays
 mod ValueWays

@@ -50,6 +50,7 @@ use Rattle.writer_parts.specs.Notes.{Spelling, keeps, text_note, Noted, Gives, S
 use Rattle.writer_parts.proofs.NoteLaws.{note-counted}
 use Rattle.writer_parts.proofs.NoteWays.{coded-long, spelt-code, spelt-refuse, got-fits, number-plain}
 use Rattle.writer_parts.specs.Walk.{Judgement, events_at, texts_at, Ready, Walked, wanted, judged, KindJudged, noted, text_wrong, Walks, alone}
+use Rattle.writer_parts.proofs.PutWays.{put-fine, put-kept}
 use Rattle.writer_parts.proofs.WalkLaws.{walked_as, alone-noted}
 use Rattle.writer_parts.proofs.JudgingWays.{fine, faulty, kind-fine, kind-faulty, some, judged-few, judged-room, noted-unlike, noted-fault, noted-got, word-first, word-second}
 
@@ -82,7 +83,7 @@ module _ (L X : List ℕ) (c : Spot) (N : List ℕ) (f : Bare) (r : Ready L X N 
         let few = coded-few in
         noted-got L X c N f _ r z y.bits m M (record { event = c.event + 1; used = c.used; bits = c.bits + n.size }) (then _ y.out refl) (i.is X ∙ y.code.code.is) g refl (omega arith) (omega arith) r.used (omega arith)
 
-pub ruleset coded_ways = (fine, faulty, noted-unlike, judged-few, judged-room, coded-fault, coded-few, coded-low, coded-go, coded-fits)
+pub ruleset coded_ways = (put-fine, put-kept, fine, faulty, noted-unlike, judged-few, judged-room, coded-fault, coded-few, coded-low, coded-go, coded-fits)
 
 -- text_fault
 module _ (X : List ℕ) (used v : ℕ) where
@@ -184,7 +185,7 @@ module _ (L X : List ℕ) (c : Spot) (N : List ℕ) (v : ℕ) (r : Ready L X N c
           (rw m (note-counted X v c.used few text-place))
           p refl (omega arith) (omega arith) f.1 (omega arith)
 
-pub ruleset text_ways = (fine, faulty, noted-unlike, judged-few, judged-room, text-refused, text-small, text-place, text-end, text-eight, text-part, text-bits, text-go)
+pub ruleset text_ways = (put-fine, fine, faulty, noted-unlike, judged-few, judged-room, text-refused, text-small, text-place, text-end, text-eight, text-part, text-bits, text-go)
 
 -- note_date: the milliseconds are those of the event's second word
 cut_off : (l m a b : List ℕ) → length l ≡ length m → l ++ a ≡ m ++ b → a ≡ b
@@ -230,7 +231,7 @@ module _ (L X : List ℕ) (c : Spot) (N : List ℕ) (clock : Bool) (p q : ℕ) (
         noted-got L X c N (wanted kinds.value p q) _ r z (stamp_bits clock day.days day.ms) n M (record { event = c.event + 1; used = c.used; bits = c.bits + h.bits })
         (then _ out refl) (rw m (g.note.is X ∙ same)) k refl (omega arith) (omega arith) r.used (omega arith)
 
-pub ruleset date_ways = (fine, faulty, noted-unlike, judged-few, judged-room, date-refused, date-fits, date-go)
+pub ruleset date_ways = (put-fine, put-kept, fine, faulty, noted-unlike, judged-few, judged-room, date-refused, date-fits, date-go)
 
 -- value, pick, count: an item by itself is an event noted
 module _ (L X : List ℕ) (c : Spot) (N : List ℕ) (s : Judgement) (M : List ℕ) where
@@ -305,8 +306,8 @@ picked-spelt n v s h = number-plain (cv.Plain (iv.Choice n)) v s (iv.Choice n) r
 pub counted-spelt : (least most v : ℕ) (code : code_t.Code) → code_is code ≡ times_code least most → (s : Spelling) → Spelt 41 (code_out (times_code least most) v) s → Spelt 41 (code_out (code_is code) v) s
 counted-spelt least most v code e s h = rw e h
 
-pub ruleset value_ways = (kind-fine, kind-faulty, value-unlike, word-first, word-second, value-number, value-text, value-dated)
+pub ruleset value_ways = (put-kept, kind-fine, kind-faulty, value-unlike, word-first, word-second, value-number, value-text, value-dated)
 
-pub ruleset pick_ways = (kind-fine, kind-faulty, picked-unlike, word-first, word-second, picked-spelt, picked-way)
+pub ruleset pick_ways = (put-kept, kind-fine, kind-faulty, picked-unlike, word-first, word-second, picked-spelt, picked-way)
 
-pub ruleset count_ways = (kind-fine, kind-faulty, counted-unlike, word-first, word-second, counted-spelt, counted-way)
+pub ruleset count_ways = (put-kept, kind-fine, kind-faulty, counted-unlike, word-first, word-second, counted-spelt, counted-way)

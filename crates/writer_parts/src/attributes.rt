@@ -48,12 +48,7 @@ fn note_attribute(
         notes.new }
 {
     let at = c.event;
-    let e = match of_kind(events, at, kind::ATTRIBUTE) {
-        Ok(e) => e,
-        Err(why) => {
-            return Err(Fault { why, at });
-        }
-    };
+    let e = of_kind(events, at, kind::ATTRIBUTE).map_err(|why| Fault { why, at })?;
     let q = e.q;
     if e.p != name {
         return Err(Fault {

@@ -151,26 +151,17 @@ fn note_due(
         (types_by table.now choices t row) c notes.old result notes.new }
 {
     let at = c.event;
-    let e = match of_kind(events, at, kind::CAST) {
-        Ok(e) => e,
-        Err(why) => {
-            return Err(Fault { why, at });
-        }
-    };
+    let e = of_kind(events, at, kind::CAST).map_err(|why| Fault { why, at })?;
     let p = e.p;
-    match spell(table, choices, t, row, p, e.q) {
-        Err(why) => Err(Fault { why, at }),
-        Ok(both) => {
-            let note = note_of(both);
-            keep(notes, at, note);
-            let next = Spot {
-                event: at + 1,
-                bits: c.bits + both.size,
-                ..c
-            };
-            Ok((p, next))
-        }
-    }
+    let both = spell(table, choices, t, row, p, e.q).map_err(|why| Fault { why, at })?;
+    let note = note_of(both);
+    keep(notes, at, note);
+    let next = Spot {
+        event: at + 1,
+        bits: c.bits + both.size,
+        ..c
+    };
+    Ok((p, next))
 }
 
 // The codes of an element of a row and a type whose Start was taken.

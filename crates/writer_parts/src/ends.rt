@@ -32,9 +32,7 @@ pub fn close(
 {
     let at = c.event;
     let to = e.event;
-    if let Err(why) = unlike(events, to, kind::END, 0, 0) {
-        return Err(Fault { why, at: to });
-    }
+    unlike(events, to, kind::END, 0, 0).map_err(|why| Fault { why, at: to })?;
     keep(notes, to, 0);
     let h = head(lengths, q, e.bits - c.bits);
     let note = note_of(h);

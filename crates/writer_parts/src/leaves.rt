@@ -34,9 +34,7 @@ pub fn mark(
         c notes.old result notes.new }
 {
     let at = c.event;
-    if let Err(why) = unlike(events, at, kind, p, q) {
-        return Err(Fault { why, at });
-    }
+    unlike(events, at, kind, p, q).map_err(|why| Fault { why, at })?;
     keep(notes, at, 0);
     Ok(Spot { event: at + 1, ..c })
 }

@@ -32,8 +32,7 @@ pub struct Spot {
     pub bits: u32,
 }
 
-// One event judged, or several: where the walk goes on; or what is refused, and its event. Each function puts a refusal at its event by hand:
-// what the closure of a `map_err` answers stays hidden in the proof.
+// One event judged, or several: where the walk goes on; or what is refused, and its event.
 pub type Judgement = Result<Spot, Fault<usize>>;
 
 // An element's codes judged: its effective type, and where the walk goes on; or what is refused, and its event.

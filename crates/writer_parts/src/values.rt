@@ -58,12 +58,8 @@ pub fn note_text(events: &[u32], texts: &[u8], notes: &mut [u64], c: Spot, v: u3
 {
     let at = c.event;
     let used = c.used;
-    if let Err(why) = unlike(events, at, kind::VALUE, v, 0) {
-        return Err(Fault { why, at });
-    }
-    if let Err(why) = text_fault(texts, used, v) {
-        return Err(Fault { why, at });
-    }
+    unlike(events, at, kind::VALUE, v, 0).map_err(|why| Fault { why, at })?;
+    text_fault(texts, used, v).map_err(|why| Fault { why, at })?;
     let note = text_note(v, used);
     keep(notes, at, note);
     let count = size5(v);
@@ -95,21 +91,15 @@ pub fn note_number(
         c notes.old result notes.new }
 {
     let at = c.event;
-    if let Err(why) = unlike(events, at, kind, p, q) {
-        return Err(Fault { why, at });
-    }
-    match s {
-        Err(why) => Err(Fault { why, at }),
-        Ok(n) => {
-            let note = note_of(n);
-            keep(notes, at, note);
-            Ok(Spot {
-                event: at + 1,
-                bits: c.bits + n.size,
-                ..c
-            })
-        }
-    }
+    unlike(events, at, kind, p, q).map_err(|why| Fault { why, at })?;
+    let n = s.map_err(|why| Fault { why, at })?;
+    let note = note_of(n);
+    keep(notes, at, note);
+    Ok(Spot {
+        event: at + 1,
+        bits: c.bits + n.size,
+        ..c
+    })
 }
 
 // A date's event, of the words p and q, which may be no date.
@@ -130,22 +120,16 @@ pub fn note_date(
         notes.old result notes.new }
 {
     let at = c.event;
-    if let Err(why) = unlike(events, at, kind::VALUE, p, q) {
-        return Err(Fault { why, at });
-    }
-    match stamp_of(clocked, p, q) {
-        Err(why) => Err(Fault { why, at }),
-        Ok(stamp) => {
-            let h = date(clocked, stamp.days, q % 134217728);
-            let note = h.note;
-            keep(notes, at, note);
-            Ok(Spot {
-                event: at + 1,
-                bits: c.bits + h.bits,
-                ..c
-            })
-        }
-    }
+    unlike(events, at, kind::VALUE, p, q).map_err(|why| Fault { why, at })?;
+    let stamp = stamp_of(clocked, p, q).map_err(|why| Fault { why, at })?;
+    let h = date(clocked, stamp.days, q % 134217728);
+    let note = h.note;
+    keep(notes, at, note);
+    Ok(Spot {
+        event: at + 1,
+        bits: c.bits + h.bits,
+        ..c
+    })
 }
 
 // A simple value.
@@ -164,12 +148,7 @@ pub fn value(
         notes.new }
 {
     let at = c.event;
-    let e = match of_kind(events, at, kind::VALUE) {
-        Ok(e) => e,
-        Err(why) => {
-            return Err(Fault { why, at });
-        }
-    };
+    let e = of_kind(events, at, kind::VALUE).map_err(|why| Fault { why, at })?;
     let v = e.p;
     match forms::simple(simple, x, y) {
         Form::Number(code) => {
@@ -189,12 +168,7 @@ pub fn pick(events: &[u32], texts: &[u8], notes: &mut [u64], c: Spot, n: u32) ->
         notes.new }
 {
     let at = c.event;
-    let e = match of_kind(events, at, kind::PICK) {
-        Ok(e) => e,
-        Err(why) => {
-            return Err(Fault { why, at });
-        }
-    };
+    let e = of_kind(events, at, kind::PICK).map_err(|why| Fault { why, at })?;
     let v = e.p;
     let code = Code::Plain(Inner::Choice(n));
     let s = notes::inner(Inner::Choice(n), v);
@@ -216,12 +190,7 @@ pub fn count(
         notes.new }
 {
     let at = c.event;
-    let e = match of_kind(events, at, kind::TIMES) {
-        Ok(e) => e,
-        Err(why) => {
-            return Err(Fault { why, at });
-        }
-    };
+    let e = of_kind(events, at, kind::TIMES).map_err(|why| Fault { why, at })?;
     let v = e.p;
     let code = forms::times(least, most);
     let s = notes::count(least, most, v);

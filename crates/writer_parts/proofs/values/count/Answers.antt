@@ -1,10 +1,16 @@
 -- The kind, then the count.
+use Rattle.writer_parts.proofs.PutWays.{put-kept, put-left}
 use Rattle.writer_parts.proofs.ValueWays.{count_ways}
 use borrow.Author.Rules.{rules}
 use Rattle.writer_parts.proofs.values.count.Goals as goal
 
-pub returns-in-Err : goal.returns-in-Err
-returns-in-Err c = search (rules, count_ways)
+pub returns-in_err-e : goal.returns-in_err-e
+returns-in_err-e c =
+    let l = put-left c.args.c.event _ (λ e x k. search rules) c.of_kind.result c.map_err.ensures.cases c.in_err-e.was _ c.from_residual.ensures.1 in
+    let w = l.1 in
+    rw l.2 (search (rules, count_ways))
 
 pub returns : goal.returns
-returns c = search (rules, count_ways)
+returns c =
+    let k = put-kept _ c.of_kind.result c.map_err.ensures.cases c.in_ok-e.was in
+    search (rules, count_ways)
