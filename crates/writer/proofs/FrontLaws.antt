@@ -1,6 +1,6 @@
 -- What is judged before the walk and after it, and each way through it.
 use Prim.Native.Nat.{ℕ, zero, suc, ◌+◌, ◌-◌, ◌*◌, ◌/◌, ◌%◌, ◌<◌, ◌≤◌, min}
-use mathlib.Core.Path.{◌≡◌, refl, sym, ap, ◌∙◌}
+use mathlib.Core.Path.{◌≡◌, refl, sym, ◌∙◌}
 use mathlib.Core.Bool.{Bool, true, false, cond}
 use mathlib.Core.List.{List}
 use native.Mathlib.Omega.{arith}
@@ -14,8 +14,6 @@ use Rattle.numbers.specs.declared.refusal.Refusal.TheVariants as refusal
 use Rattle.numbers.specs.declared.refusal.Fault.{Fault}
 use Rattle.numbers.specs.Refused.{number_of}
 use Rattle.std.specs.Prelude.{Result, Ok, Err}
-use Rattle.std.specs.Result.{MatchResult, IsErrAnd}
-use Rattle.std.proofs.lemmas.Result.{err_from_is_err_and}
 use Rattle.numbers.specs.Limit.{most_events, most_name, most_payload, parties}
 use Rattle.wire.specs.Res.{got, fault}
 use Rattle.table.specs.First.Verdict.{right, wrong}
@@ -88,34 +86,6 @@ module _ (t : List ℕ) (party n : ℕ) where
           number true f = let h = leb-true 4 n f in omega arith
           number false f = let h = leb-false 4 n f in omega arith
 
--- what a `map_err` that puts a refusal at 0 answers, by what it was given
-abbrev AtZero : Result mode_t.Mode Refusal → Result mode_t.Mode (Fault ℕ) → (Refusal → Fault ℕ → Type 0) → Type 0
-AtZero a b Q = MatchResult a (λ m. b ≡ Ok m) (λ e. IsErrAnd b (Q e))
-
-pub mode-kept : (a : Result mode_t.Mode Refusal) {b : Result mode_t.Mode (Fault ℕ)} {m : mode_t.Mode} (Q : Refusal → Fault ℕ → Type 0) → AtZero a b Q → b ≡ Ok m → a ≡ Ok m
-mode-kept (Ok n) {b} {m} Q h k =
-    let y : ◌≡◌ {A = Result mode_t.Mode (Fault ℕ)} (Ok n) (Ok m) = sym h ∙ k in
-    let z : n ≡ m = cc in
-    ap (λ (j : mode_t.Mode). Ok j) z
-mode-kept (Err e) {b} {m} Q h k =
-    let p = err_from_is_err_and b h in
-    let y : ◌≡◌ {A = Result mode_t.Mode (Fault ℕ)} (Ok m) (Err p.0) = sym k ∙ p.1 in
-    let o : ◌≡◌ {A = ℕ} 0 1 = cc in
-    absurd (omega arith)
-
-pub mode-lost : (Q : Refusal → Fault ℕ → Type 0) → ((e : Refusal) (x : Fault ℕ) → Q e x → x ≡ record { why = e; at = 0 }) → (a : Result mode_t.Mode Refusal) {b : Result mode_t.Mode (Fault ℕ)} {x : Fault ℕ} → AtZero a b Q → b ≡ Err x
-    → (a ≡ Err x.why) × (x.at ≡ 0)
-mode-lost Q g (Ok n) {b} {x} h k =
-    let y : ◌≡◌ {A = Result mode_t.Mode (Fault ℕ)} (Ok n) (Err x) = sym h ∙ k in
-    let o : ◌≡◌ {A = ℕ} 0 1 = cc in
-    absurd (omega arith)
-mode-lost Q g (Err e) {b} {x} h k =
-    let p = err_from_is_err_and b h in
-    let y : ◌≡◌ {A = Result mode_t.Mode (Fault ℕ)} (Err x) (Err p.0) = sym k ∙ p.1 in
-    let z : x ≡ p.0 = cc in
-    let q : x ≡ record { why = e; at = 0 } = z ∙ g e p.0 p.2 in
-    (ap (λ (j : Fault ℕ). Err j.why) (sym q), ap (λ (j : Fault ℕ). j.at) q)
-
 module _ (t : List ℕ) (party name ty number : ℕ) (L : List ℕ) where
   abbrev fronted : Result mode_t.Mode (Fault ℕ) → Type 0
   fronted r = Fronted t party name ty number L r
@@ -146,9 +116,9 @@ module _ (t : List ℕ) (party name ty number : ℕ) (L : List ℕ) where
           ok : asked (table_of t).types party name ty ≡ got tt
           ok = asked-then (table_of t).types party name ty (rw e at h) g i
 
-          pub front-mode : (r : Result mode_t.Mode Refusal) → Moded t party number r → (f : Fault ℕ) → (r ≡ Err f.why) × (f.at ≡ 0) → fronted (Err f)
+          pub front-mode : (r : Result mode_t.Mode Refusal) → Moded t party number r → (why : Refusal) → r ≡ Err why → fronted (Err record { why = why; at = 0 })
           unfolding writing verdict_made or_unmade
-          front-mode r m f w = let z : mode_asked (table_of t).derivations number ≡ fault (number_of f.why) = rw w.0 at m.is in record { is = λ X room. rw (v, ok, z, w.1) }
+          front-mode r m why w = let z : mode_asked (table_of t).derivations number ≡ fault (number_of why) = rw w at m.is in record { is = λ X room. rw (v, ok, z) }
 
           module _ (r : Result mode_t.Mode Refusal) (q : Moded t party number r) (m : mode_t.Mode) (w : r ≡ Ok m) where
             way : Way t party number m

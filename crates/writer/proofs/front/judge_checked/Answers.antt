@@ -1,7 +1,7 @@
 -- By the first thing wrong.
 use native.Mathlib.Omega.{arith}
-use Rattle.std.proofs.lemmas.Result.{err_from_is_err_and}
-use Rattle.writer.proofs.FrontLaws.{checked-ways, mode-kept, mode-lost, front-mode, front-type, front-name, front-parts, front-many, front-fine}
+use Rattle.writer_parts.proofs.PutWays.{put-kept, put-left}
+use Rattle.writer.proofs.FrontLaws.{checked-ways, front-mode, front-type, front-name, front-parts, front-many, front-fine}
 use borrow.Author.Rules.{rules}
 use Rattle.writer.proofs.front.judge_checked.Goals as goal
 use Rattle.writer.proofs.front.judge_checked.Goals.{then-types-by-via-then-types-by, then-types-by-via-else-types-by+then-by-gt-MOST_NAME, then-events-ne0-via-then-events-ne0, then-events-ne0-via-else-events-ne0+then-at-gt-MOST_EVENTS}
@@ -18,18 +18,17 @@ returns-then-by-ge-PARTIES c = search (rules, checked-ways)
 
 pub returns-in_err-mode : goal.returns-in_err-mode
 returns-in_err-mode c =
-    let p = err_from_is_err_and c.from_residual.result c.from_residual.ensures.1 in
-    let l = mode-lost _ (λ e x k. search rules) c.mode_of.result c.map_err.ensures.cases c.in_err-mode.was in
-    rw (p.1, p.2) (front-mode _ _ _ _ _ _ c.requires _ c.types.ensures c.if-types-by.false c.if-by-gt-MOST_NAME.false c.if-by-ge-PARTIES.false _ c.mode_of.ensures _ l)
+    let l = put-left 0 _ (λ e x k. search rules) c.mode_of.result c.map_err.ensures.cases c.in_err-mode.was _ c.from_residual.ensures.1 in
+    rw l.2 (front-mode _ _ _ _ _ _ c.requires _ c.types.ensures c.if-types-by.false c.if-by-gt-MOST_NAME.false c.if-by-ge-PARTIES.false _ c.mode_of.ensures l.0 l.1)
 
 pub returns-then-events-ne0 : goal.returns-then-events-ne0
 returns-then-events-ne0 c =
     elim c.then-events-ne0.branch [
-      | then-events-ne0-via-then-events-ne0 w ↦ front-parts _ _ _ _ _ _ c.requires _ c.types.ensures c.if-types-by.false c.if-by-gt-MOST_NAME.false c.if-by-ge-PARTIES.false _ c.mode_of.ensures _ (mode-kept c.mode_of.result _ c.map_err.ensures.cases c.in_ok-mode.was) (omega (arith, w.if-events-ne0.true))
+      | then-events-ne0-via-then-events-ne0 w ↦ front-parts _ _ _ _ _ _ c.requires _ c.types.ensures c.if-types-by.false c.if-by-gt-MOST_NAME.false c.if-by-ge-PARTIES.false _ c.mode_of.ensures _ (put-kept _ _ c.map_err.ensures.cases c.in_ok-mode.was) (omega (arith, w.if-events-ne0.true))
       | then-events-ne0-via-else-events-ne0+then-at-gt-MOST_EVENTS w ↦
-          front-many _ _ _ _ _ _ c.requires _ c.types.ensures c.if-types-by.false c.if-by-gt-MOST_NAME.false c.if-by-ge-PARTIES.false _ c.mode_of.ensures _ (mode-kept c.mode_of.result _ c.map_err.ensures.cases c.in_ok-mode.was) (omega (arith, w.if-events-ne0.false)) w.if-at-gt-MOST_EVENTS.true
+          front-many _ _ _ _ _ _ c.requires _ c.types.ensures c.if-types-by.false c.if-by-gt-MOST_NAME.false c.if-by-ge-PARTIES.false _ c.mode_of.ensures _ (put-kept _ _ c.map_err.ensures.cases c.in_ok-mode.was) (omega (arith, w.if-events-ne0.false)) w.if-at-gt-MOST_EVENTS.true
     ]
 
 pub returns : goal.returns
 returns c =
-    front-fine _ _ _ _ _ _ c.requires _ c.types.ensures c.if-types-by.false c.if-by-gt-MOST_NAME.false c.if-by-ge-PARTIES.false _ c.mode_of.ensures _ (mode-kept c.mode_of.result _ c.map_err.ensures.cases c.in_ok-mode.was) (omega (arith, c.if-events-ne0.false)) c.if-at-gt-MOST_EVENTS.false
+    front-fine _ _ _ _ _ _ c.requires _ c.types.ensures c.if-types-by.false c.if-by-gt-MOST_NAME.false c.if-by-ge-PARTIES.false _ c.mode_of.ensures _ (put-kept _ _ c.map_err.ensures.cases c.in_ok-mode.was) (omega (arith, c.if-events-ne0.false)) c.if-at-gt-MOST_EVENTS.false
