@@ -18,9 +18,8 @@ use text::{event_line, heading, refusal as refusal_line};
 const MOST_INPUT: usize = 65536;
 
 fn print_event(rt: &impl Print, kind: u32, p: u32, q: u32, bits: u32) -> io::Result<()> {
-    let mut line = [0u8; 128];
-    let k = event_line(&mut line, kind, p, q, bits);
-    rt.write_all(&line[..k])
+    let line = event_line(kind, p, q, bits);
+    rt.write_all(line.text())
 }
 
 // A line for each of n events.
@@ -32,15 +31,13 @@ fn print_events(rt: &impl Print, events: &[u32], n: usize) -> io::Result<()> {
 }
 
 fn print_refusal(rt: &impl Print, number: u32, place: usize) -> io::Result<()> {
-    let mut line = [0u8; 128];
-    let k = refusal_line(&mut line, number, place);
-    rt.write_all(&line[..k])
+    let line = refusal_line(number, place);
+    rt.write_all(line.text())
 }
 
 fn print_heading(rt: &impl Print, events: u32, text: u32, bits: u32) -> io::Result<()> {
-    let mut line = [0u8; 128];
-    let k = heading(&mut line, events, text, bits);
-    rt.write_all(&line[..k])
+    let line = heading(events, text, bits);
+    rt.write_all(line.text())
 }
 
 // Reads until the buffer is full or the input ends, and answers how many bytes it put at its start.

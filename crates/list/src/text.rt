@@ -1,74 +1,106 @@
 // Lines of text: numbers in decimal, and words between them.
-ghost use Rattle.std.specs.Prelude.{◌≡◌, ◌++◌, ◌+◌, ◌≤◌, length, take};
-ghost use Rattle.list.specs.Digits.{IsPrefixLen};
+ghost use Rattle.std.specs.Prelude.{◌≡◌, [], ◌++◌, ◌+◌, ◌≤◌, ℕ, List, length, take};
 ghost use Rattle.list.specs.Text as meaning;
 
 use crate::digits::decimal;
+use std::marker::Model;
 
-// Bytes put behind the first `at` of a line; the place past them.
-fn put(out: &mut [u8], at: usize, s: &[u8]) -> usize
-    requires { at + length s.now ≤ length out.old }
-    ensures place { result ≡ at + length s.now }
-    ensures added { take result out.new ≡ take at out.old ++ s.now }
-{
-    let end = at + s.len();
-    out[at..end].copy_from_slice(s);
-    end
+// A line as far as it is put together: none takes more than 128 bytes.
+#[derive(Drop)]
+pub struct Line {
+    bytes: [u8; 128],
+    filled: usize,
 }
 
-// A number in decimal.
-fn put_number(out: &mut [u8], at: usize, n: u64) -> usize
-    requires { at + 20 ≤ length out.old }
-    ensures most { result ≤ at + 20 }
-    ensures added { take result out.new ≡ take at out.old ++ meaning.decimal n }
-{
-    let mut digits = [0u8; 20];
-    let k = decimal(n, &mut digits);
-    put(out, at, &digits[..k])
+impl Model for Line {
+    ghost Value = { List ℕ };
+
+    ghost view = { λ l. take l.filled l.bytes };
+
+    ghost invariant = { λ l. l.filled ≤ 128 };
 }
 
-// A word, and a number.
-fn put_after(out: &mut [u8], at: usize, s: &[u8], n: u64) -> usize
-    requires { at + length s.now + 20 ≤ length out.old }
-    ensures most { result ≤ at + length s.now + 20 }
-    ensures added { take result out.new ≡ take at out.old ++ (s.now ++ meaning.decimal n) }
-{
-    let p = put(out, at, s);
-    put_number(out, p, n)
+impl Line {
+    fn new() -> Self
+        ensures { result ≡ [] }
+    {
+        Line {
+            bytes: [0; 128],
+            filled: 0,
+        }
+    }
+
+    // Its bytes.
+    pub fn text(&self) -> &[u8]
+        ensures { result.now ≡ self.now }
+    {
+        &self.bytes[..self.filled]
+    }
+
+    // Bytes behind those that stand.
+    fn put(&mut self, s: &[u8])
+        requires { length self.old + length s.now ≤ 128 }
+        ensures { self.new ≡ self.old ++ s.now }
+    {
+        let end = self.filled + s.len();
+        self.bytes[self.filled..end].copy_from_slice(s);
+        self.filled = end;
+    }
+
+    // A number in decimal.
+    fn put_number(&mut self, n: u64)
+        requires { length self.old + 20 ≤ 128 }
+        ensures most { length self.new ≤ length self.old + 20 }
+        ensures added { self.new ≡ self.old ++ meaning.decimal n }
+    {
+        let mut digits = [0u8; 20];
+        let k = decimal(n, &mut digits);
+        self.put(&digits[..k]);
+    }
+
+    // A word, and a number.
+    fn put_after(&mut self, s: &[u8], n: u64)
+        requires { length self.old + length s.now + 20 ≤ 128 }
+        ensures most { length self.new ≤ length self.old + length s.now + 20 }
+        ensures added { self.new ≡ self.old ++ (s.now ++ meaning.decimal n) }
+    {
+        self.put(s);
+        self.put_number(n);
+    }
 }
 
 // An event's line.
-pub fn event_line(out: &mut [u8], kind: u32, p: u32, q: u32, bits: u32) -> usize
-    requires { 128 ≤ length out.old }
-    ensures counted { IsPrefixLen result out.new }
-    ensures line { take result out.new ≡ meaning.event_line kind p q bits }
+pub fn event_line(kind: u32, p: u32, q: u32, bits: u32) -> Line
+    ensures { result ≡ meaning.event_line kind p q bits }
 {
-    let a = put_number(out, 0, kind as u64);
-    let b = put_after(out, a, b" ", p as u64);
-    let c = put_after(out, b, b" ", q as u64);
-    let d = put_after(out, c, b" ", bits as u64);
-    put(out, d, b"\n")
+    let mut line = Line::new();
+    line.put_number(kind as u64);
+    line.put_after(b" ", p as u64);
+    line.put_after(b" ", q as u64);
+    line.put_after(b" ", bits as u64);
+    line.put(b"\n");
+    line
 }
 
 // The first line of a reading.
-pub fn heading(out: &mut [u8], events: u32, text: u32, bits: u32) -> usize
-    requires { 128 ≤ length out.old }
-    ensures counted { IsPrefixLen result out.new }
-    ensures line { take result out.new ≡ meaning.heading events text bits }
+pub fn heading(events: u32, text: u32, bits: u32) -> Line
+    ensures { result ≡ meaning.heading events text bits }
 {
-    let a = put_after(out, 0, b"events ", events as u64);
-    let b = put_after(out, a, b" text ", text as u64);
-    let c = put_after(out, b, b" bits ", bits as u64);
-    put(out, c, b"\n")
+    let mut line = Line::new();
+    line.put_after(b"events ", events as u64);
+    line.put_after(b" text ", text as u64);
+    line.put_after(b" bits ", bits as u64);
+    line.put(b"\n");
+    line
 }
 
 // The line of a refusal.
-pub fn refusal(out: &mut [u8], number: u32, place: usize) -> usize
-    requires { 128 ≤ length out.old }
-    ensures counted { IsPrefixLen result out.new }
-    ensures line { take result out.new ≡ meaning.refusal number place }
+pub fn refusal(number: u32, place: usize) -> Line
+    ensures { result ≡ meaning.refusal number place }
 {
-    let a = put_after(out, 0, b"refused ", number as u64);
-    let b = put_after(out, a, b" ", place as u64);
-    put(out, b, b"\n")
+    let mut line = Line::new();
+    line.put_after(b"refused ", number as u64);
+    line.put_after(b" ", place as u64);
+    line.put(b"\n");
+    line
 }

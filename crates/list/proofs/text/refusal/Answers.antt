@@ -3,6 +3,6 @@ use Rattle.list.proofs.Decimals.{link}
 use Rattle.list.specs.Text as meaning
 use Rattle.list.proofs.text.refusal.Goals as goal
 
-pub returns-clause-line : goal.returns-clause-line
+pub returns : goal.returns
 unfolding meaning.refusal
-returns-clause-line c = link _ _ _ _ c.put.ensures.added (link _ _ _ _ c.put_after-b.ensures.added c.put_after-a.ensures.added)
+returns c = link _ _ _ _ c.put.ensures (link _ _ _ _ c.put_after-2.ensures.added (link _ _ _ _ c.put_after.ensures.added c.new-line.ensures))
