@@ -5,7 +5,8 @@ use mathlib.Core.List.{List, [], ◌++◌}
 use native.Mathlib.Omega.{arith}
 use native.Mathlib.Decide.{dec_lt}
 use borrow.Author.Tests.{lt-ltb, le-ltb}
-use lib.ListN.{length, set, drop, replicate}
+use lib.ListN.{length, set, take, drop, replicate}
+use lib.Seq.{length-take-le}
 use Rattle.buffers.specs.Bytes.{bytes_of}
 use Rattle.numbers.specs.Refusal.{accepted}
 use Rattle.std.specs.Prelude.{Result, Ok, Err}
@@ -17,6 +18,7 @@ use Rattle.init.specs.Plan.{plan}
 use Rattle.init.specs.Read.{read, wall_of, ended, init_read}
 use Rattle.init.specs.Read.Reading.{given, refused}
 use Rattle.init.specs.Reads.{Done, Stopped, Ran, whole}
+use Rattle.init.proofs.CutWays.{cut-read}
 use Rattle.init.specs.Back.{Back, back, read_back, Finished, Zeros}
 
 pub drop-zeros : (k n : ℕ) → drop {A = ℕ} k (replicate n 0) ≡ replicate (n - k) 0
@@ -25,16 +27,19 @@ drop-zeros (suc k) zero = let e : 0 - suc k ≡ 0 = omega arith in rw e
 drop-zeros (suc k) (suc n) = let e : suc n - suc k ≡ n - k = omega arith in rw e (drop-zeros k n)
 
 module _ (s codecs init : List ℕ) (wall : ℕ) (w : wall ≡ min (length s) most_message) (z : Zeros codecs init) where
-  same : whole s codecs wall init ≡ read s (wall_of s) (length codecs / 4) plan 0 (replicate init_words 0) []
-  same = rw (z.said, w)
+  same : whole (take wall s) codecs (length (take wall s)) init ≡ read s (wall_of s) (length codecs / 4) plan 0 (replicate init_words 0) []
+  same = cut-read s wall (omega arith) (length codecs / 4) plan 0 init [] ∙ rw (z.said, w)
 
-  module _ (o : Result State (Fault ℕ)) (init' codecs' : List ℕ) (ran : Ran codecs wall (whole s codecs wall init) o init' codecs') (n : length codecs' ≡ length codecs) where
+  cut-lies : length (take wall s) ≤ most_message
+  cut-lies = omega (arith, length-take-le wall s (omega arith))
+
+  module _ (o : Result State (Fault ℕ)) (init' codecs' : List ℕ) (ran : Ran codecs (length (take wall s)) (whole (take wall s) codecs (length (take wall s)) init) o init' codecs') (n : length codecs' ≡ length codecs) where
     module _ (f : Fault ℕ) (e : o ≡ Err f) where
-      stopped : Stopped wall (whole s codecs wall init) (number_of f.why) f.at
+      stopped : Stopped (length (take wall s)) (whole (take wall s) codecs (length (take wall s)) init) (number_of f.why) f.at
       stopped = rw e at ran
 
       pub stopped-lies : f.at ≤ most_message
-      stopped-lies = omega (arith, stopped.within)
+      stopped-lies = omega (arith, stopped.within, cut-lies)
 
       pub read-refused : (b : Back) → b ≡ read_back (length codecs') (refused (number_of f.why) f.at) → b ≡ read_back (length codecs) (init_read s (length codecs / 4))
       unfolding init_read ended
@@ -43,11 +48,11 @@ module _ (s codecs init : List ℕ) (wall : ℕ) (w : wall ≡ min (length s) mo
           g ∙ rw (h, n)
 
     module _ (st : State) (e : o ≡ Ok st) where
-      through : Done codecs wall (whole s codecs wall init) st.at st.used init' codecs'
+      through : Done codecs (length (take wall s)) (whole (take wall s) codecs (length (take wall s)) init) st.at st.used init' codecs'
       through = rw e at ran
 
       pub done-lies : st.at ≤ most_message
-      done-lies = omega (arith, through.within)
+      done-lies = omega (arith, through.within, cut-lies)
 
       pub done-few : st.used ≤ 2 * st.at
       done-few = through.few

@@ -9,6 +9,7 @@ pub mod ReaderWent
 pub mod ReaderGoes
 pub mod Theorems
 pub mod ReadWays
+pub mod CutWays
 pub mod BackWays
 pub mod WriteWays
 pub mod StepWays

@@ -1,4 +1,4 @@
-// An item read from a place of a message, below a wall.
+// An item read from a place of a message, which ends at the wall.
 ghost use Rattle.std.specs.Prelude.{◌≡◌, ◌≤◌, ◌<◌, length};
 ghost use Rattle.numbers.specs.Limit.{most_vlu8, most_message};
 ghost use Rattle.numbers.specs.Refused.{answered};
@@ -20,23 +20,22 @@ pub struct Found {
 
 // A byte, and the place past it.
 #[tactic(auto, unfolding(crate::specs::Items::byte_at, crate::specs::Found::number_is))]
-fn byte_at(s: &[u8], wall: usize, at: usize) -> Result<(u8, usize), Refusal>
-    requires { wall ≤ length s.now }
-    ensures { number_is result ≡ meaning.byte_at s.now wall at }
+fn byte_at(s: &[u8], at: usize) -> Result<(u8, usize), Refusal>
+    ensures { number_is result ≡ meaning.byte_at s.now (length s.now) at }
 {
-    if at < wall {
+    if at < s.len() {
         return Ok((s[at], at + 1));
     }
     Err(Refusal::PastEnd)
 }
 
 // The second byte of a vluimsbf8 whose first holds the seven bits x.
-fn second_at(s: &[u8], wall: usize, x: u8, at: usize) -> Result<(u16, usize), Refusal>
-    requires { (wall ≤ length s.now) × (x < 128) }
-    ensures is { number_is result ≡ meaning.second_at s.now wall x at }
+fn second_at(s: &[u8], x: u8, at: usize) -> Result<(u16, usize), Refusal>
+    requires { x < 128 }
+    ensures is { number_is result ≡ meaning.second_at s.now (length s.now) x at }
     ensures small { number_in result ≤ most_vlu8 }
 {
-    let (y, next) = byte_at(s, wall, at)?;
+    let (y, next) = byte_at(s, at)?;
     if 128 <= y {
         return Err(Refusal::TooLarge);
     }
@@ -47,32 +46,30 @@ fn second_at(s: &[u8], wall: usize, x: u8, at: usize) -> Result<(u16, usize), Re
 }
 
 // A vluimsbf8 of at most two bytes in shortest form.
-fn number_at(s: &[u8], wall: usize, at: usize) -> Result<(u16, usize), Refusal>
-    requires { wall ≤ length s.now }
-    ensures is { number_is result ≡ meaning.number_at s.now wall at }
+fn number_at(s: &[u8], at: usize) -> Result<(u16, usize), Refusal>
+    ensures is { number_is result ≡ meaning.number_at s.now (length s.now) at }
     ensures small { number_in result ≤ most_vlu8 }
 {
-    let (x, next) = byte_at(s, wall, at)?;
+    let (x, next) = byte_at(s, at)?;
     if x < 128 {
         return Ok((u16::from(x), next));
     }
-    second_at(s, wall, x - 128, next)
+    second_at(s, x - 128, next)
 }
 
 // An item's own number.
 #[tactic(auto, unfolding(crate::specs::Items::head_at, crate::specs::Items::head_of, crate::specs::Found::number_is, crate::specs::Found::number_in))]
-fn head_at(item: Item, s: &[u8], wall: usize, at: usize) -> Result<(u16, usize), Refusal>
-    requires { wall ≤ length s.now }
-    ensures is { number_is result ≡ meaning.head_at (meaning.head_of item) s.now wall at }
+fn head_at(item: Item, s: &[u8], at: usize) -> Result<(u16, usize), Refusal>
+    ensures is { number_is result ≡ meaning.head_at (meaning.head_of item) s.now (length s.now) at }
     ensures small { number_in result ≤ most_vlu8 }
 {
     match item {
         Item::UnitByte | Item::Flags(_) | Item::Formats => {
-            let (x, next) = byte_at(s, wall, at)?;
+            let (x, next) = byte_at(s, at)?;
             Ok((u16::from(x), next))
         }
         Item::NoFlags | Item::NoFormats => Ok((0, at)),
-        _ => number_at(s, wall, at),
+        _ => number_at(s, at),
     }
 }
 
@@ -171,13 +168,21 @@ fn rest_at(item: Item, wall: usize, v: u16, p: usize) -> Result<Found, Refusal>
 }
 
 // An item.
+pub(crate) fn item_in(item: Item, s: &[u8], at: usize) -> Result<Found, Refusal>
+    ensures is { found_is result ≡ meaning.item_at item s.now (length s.now) at }
+    ensures small { found_in result ≤ most_vlu8 }
+{
+    let (v, p) = head_at(item, s, at)?;
+    rest_at(item, s.len(), v, p)
+}
+
+// An item of a message with more behind its wall.
 pub fn item_at(item: Item, s: &[u8], wall: usize, at: usize) -> Result<Found, Refusal>
     requires { wall ≤ length s.now }
     ensures is { found_is result ≡ meaning.item_at item s.now wall at }
     ensures small { found_in result ≤ most_vlu8 }
 {
-    let (v, p) = head_at(item, s, wall, at)?;
-    rest_at(item, wall, v, p)
+    item_in(item, &s[..wall], at)
 }
 
 // An item's words.

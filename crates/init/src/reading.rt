@@ -1,5 +1,5 @@
 // A start-up message read, item by item.
-ghost use Rattle.std.specs.Prelude.{◌≡◌, false, List, ℕ, ◌+◌, ◌*◌, ◌/◌, ◌≤◌, Err, min, length};
+ghost use Rattle.std.specs.Prelude.{◌≡◌, false, List, ℕ, ◌+◌, ◌*◌, ◌/◌, ◌≤◌, Err, length};
 ghost use Rattle.numbers.specs.Limit.{init_words, most_message};
 ghost use Rattle.numbers.specs.Refused.{number_of};
 ghost use Rattle.init.specs.Phases.{reach, grown, ends};
@@ -9,7 +9,7 @@ ghost use Rattle.init.specs.Back.{back_is, read_back, Finished, Zeros};
 ghost use Rattle.init.specs.Lent.{Same};
 ghost use Rattle.init.specs.Reads.{words_in, width_in, slot_index, Carried, Reads, Turned, Ran, whole};
 
-use crate::items::{Found, Words, item_at, words_of};
+use crate::items::{Found, Words, item_in, words_of};
 use crate::lent::Lent;
 use crate::phases::{is_end, next, row};
 use crate::{Phase, Slot};
@@ -51,26 +51,27 @@ fn store_item(
 }
 
 // One item read, and its words stored.
-fn read_item(message: &[u8], wall: usize, lent: &mut Lent<'_>, st: State) -> Result<State, Refusal>
-    requires wall { (wall ≤ length message.now) × (wall ≤ most_message) }
+fn read_item(message: &[u8], lent: &mut Lent<'_>, st: State) -> Result<State, Refusal>
+    requires few { length message.now ≤ most_message }
     requires lies { reach st.phase ≤ init_words }
     requires goes { ends st.phase ≡ false }
     ensures same { Same lent.old lent.new }
     ensures turned { (b : List ℕ) (answer : Reading)
-        → Reads message.now b wall answer st lent.old.init.now lent.old.codecs.now
-        → Turned message.now b wall answer st result lent.new.init.now lent.new.codecs.now }
+        → Reads message.now b (length message.now) answer st lent.old.init.now lent.old.codecs.now
+        → Turned message.now b (length message.now) answer st result lent.new.init.now lent.new.codecs.now }
 {
     let (item, slot) = row(st.phase);
-    let found = item_at(item, message, wall, st.at)?;
+    let found = item_in(item, message, st.at)?;
     let w = words_of(item, found.number, found.content);
     store_item(lent, st, slot, w, found.number, found.end)
 }
 
 // Item by item up to the end, or to a refusal and its byte.
-fn read_items(message: &[u8], wall: usize, lent: &mut Lent<'_>) -> Result<State, Fault<usize>>
-    requires wall { (wall ≤ length message.now) × (wall ≤ most_message) }
+fn read_items(message: &[u8], lent: &mut Lent<'_>) -> Result<State, Fault<usize>>
+    requires few { length message.now ≤ most_message }
     ensures same { Same lent.old lent.new }
-    ensures ran { Ran lent.old.codecs.now wall (whole message.now lent.old.codecs.now wall lent.old.init.now) result
+    ensures ran { Ran lent.old.codecs.now (length message.now)
+        (whole message.now lent.old.codecs.now (length message.now) lent.old.init.now) result
         lent.new.init.now lent.new.codecs.now }
 {
     let mut st = State {
@@ -79,7 +80,7 @@ fn read_items(message: &[u8], wall: usize, lent: &mut Lent<'_>) -> Result<State,
         used: 0,
     };
     while !is_end(st.phase) {
-        match read_item(message, wall, lent, st) {
+        match read_item(message, lent, st) {
             Err(why) => {
                 return Err(Fault { why, at: st.at });
             }
@@ -119,15 +120,15 @@ fn finish(bytes: usize, lent: &mut Lent<'_>, at: usize, used: usize) -> Result<u
 }
 
 // A message read up to the wall, where both buffers are zeros.
-fn read_up_to(message: &[u8], wall: usize, lent: &mut Lent<'_>) -> Result<usize, Fault<usize>>
-    requires wall { wall ≡ min (length message.now) most_message }
-    requires zeros { Zeros lent.old.codecs.now lent.old.init.now }
+fn read_up_to_wall(message: &[u8], lent: &mut Lent<'_>) -> Result<usize, Fault<usize>>
+    requires { Zeros lent.old.codecs.now lent.old.init.now }
     ensures same { Same lent.old lent.new }
     ensures back { back_is result lent.new.init.now lent.new.codecs.now
         ≡ read_back (length lent.old.codecs.now)
         (init_read message.now (length lent.old.codecs.now / 4)) }
 {
-    match read_items(message, wall, lent) {
+    let wall = message.len().min(limit::MOST_MESSAGE);
+    match read_items(&message[..wall], lent) {
         Err(fault) => Err(refuse(lent, fault.why, fault.at)),
         Ok(st) => finish(message.len(), lent, st.at, st.used),
     }
@@ -142,6 +143,5 @@ pub fn read(message: &[u8], codecs: &mut [u8], init: &mut [u32]) -> Result<usize
 {
     let mut lent = Lent { init, codecs };
     lent.clear();
-    let wall = message.len().min(limit::MOST_MESSAGE);
-    read_up_to(message, wall, &mut lent)
+    read_up_to_wall(message, &mut lent)
 }

@@ -1,18 +1,7 @@
-use native.Mathlib.Omega.{arith}
-use Rattle.std.proofs.lemmas.Grind.{common_steps}
-use Rattle.wire.specs.Res.{◌>>=◌}
-use Rattle.init.specs.Items.{item_at}
-use Rattle.init.specs.Found.{number_is, number_in, found_is, found_in}
+-- `item_at`: an item of the message cut at the wall.
+use mathlib.Core.Path.{◌∙◌}
+use Rattle.init.proofs.CutWays.{cut-item}
 use Rattle.init.proofs.items.item_at.Goals as goal
 
-pub rest_at-requires : goal.rest_at-requires
-unfolding number_in
-rest_at-requires c = grind (arith, common_steps)
-
-pub returns-in_err-v : goal.returns-in_err-v
-unfolding item_at number_is found_is number_in found_in ◌>>=◌
-returns-in_err-v c = grind (arith, common_steps)
-
-pub returns : goal.returns
-unfolding item_at number_is number_in ◌>>=◌
-returns c = grind (arith, common_steps)
+pub returns-clause-is : goal.returns-clause-is
+returns-clause-is c = c.item_in.ensures.is ∙ cut-item _ _ c.requires _ _

@@ -12,7 +12,7 @@ loop-lent-init c = (omega arith, record { init = refl; codecs = refl; room = ref
 
 pub read_item-requires : goal.read_item-requires
 unfolding ends
-read_item-requires c = record { wall = search rules; lies = search rules; goes = search rules }
+read_item-requires c = record { few = search rules; lies = search rules; goes = search rules }
 
 pub returns-in-Err-clause-ran : goal.returns-in-Err-clause-ran
 returns-in-Err-clause-ran c = let v = c.loop-lent in turn-stops _ _ _ _ v.st c.read_item.result _ _ (c.read_item.ensures.turned _ _ v.invariant.2) _ (search rules) v.invariant.2.within

@@ -1,6 +1,6 @@
 use Rattle.init.proofs.BackWays.{read-ways}
 use borrow.Author.Rules.{rules}
-use Rattle.init.proofs.reading.read_up_to.Goals as goal
+use Rattle.init.proofs.reading.read_up_to_wall.Goals as goal
 
 pub refuse-requires : goal.refuse-requires
 refuse-requires c = search (rules, read-ways)
