@@ -1,10 +1,10 @@
 -- A report that a payload's reading is added to: what the reader's answer and list are to it.
-use Prim.Native.Nat.{ℕ, ◌+◌, ◌*◌, ◌≤◌}
+use Prim.Native.Nat.{ℕ, zero, suc, ◌+◌, ◌*◌, ◌/◌, ◌≤◌}
 use mathlib.Core.Path.{◌≡◌, refl, sym, ap, ◌∙◌}
 use mathlib.Core.List.{List, [], ◌∷◌, ◌++◌, append_assoc}
 use native.Mathlib.Omega.{arith}
 use lib.ListN.{length, get_or, take, drop, length-append}
-use lib.Seq.{get_or-append-add}
+use lib.Seq.{get_or-append-add, get_or-take, length-take-le}
 use Rattle.numbers.specs.Limit.{most_events, most_event_words, most_payload}
 use Rattle.model.specs.Model.{Event, events}
 use Rattle.model.specs.Whole.{Reply, Outcome, reading, outcome, event_words, events_left, filled}
@@ -38,6 +38,23 @@ events-from p (e ∷ L) z i h =
     let n : length q ≡ 4 * (i + 1) = simp length-append (omega arith) in
     let rest : events_in w (i + 1) (length L) ≡ L = ap (λ (x : List ℕ). events_in x (i + 1) (length L)) m ∙ events-from q L z (i + 1) n in
     ap (λ (x : Event). x ∷ events_in w (i + 1) (length L)) one ∙ ap (λ (x : List Event). e ∷ x) rest
+
+-- the events of the words that are cut off
+events-cut : (w : List ℕ) (i n m : ℕ) → i + n ≤ m → events_in (take (4 * m) w) i n ≡ events_in w i n
+unfolding events_in
+events-cut w i zero m h = refl
+events-cut w i (suc n) m h =
+    let a = get_or-take (4 * m) w (4 * i) 0 (omega arith) in
+    let b = get_or-take (4 * m) w (4 * i + 1) 0 (omega arith) in
+    let c = get_or-take (4 * m) w (4 * i + 2) 0 (omega arith) in
+    let d = get_or-take (4 * m) w (4 * i + 3) 0 (omega arith) in
+    rw (a, b, c, d, events-cut w (i + 1) n m (omega arith))
+
+pub cut-count : (w : List ℕ) (n : ℕ) → 4 * n ≤ length w → length (take (4 * n) w) / 4 ≡ n
+cut-count w n h = let e = length-take-le (4 * n) w h in omega arith
+
+pub cut-events : (w : List ℕ) (n : ℕ) → 4 * n ≤ length w → events_in (take (4 * n) w) 0 (length (take (4 * n) w) / 4) ≡ events_in w 0 n
+cut-events w n h = ap (λ (k : ℕ). events_in (take (4 * n) w) 0 k) (cut-count w n h) ∙ events-cut w 0 n n (omega arith)
 
 -- what the reader answered is enough to be added
 pub record Ready (s : List ℕ) (r : Answer) : Type 0 where
@@ -125,11 +142,14 @@ bytes-added t party name type s k w B r B' told e a =
       report = a'.report ∙ ap bytes_of (sym (lent_same t party name type s 32768 8192 k (λ (x : Reply). added (length s) x (numbers_in B)) (λ i j. refl) told));
     }
 
-pub lent-added : (t : List ℕ) (k room party name type : ℕ) (s : List ℕ) (r : Answer) (E T : List ℕ) (W X : ℕ) (w : W ≡ most_event_words) (x : X ≡ most_payload) (B B' : List ℕ) (bits : ℕ)
-    → Lends k (length t) room → ReadLent t k party name type s W X r E T → bits ≡ (answer_is r).bits → B' ≡ bytes_of (adds (answer_is r).number (length s) bits (events_in E 0 (answer_is r).events) (numbers_in B))
-    → AddedBy (read_for_report t party name type s) (length s) B (answer_is r).number B'
-lent-added t k room party name type s r E T W X w x B B' bits l h e f =
-    bytes-added t party name type s k (take k (words_of t)) B (answer_is r).number B' (lent-tell t k room l) refl (words-added-in (take k (words_of t)) party name type s r E T W X w x h B B' bits e f)
+-- n, bits and e are what was read, as it was added
+pub lent-added : (t : List ℕ) (k room party name type : ℕ) (s : List ℕ) (r : Answer) (E T : List ℕ) (W X : ℕ) (w : W ≡ most_event_words) (x : X ≡ most_payload) (fit : length E ≡ most_event_words) (B B' : List ℕ) (n bits : ℕ) (e : List ℕ)
+    → Lends k (length t) room → ReadLent t k party name type s W X r E T → n ≡ (answer_is r).number → bits ≡ (answer_is r).bits → e ≡ take (4 * (answer_is r).events) E
+    → B' ≡ bytes_of (adds n (length s) bits (events_in e 0 (length e / 4)) (numbers_in B)) → AddedBy (read_for_report t party name type s) (length s) B n B'
+lent-added t k room party name type s r E T W X w x fit B B' n bits e l h a b c f =
+    let l' = take k (words_of t) in
+    let g = cut-events E (answer_is r).events (ready-whole l' party name type s r E T W X w x h (length E) fit) in
+    rw a (bytes-added t party name type s k l' B (answer_is r).number B' (lent-tell t k room l) refl (words-added-in l' party name type s r E T W X w x h B B' bits b (rw (a, c, g) at f)))
 
 -- the words that were loaded are those of the table
 pub words-read : (t room words : List ℕ) (party name type : ℕ) (s : List ℕ) (k W X : ℕ) (r : Answer) (E T : List ℕ) → Lends k (length t) (length room) → words ≡ take k (words_of t) ++ drop k room

@@ -1,6 +1,8 @@
 // A payload read, and what its reading comes to added to a report.
-ghost use Rattle.std.specs.Prelude.{◌≡◌, length};
+ghost use Rattle.std.specs.Prelude.{◌≡◌, ◌*◌, ◌≤◌, length, take};
 ghost use Rattle.numbers.specs.Limit.{most_table_words};
+ghost use Rattle.numbers.specs.Refused.{answered};
+ghost use Rattle.report.specs.Answers.{bits_used, words_read};
 ghost use Rattle.report.specs.Places.{report_bytes};
 ghost use Rattle.reader.specs.Answers.{answer_is};
 ghost use Rattle.call_parts.specs.TableRoom.{Lends};
@@ -10,9 +12,10 @@ use buffers::load;
 use call_parts::asked::{Asked, In, Out, Room};
 use call_parts::rooms::with_table_room;
 use call_parts::tables::words_lent;
+use numbers::refusal::Refusal;
 use numbers::{limit, refusal};
 use reader::{Reading, Refused, read};
-use report::add;
+use report::{Used, add};
 
 // Reads into words by a table's bytes: the n words of it that are looked at, in room lent for them.
 fn read_in_room(
@@ -49,13 +52,19 @@ fn read_words(
     )
 }
 
-// What a reading adds: its number, the bits used, how many events.
-fn counted(a: Result<Reading, Refused>) -> (u32, u32, u32)
-    ensures { result ≡ ((answer_is a).number, (answer_is a).bits, (answer_is a).events) }
+// What a reading into words adds.
+fn counted(a: Result<Reading, Refused>, list: &[u32]) -> Result<Used<'_>, Refusal>
+    requires { 4 * (answer_is a).events ≤ length list.now }
+    ensures number { answered result ≡ (answer_is a).number }
+    ensures bits { bits_used result ≡ (answer_is a).bits }
+    ensures words { words_read result ≡ take (4 * (answer_is a).events) list.now }
 {
     match a {
-        Ok(r) => (refusal::ACCEPTED, r.bits.0, r.events),
-        Err(r) => (r.fault.why.number(), 0, 0),
+        Ok(r) => Ok(Used {
+            bits: u64::from(r.bits.0),
+            words: &list[..4 * r.events as usize],
+        }),
+        Err(r) => Err(r.fault.why),
     }
 }
 
@@ -69,15 +78,10 @@ pub fn add_bytes(table: In, by: Asked, payload: In, report: Out) -> u32
     let mut texts = [0u8; limit::MOST_PAYLOAD];
     let n = words_lent(table.len());
     let a = read_words(table, n, by, payload, &mut list, &mut texts);
-    let (number, used, count) = counted(a);
-    let bits = u64::from(used);
-    add(
-        report,
-        number,
-        payload.len() as u64,
-        bits,
-        &list,
-        count as usize,
-    );
-    number
+    let read = counted(a, &list);
+    add(report, payload.len() as u64, read);
+    match read {
+        Ok(_) => refusal::ACCEPTED,
+        Err(why) => why.number(),
+    }
 }

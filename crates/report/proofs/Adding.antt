@@ -5,9 +5,12 @@ use mathlib.Core.Bool.{Bool, true, false, cond}
 use mathlib.Core.List.{List, []}
 use Rattle.std.specs.Prelude.{Option, Some, None}
 use native.Mathlib.Omega.{arith}
-use borrow.Author.Tests.{lt-ltb, le-ltb, eq-eqb, ne_eqb}
+use borrow.Author.Tests.{lt-ltb, eq-eqb, ne_eqb}
 use lib.ListN.{length, get_or, set, drop}
 use lib.Seq.{get_or-set_same, get_or-drop}
+use Rattle.numbers.specs.declared.refusal.Refusal.{Refusal}
+use Rattle.numbers.specs.Refused.{number_of}
+use Rattle.numbers.proofs.Refusals.{number-some}
 use Rattle.model.specs.Model.{Event}
 use Rattle.report.specs.Eights.{numbers_of, bytes_of}
 use Rattle.report.specs.Places.{numbers, report_bytes, limit, answered, answers}
@@ -94,21 +97,17 @@ module _ (s : List ℕ) (octets : Octets s) (goes : at (numbers_in s) 0 ≡ 0) w
         f ∙ ap (λ (x : ℕ). set R (answered + answer) x) (g ∙ ap (λ (x : ℕ). x + 1) e)
         ∙ sym (placed h ∙ rw (fits-true (plus (answered + answer) 1 R) (fits-set R (answered + answer) (at R (answered + answer) + 1) (numbers_fit numbers s octets) (omega arith))))
 
-    pub refused-nowhere : answers ≤ answer → numbers_in s ≡ adds answer bytes bits L (numbers_in s)
-    unfolding R settled sums refuses
-    refused-nowhere h = sym (going answer bytes bits L R goes ∙ go answer refused h)
-      where
-        go : (k : ℕ) → 0 < k → answers ≤ k → settled R (sums k bytes bits L R) ≡ R
-        go zero a b = absurd (omega arith)
-        go (suc k) a b = rw (le-ltb (suc k) answers b, fits-true R (numbers_fit numbers s octets))
+-- a refusal has a place, behind that of what was accepted
+pub refusal-some : (e : Refusal) → 0 < number_of e
+refusal-some e = grind (arith, number-some)
+
+pub refusal-placed : (e : Refusal) → number_of e < answers
+refusal-placed e = grind arith
 
 -- the ways of the whole, from a report s to its bytes r
 module _ (answer bytes bits : ℕ) (L : List Event) (s r : List ℕ) (size : length r ≡ report_bytes) (octets : Octets r) where
   pub whole-stays : numbers_in r ≡ adds answer bytes bits L (numbers_in s) → r ≡ bytes_of (adds answer bytes bits L (numbers_in s))
   whole-stays e = whole_back r size octets ∙ ap bytes_of e
-
-  pub whole-accepted : answer ≡ 0 → numbers_in r ≡ adds 0 bytes bits L (numbers_in s) → r ≡ bytes_of (adds answer bytes bits L (numbers_in s))
-  whole-accepted e f = whole-stays (rw e f)
 
   pub whole-refused : (answer ≡ 0 → ⊥) → numbers_in r ≡ adds answer 0 0 [] (numbers_in s) → r ≡ bytes_of (adds answer bytes bits L (numbers_in s))
   unfolding adds sums

@@ -7,7 +7,7 @@ use native.Mathlib.Omega.{arith}
 use native.Mathlib.Numerals.{add-one}
 use borrow.Author.Tests.{eq-eqb, ne_eqb}
 use lib.ListN.{length, get_or, set, take, drop, drop_of_length-le}
-use lib.Seq.{get_or-set_same, get_or-set_other, get_or-take, get_or-drop, length-take-le, drop-cons, drop-drop}
+use lib.Seq.{get_or-set_same, get_or-set_other, get_or-take, get_or-drop, drop-cons, drop-drop}
 use Rattle.std.specs.Simd.{first_chunks}
 use Rattle.model.specs.Model.{Event}
 use Rattle.report.specs.Eights.{number_from}
@@ -118,23 +118,6 @@ events-by-fours w i (suc n) =
 
 pub events-begin : (w : List ℕ) (E : List (List ℕ)) (R : List ℕ) → E ≡ first_chunks 4 (length w / 4) w → counts_in (events_of E) [] R ≡ counts_in (events_in w 0 (length w / 4)) [] R
 events-begin w E R e = ap (λ (L : List Event). counts_in L [] R) (ap events_of e ∙ events-by-fours w 0 (length w / 4))
-
--- the events of the words that are cut off
-events-cut : (w : List ℕ) (i n m : ℕ) → i + n ≤ m → events_in (take (4 * m) w) i n ≡ events_in w i n
-unfolding events_in
-events-cut w i zero m h = refl
-events-cut w i (suc n) m h =
-    let a = get_or-take (4 * m) w (4 * i) 0 (omega arith) in
-    let b = get_or-take (4 * m) w (4 * i + 1) 0 (omega arith) in
-    let c = get_or-take (4 * m) w (4 * i + 2) 0 (omega arith) in
-    let d = get_or-take (4 * m) w (4 * i + 3) 0 (omega arith) in
-    rw (a, b, c, d, events-cut w (i + 1) n m (omega arith))
-
-pub cut-count : (w : List ℕ) (n : ℕ) → 4 * n ≤ length w → length (take (4 * n) w) / 4 ≡ n
-cut-count w n h = let e = length-take-le (4 * n) w h in omega arith
-
-pub cut-events : (w : List ℕ) (n : ℕ) → 4 * n ≤ length w → events_in (take (4 * n) w) 0 (length (take (4 * n) w) / 4) ≡ events_in w 0 n
-cut-events w n h = ap (λ (k : ℕ). events_in (take (4 * n) w) 0 k) (cut-count w n h) ∙ events-cut w 0 n n (omega arith)
 
 -- the same of a search that has passed k lines
 module _ (R : List ℕ) (name k : ℕ) (h : k < lines) (so_far : line_of R name ≡ line_from R name (lines - k) (72 + 4 * k)) where

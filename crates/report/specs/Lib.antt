@@ -1,3 +1,4 @@
+pub mod Answers
 pub mod Eights
 pub mod Places
 pub mod Owners

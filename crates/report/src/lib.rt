@@ -13,12 +13,21 @@ ghost use Rattle.report.specs.Eights.{bytes_of};
 ghost use Rattle.report.specs.Places.{report_bytes};
 ghost use Rattle.report.specs.Report.{at, adds};
 ghost use Rattle.report.specs.Sums.{sum_of, numbers_in, events_in, accepts_in};
+ghost use Rattle.report.specs.Answers.{bits_used, events_read, words_read};
+ghost use Rattle.numbers.specs.Refused.{answered, number_of};
 
 use counting::count_events;
 use eights::{number, put_number};
 use lines::plus;
-use numbers::refusal;
+use numbers::refusal::Refusal;
 use places::Report;
+
+// What was read of an accepted payload: how many bits it used, and the words of its events.
+#[derive(Clone, Copy)]
+pub struct Used<'a> {
+    pub bits: u64,
+    pub words: &'a [u32],
+}
 
 // What an accepted payload of so many bytes adds, of which it used so many bits; nothing where a number would pass.
 #[tactic(auto, unfolding(crate::specs::Sums::accepts_in, crate::specs::Sums::and_then))]
@@ -52,33 +61,29 @@ fn add_accepted(report: &mut Report, bytes: u64, bits: u64, words: &[u32])
     }
 }
 
-// A payload that was refused.
-fn add_refused(report: &mut Report, answer: u32)
-    requires refused { 0 < answer }
+// A payload that was refused. Every refusal has its place.
+fn add_refused(report: &mut Report, why: Refusal)
     requires goes { at (numbers_in report.old) 0 ≡ 0 }
-    ensures { numbers_in report.new ≡ adds answer 0 0 [] (numbers_in report.old) }
+    ensures { numbers_in report.new ≡ adds (number_of why) 0 0 [] (numbers_in report.old) }
 {
-    if answer < places::ANSWERS {
-        let i = places::ANSWERED + (answer as usize);
-        match number(report, i).checked_add(1) {
-            None => put_number(report, places::STOPPED, 1),
-            Some(sum) => put_number(report, i, sum),
-        }
+    let i = places::ANSWERED + why.number() as usize;
+    match number(report, i).checked_add(1) {
+        None => put_number(report, places::STOPPED, 1),
+        Some(sum) => put_number(report, i, sum),
     }
 }
 
-// What the reading of a payload of so many bytes adds: its answer, and of an accepted one the bits used and the events.
+// What the reading of a payload of so many bytes adds: of an accepted one the bits used and the events, else its refusal.
 // A report that has stopped stays as it is. Never inlined, so that the rooms in which it counts do not stand in the frame
 // from which a payload is read before.
 #[inline(never)]
-pub fn add(report: &mut [u8], answer: u32, bytes: u64, bits: u64, words: &[u32], count: usize)
+pub fn add(report: &mut [u8], bytes: u64, read: Result<Used<'_>, Refusal>)
     requires size { length report.old ≡ report_bytes }
-    requires whole { 4 * count ≤ length words.now }
-    requires few { count ≤ most_events }
-    requires used { bits ≤ 8 * bytes }
-    requires most { answer ≡ 0 → bytes ≤ most_payload }
+    requires few { length (words_read read) / 4 ≤ most_events }
+    requires used { bits_used read ≤ 8 * bytes }
+    requires most { answered read ≡ 0 → bytes ≤ most_payload }
     ensures { report.new
-        ≡ bytes_of (adds answer bytes bits (events_in words.now 0 count) (numbers_in report.old)) }
+        ≡ bytes_of (adds (answered read.entry) bytes (bits_used read.entry) (events_read read.entry) (numbers_in report.old)) }
 {
     let Some(s) = report.as_mut_array() else {
         unreachable!()
@@ -86,9 +91,8 @@ pub fn add(report: &mut [u8], answer: u32, bytes: u64, bits: u64, words: &[u32],
     if number(s, places::STOPPED) != 0 {
         return;
     }
-    if answer == refusal::ACCEPTED {
-        add_accepted(s, bytes, bits, &words[..4 * count]);
-    } else {
-        add_refused(s, answer);
+    match read {
+        Ok(used) => add_accepted(s, bytes, used.bits, used.words),
+        Err(why) => add_refused(s, why),
     }
 }

@@ -12,8 +12,6 @@ pub const MODE_BITS: usize = 2;
 pub const PADDING_BITS: usize = 3;
 
 pub const ANSWERED: usize = 4;
-// The answers that have a place.
-pub const ANSWERS: u32 = 64;
 // The line of all names that have none.
 pub const OTHER: usize = 68;
 

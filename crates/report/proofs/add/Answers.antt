@@ -1,9 +1,9 @@
-use mathlib.Core.Path.{sym, ap, ◌∙◌}
-use lib.ListN.{length}
 -- `add`: stopped, accepted or refused.
+use mathlib.Core.Path.{refl, sym, ap, ◌∙◌}
+use lib.ListN.{length}
 use native.Mathlib.Omega.{arith}
-use Rattle.report.proofs.Adding.{whole-stays, whole-accepted, whole-refused, stays-stopped}
-use Rattle.report.proofs.Ways.{cut-count, cut-events}
+use Rattle.numbers.proofs.Refusals.{number-some}
+use Rattle.report.proofs.Adding.{whole-stays, whole-refused, stays-stopped}
 use Rattle.report.proofs.add.Goals as goal
 
 pub returns-then-number-ne0 : goal.returns-then-number-ne0
@@ -12,16 +12,11 @@ returns-then-number-ne0 c = rw (← c.in-Some.ensures.cases.same) (
     )
 
 pub add_accepted-requires : goal.add_accepted-requires
-add_accepted-requires c = let p = c.requires in
-    let n = cut-count _ c.args.count p.whole in
-    record { few = omega arith; used = p.used; most = p.most c.if-answer-eq-ACCEPTED.true; goes = sym c.number.ensures ∙ c.if-number-ne0.false }
+add_accepted-requires c = let e = c.in-Ok.is in let p = c.requires in
+    record { few = rw e at p.few; used = rw e at p.used; most = (rw e at p.most) refl; goes = sym c.number.ensures ∙ c.if-number-ne0.false }
 
-pub returns-then-answer-eq-ACCEPTED : goal.returns-then-answer-eq-ACCEPTED
-returns-then-answer-eq-ACCEPTED c = rw (← cut-events c.args.words.now c.args.count c.requires.whole, ← c.in-Some.ensures.cases.same) (
-    whole-accepted _ _ _ _ _ _ (omega arith) (λ k. grind arith) c.if-answer-eq-ACCEPTED.true c.add_accepted.ensures
-    )
+pub returns-in-Ok : goal.returns-in-Ok
+returns-in-Ok c = rw (c.in-Ok.is, ← c.in-Some.ensures.cases.same) (whole-stays _ _ _ _ _ _ (omega arith) (λ k. grind arith) c.add_accepted.ensures)
 
-pub returns-else-answer-eq-ACCEPTED : goal.returns-else-answer-eq-ACCEPTED
-returns-else-answer-eq-ACCEPTED c = rw (← c.in-Some.ensures.cases.same) (
-    whole-refused _ _ _ _ _ _ (omega arith) (λ k. grind arith) c.if-answer-eq-ACCEPTED.false c.add_refused.ensures
-    )
+pub returns-in-Err : goal.returns-in-Err
+returns-in-Err c = rw (c.in-Err.is, ← c.in-Some.ensures.cases.same) (whole-refused _ _ _ _ _ _ (omega arith) (λ k. grind arith) (number-some c.in-Err.why) c.add_refused.ensures)
