@@ -7,7 +7,13 @@ use native.Mathlib.Omega.{arith}
 use borrow.Rule.Slice.PartMut.{mid_of, put_mid, mid_len}
 use lib.ListN.{length, take, drop, replicate, length-append, length-drop}
 use lib.Seq.{length-take-le, take_at}
+use Rattle.std.specs.Prelude.{Result, Ok, Err}
 use Rattle.numbers.specs.Limit as limit
+use Rattle.numbers.specs.Refusal.{event_room}
+use Rattle.numbers.specs.Refused.{answered}
+use Rattle.numbers.specs.declared.refusal.Refusal.{Refusal}
+use Rattle.numbers.specs.declared.refusal.Refusal.TheVariants as refusal
+use Rattle.numbers.proofs.Refusals.{number-one}
 use Rattle.model.specs.Whole.{Reply, Outcome, outcome, reading, after_verdict, events_left, texts_left}
 use Rattle.reader.specs.Answers.{Answer, answer_is}
 use Rattle.buffers.specs.Bytes.{words_of, bytes_of, stored}
@@ -89,3 +95,8 @@ module _ {e x r : ℕ} {A E X : List ℕ} where
 pub again-read : (l : List ℕ) (party name type : ℕ) (s : List ℕ) (e e' x x' r : ℕ) (A E X : List ℕ) → e' ≡ e → x' ≡ x
     → ReadBack (reading l party name type s (slot_words e') x') e' x' r A E X → ReadBack (reading l party name type s (slot_words e) x) e x r A E X
 again-read l party name type s e e' x x' r A E X h k b = rw (h, k) at b
+
+-- the one refusal of that number
+pub only-room : (a : Result (Unit {0}) Refusal) → answered a ≡ event_room → a ≡ Err refusal.EventRoom
+only-room (Ok u) e = absurd (omega (arith, e))
+only-room (Err x) e = ap (λ (y : Refusal). Err y) (number-one e)

@@ -6,6 +6,7 @@ pub mod reports; // reports.rt: what a reading comes to, added
 ghost use Rattle.std.specs.Prelude.{◌≡◌, length, ◌*◌, ◌≤◌, min};
 ghost use Rattle.numbers.specs.Limit as limit;
 ghost use Rattle.numbers.specs.Limit.{most_event_words, most_names, most_table_words};
+ghost use Rattle.numbers.specs.Refused.{answered};
 ghost use Rattle.reader.specs.Answers.{answer_is};
 ghost use Rattle.call_parts.specs.Promises.{Fits, Told};
 ghost use Rattle.call_parts.specs.EventRoom.{slot_words};
@@ -36,19 +37,19 @@ fn slot_words(bytes: usize) -> usize
     limit::MOST_EVENT_WORDS
 }
 
-// What the reader answered; the number is given back.
-fn tell_answer(area: &mut [u8], a: Result<Reading, Refused>) -> u32
+// Tells what the reader answered; only why it refuses is given back.
+fn tell_answer(area: &mut [u8], a: Result<Reading, Refused>) -> Result<(), Refusal>
     requires { (length area.old ≡ limit.area) × (length (answer_is a).path ≤ most_names) }
-    ensures { Told area (answer_is a) result }
+    ensures { Told area (answer_is a) (answered result) }
 {
     match a {
         Ok(r) => {
             tell(area, 0, r.mode, r.events, r.text.0, r.bits.0, &[]);
-            refusal::ACCEPTED
+            Ok(())
         }
         Err(r) => {
             tell(area, r.fault.at, 0, 0, 0, 0, &r.path.names[..r.path.count]);
-            r.fault.why.number()
+            Err(r.fault.why)
         }
     }
 }
@@ -73,10 +74,10 @@ fn read_into(
     events: Out,
     texts: Out,
     area: Out,
-) -> u32
+) -> Result<(), Refusal>
     requires fits { 4 * length list.old ≤ length events.old }
     requires told { length area.old ≡ limit.area }
-    ensures { ReadInto words by payload (length list.old) events texts area result }
+    ensures { ReadInto words by payload (length list.old) events texts area (answered result) }
 {
     let a = read(words, by.party, by.name, by.ty, payload, list, texts);
     let k = words_stored(a);
@@ -94,9 +95,9 @@ fn try_room(
     events: Out,
     texts: Out,
     area: Out,
-) -> u32
+) -> Result<(), Refusal>
     requires { length area.old ≡ limit.area }
-    ensures { ReadIfRoom words by payload room events texts area result }
+    ensures { ReadIfRoom words by payload room events texts area (answered result) }
 {
     let m = slot_words(events.len()).min(room.len());
     read_into(words, by, payload, &mut room[..m], events, texts, area)
@@ -111,17 +112,24 @@ fn read_in_room(
     events: Out,
     texts: Out,
     area: Out,
-) -> u32
+) -> Result<(), Refusal>
     requires { Slots events area (length room.old) }
-    ensures { ReadByWords words by payload events texts area result }
+    ensures { ReadByWords words by payload events texts area (answered result) }
 {
     try_room(words, by, payload, room, events, texts, area)
 }
 
 // Reads with room for every event that the host lends room for.
-fn read_events(words: Words, by: Asked, payload: In, events: Out, texts: Out, area: Out) -> u32
+fn read_events(
+    words: Words,
+    by: Asked,
+    payload: In,
+    events: Out,
+    texts: Out,
+    area: Out,
+) -> Result<(), Refusal>
     requires { length area.old ≡ limit.area }
-    ensures { ReadByWords words by payload events texts area result }
+    ensures { ReadByWords words by payload events texts area (answered result) }
 {
     let m = slot_words(events.len());
     with_event_room(
@@ -131,27 +139,41 @@ fn read_events(words: Words, by: Asked, payload: In, events: Out, texts: Out, ar
 }
 
 // Reads with room for few events; and again, with room for all, where it does not suffice.
-fn read_few_first(words: Words, by: Asked, payload: In, events: Out, texts: Out, area: Out) -> u32
+fn read_few_first(
+    words: Words,
+    by: Asked,
+    payload: In,
+    events: Out,
+    texts: Out,
+    area: Out,
+) -> Result<(), Refusal>
     requires { length area.old ≡ limit.area }
-    ensures { ReadByWords words by payload events texts area result }
+    ensures { ReadByWords words by payload events texts area (answered result) }
 {
     let mut room = [0u32; FEW_EVENT_WORDS];
-    let number = try_room(words, by, payload, &mut room, events, texts, area);
-    if number != Refusal::EventRoom.number() {
-        return number;
+    let read = try_room(words, by, payload, &mut room, events, texts, area);
+    if read != Err(Refusal::EventRoom) {
+        return read;
     }
     read_events(words, by, payload, events, texts, area)
 }
 
 // Reads with the least room, and again where it does not suffice.
-fn read_least_first(words: Words, by: Asked, payload: In, events: Out, texts: Out, area: Out) -> u32
+fn read_least_first(
+    words: Words,
+    by: Asked,
+    payload: In,
+    events: Out,
+    texts: Out,
+    area: Out,
+) -> Result<(), Refusal>
     requires { length area.old ≡ limit.area }
-    ensures { ReadByWords words by payload events texts area result }
+    ensures { ReadByWords words by payload events texts area (answered result) }
 {
     let mut room = [0u32; LEAST_EVENT_WORDS];
-    let number = try_room(words, by, payload, &mut room, events, texts, area);
-    if number != Refusal::EventRoom.number() {
-        return number;
+    let read = try_room(words, by, payload, &mut room, events, texts, area);
+    if read != Err(Refusal::EventRoom) {
+        return read;
     }
     read_few_first(words, by, payload, events, texts, area)
 }
@@ -164,9 +186,9 @@ fn read_with_event_room(
     events: Out,
     texts: Out,
     area: Out,
-) -> u32
+) -> Result<(), Refusal>
     requires { length area.old ≡ limit.area }
-    ensures { ReadByWords words by payload events texts area result }
+    ensures { ReadByWords words by payload events texts area (answered result) }
 {
     if payload.len() <= LEAST_PAYLOAD {
         return read_least_first(words, by, payload, events, texts, area);
@@ -186,9 +208,9 @@ fn read_with_table_room(
     events: Out,
     texts: Out,
     area: Out,
-) -> u32
+) -> Result<(), Refusal>
     requires { Fits 4 table area (length room.old) }
-    ensures { ReadByBytes table by payload events texts area result }
+    ensures { ReadByBytes table by payload events texts area (answered result) }
 {
     let n = table.len() / 4;
     load(table, room, n);
@@ -196,9 +218,16 @@ fn read_with_table_room(
 }
 
 // Reads by a table's bytes, in room for all its words.
-fn read_whole(table: In, by: Asked, payload: In, events: Out, texts: Out, area: Out) -> u32
+fn read_whole(
+    table: In,
+    by: Asked,
+    payload: In,
+    events: Out,
+    texts: Out,
+    area: Out,
+) -> Result<(), Refusal>
     requires { Fits 4 table area most_table_words }
-    ensures { ReadByBytes table by payload events texts area result }
+    ensures { ReadByBytes table by payload events texts area (answered result) }
 {
     with_table_room(
         table.len() / 4,
@@ -212,7 +241,10 @@ pub fn read_bytes(table: In, by: Asked, payload: In, events: Out, texts: Out, ar
     ensures { ReadByBytes table by payload events texts area result }
 {
     if is_whole(table.len()) {
-        return read_whole(table, by, payload, events, texts, area);
+        return match read_whole(table, by, payload, events, texts, area) {
+            Ok(()) => refusal::ACCEPTED,
+            Err(why) => why.number(),
+        };
     }
     clear(events);
     clear(texts);
