@@ -181,25 +181,21 @@ pub fn lead_before_rows(
     let rows = inside::span(table, t);
     let end = rows.first + rows.count;
     let mut cursor = c;
-    for row in rows.first..end + 1 {
+    // No `for` over `rows.first..end + 1`: with it 2,048 events read cost 5 in 100 more, a guide 3 (1.325 at a guard of 1.31; else 1.262).
+    let mut row = rows.first;
+    loop {
+        let more = row < end;
+        let read = part(table, payload, events, texts, wall, cursor, t, row, more);
         // No `?`, as it is on the way of every part: see `Lead`.
-        let read = part(
-            table,
-            payload,
-            events,
-            texts,
-            wall,
-            cursor,
-            t,
-            row,
-            row < end,
-        );
         let Ok(next) = read else {
             return read;
         };
+        if !more {
+            return Ok(next);
+        }
         cursor = next;
+        row += 1;
     }
-    Ok(cursor)
 }
 
 // An attribute, with its value: of one that must be there no bits tell it; of one that may be absent a flag does.

@@ -12,20 +12,22 @@ span-rows-requires c = search (rules, inside-ways)
 pub overflow_add-end : goal.overflow_add-end
 overflow_add-end c = search (rules, inside-ways)
 
-pub overflow_add-row-end : goal.overflow_add-row-end
-overflow_add-row-end c = let k : c.span-rows.result.first + c.span-rows.result.count + 1 < 4294967296 = row_fits _ c.requires.1 _ c.requires.2 _ c.span-rows.ensures _ (omega arith) in search rules
-
-pub loop-row-init : goal.loop-row-init
-loop-row-init c = (refl, refl, search (rules, left-all))
+pub loop-next-init : goal.loop-next-init
+loop-next-init c = (refl, refl, omega arith, search (rules, left-all))
 
 pub part-read-requires : goal.part-read-requires
 part-read-requires c = search (rules, inside-ways)
 
 pub returns-in_default : goal.returns-in_default
-returns-in_default c = rw c.in_default.is (left-stop _ _ _ _ _ _ _ _ _ _ _ _ _ c.loop-row.invariant.2 (omega arith) _ _ _ c.part-read.ensures _ c.in_default.is)
+returns-in_default c = rw c.in_default.is (left-stop _ _ _ _ _ _ _ _ _ _ _ _ _ c.loop-next.invariant.3 c.loop-next.invariant.2 _ _ _ c.part-read.ensures _ c.in_default.is)
 
-pub loop-row-preserved : goal.loop-row-preserved
-loop-row-preserved c = (search rules, search rules, left-more _ _ _ _ _ _ _ _ _ _ _ _ _ c.loop-row.invariant.2 (omega arith) _ _ _ c.part-read.ensures _ c.in-Ok.is)
+pub returns-then-not-more : goal.returns-then-not-more
+returns-then-not-more c =
+    let left = left-more _ _ _ _ _ _ _ _ _ _ _ _ _ c.loop-next.invariant.3 c.loop-next.invariant.2 _ _ _ c.part-read.ensures _ c.in-Ok.is in
+    left-none _ _ _ _ _ _ _ _ _ _ _ _ _ left (omega arith)
 
-pub returns : goal.returns
-returns c = left-none _ _ _ _ _ _ _ _ _ _ _ _ _ c.loop-row.invariant.2 (omega arith)
+pub overflow_add-row : goal.overflow_add-row
+overflow_add-row c = let k : c.loop-next.row + 1 < 4294967296 = row_fits _ c.requires.1 _ c.requires.2 _ c.span-rows.ensures _ c.loop-next.invariant.2 in search rules
+
+pub loop-next-preserved : goal.loop-next-preserved
+loop-next-preserved c = (search rules, search rules, omega arith, left-more _ _ _ _ _ _ _ _ _ _ _ _ _ c.loop-next.invariant.3 c.loop-next.invariant.2 _ _ _ c.part-read.ensures _ c.in-Ok.is)
