@@ -7,7 +7,7 @@ ghost use Rattle.init.specs.Calls as meaning;
 ghost use Rattle.init.specs.Calls.{back, read_call, write_call};
 
 use crate::reading::read;
-use crate::writing::{refuse, write};
+use crate::writing::{refuse_at, write};
 use buffers::{clear, load, store};
 use numbers::refusal::{Fault, Refusal};
 use numbers::{limit, refusal};
@@ -77,7 +77,7 @@ fn write_bytes(
         (length message.old)) }
 {
     if init.len() != limit::INIT {
-        return Err(refuse(message, Refusal::NoReading, 0));
+        return Err(refuse_at(message, Refusal::NoReading, 0));
     }
     let mut words = [0u32; limit::INIT_WORDS];
     load(init, &mut words, limit::INIT_WORDS);

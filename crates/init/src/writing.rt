@@ -8,7 +8,7 @@ ghost use Rattle.init.specs.Items as items;
 ghost use Rattle.init.specs.Write as meaning;
 ghost use Rattle.init.specs.Write.{Writing, init_write};
 ghost use Rattle.init.specs.Write.{Writing as writings};
-ghost use Rattle.init.specs.Made.{made_is, write_back, Closed};
+ghost use Rattle.init.specs.Made.{made, made_is, write_back, Closed};
 ghost use Rattle.init.specs.Phases.{item_of, reach, grown, ends};
 ghost use Rattle.init.specs.Reads.{slot_index};
 ghost use Rattle.init.specs.Writes.{Put, Worded, Writes, Stepped, Written, wholly, UsesIs, value_is, value_in, most_of, page};
@@ -374,12 +374,22 @@ fn write_items(from: Sources<'_>, message: &mut [u8]) -> Result<Desk, Fault<usiz
     Ok(st)
 }
 
-// A refusal leaves nothing but zeros.
-#[tactic(auto, unfolding(crate::specs::Made::write_back, crate::specs::Back::number_in, crate::specs::Back::place_in, crate::specs::Back::count_in))]
-pub(crate) fn refuse(message: &mut [u8], why: Refusal, at: usize) -> Fault<usize>
-    ensures { made_is (Err result) message.new ≡ write_back (length message.old) (writings.refused (number_of why) at) }
+// A refusal, whatever its number, leaves nothing but zeros, and counts nothing.
+#[tactic(auto, unfolding(crate::specs::Made::write_back))]
+pub fn refuse(message: &mut [u8], number: u32, place: usize) -> (u32, usize)
+    ensures told { result ≡ (number, place) }
+    ensures left { made number place 0 message.new ≡ write_back (length message.old) (writings.refused number place) }
 {
     clear(message);
+    (number, place)
+}
+
+// The same of a refusal by its name.
+#[tactic(auto, unfolding(crate::specs::Made::write_back, crate::specs::Back::number_in, crate::specs::Back::place_in, crate::specs::Back::count_in))]
+pub(crate) fn refuse_at(message: &mut [u8], why: Refusal, at: usize) -> Fault<usize>
+    ensures { made_is (Err result) message.new ≡ write_back (length message.old) (writings.refused (number_of why) at) }
+{
+    refuse(message, why.number(), at);
     Fault { why, at }
 }
 
@@ -395,10 +405,10 @@ fn finish(
     ensures { Closed n used (page message.old ink) (made_is result message.new) }
 {
     if used < n {
-        return Err(refuse(message, Refusal::NoReading, limit::INIT_WORDS + used));
+        return Err(refuse_at(message, Refusal::NoReading, limit::INIT_WORDS + used));
     }
     match ink {
-        None => Err(refuse(message, Refusal::PayloadRoom, 0)),
+        None => Err(refuse_at(message, Refusal::PayloadRoom, 0)),
         Some(at) => Ok(at),
     }
 }
@@ -413,7 +423,7 @@ fn write_cleared(from: Sources<'_>, message: &mut [u8]) -> Result<usize, Fault<u
         (length message.old)) }
 {
     match write_items(from, message) {
-        Err(fault) => Err(refuse(message, fault.why, fault.at)),
+        Err(fault) => Err(refuse_at(message, fault.why, fault.at)),
         Ok(st) => finish(message, from.codecs.len() / 4, st.used, st.ink),
     }
 }
@@ -433,7 +443,7 @@ pub fn write(
 {
     let n = init[7] as usize;
     if codecs.len() / 4 < n {
-        return Err(refuse(message, Refusal::NoReading, 7));
+        return Err(refuse_at(message, Refusal::NoReading, 7));
     }
     clear(message);
     let from = Sources {

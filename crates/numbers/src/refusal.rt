@@ -91,3 +91,12 @@ impl Refusal {
         self as u32
     }
 }
+
+// Who takes any number for a refusal, as the words of an area and a report's counts do.
+impl From<Refusal> for u32 {
+    ghost from_gives = { λ why n. n ≡ number_of why };
+
+    fn from(why: Refusal) -> u32 {
+        why.number()
+    }
+}

@@ -5,7 +5,7 @@ use mathlib.Core.Bool.{Bool, true, false, cond}
 use mathlib.Core.List.{List, []}
 use Rattle.std.specs.Prelude.{Option, Some, None}
 use native.Mathlib.Omega.{arith}
-use borrow.Author.Tests.{lt-ltb, eq-eqb, ne_eqb}
+use borrow.Author.Tests.{lt-ltb, le-ltb, eq-eqb, ne_eqb}
 use lib.ListN.{length, get_or, set, drop}
 use lib.Seq.{get_or-set_same, get_or-drop}
 use Rattle.numbers.specs.declared.refusal.Refusal.{Refusal}
@@ -96,6 +96,15 @@ module _ (s : List ℕ) (octets : Octets s) (goes : at (numbers_in s) 0 ≡ 0) w
     refused-counts was sum X h e m g f =
         f ∙ ap (λ (x : ℕ). set R (answered + answer) x) (g ∙ ap (λ (x : ℕ). x + 1) e)
         ∙ sym (placed h ∙ rw (fits-true (plus (answered + answer) 1 R) (fits-set R (answered + answer) (at R (answered + answer) + 1) (numbers_fit numbers s octets) (omega arith))))
+
+    -- an answer of 64 or more is counted nowhere, and changes nothing
+    pub refused-nowhere : length s ≡ report_bytes → answers ≤ answer → s ≡ bytes_of (adds answer bytes bits L (numbers_in s))
+    unfolding R settled sums refuses
+    refused-nowhere size h = whole_back s size octets ∙ ap bytes_of (sym (going answer bytes bits L R goes ∙ go answer refused h))
+      where
+        go : (k : ℕ) → 0 < k → answers ≤ k → settled R (sums k bytes bits L R) ≡ R
+        go zero a b = absurd (omega arith)
+        go (suc k) a b = rw (le-ltb (suc k) answers b, fits-true R (numbers_fit numbers s octets))
 
 -- a refusal has a place, behind that of what was accepted
 pub refusal-some : (e : Refusal) → 0 < number_of e

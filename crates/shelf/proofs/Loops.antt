@@ -1,23 +1,33 @@
 -- One more turn of each loop, and its end.
-use Rattle.std.proofs.Common.{◌≡◌, ℕ, zero, suc, ◌+◌, ◌-◌, ◌*◌, ◌%◌, ◌<◌, ◌≤◌, max, Bool, true, false, cond, eqb, List, [], ◌∷◌, ◌++◌, length, take, drop, sym, refl, ap, ◌∙◌, append_assoc, add-one, arith, drop-cons, ne_eqb}
-use borrow.Rule.Slice.PartMut.{put_mid, Post-is}
+use Rattle.std.proofs.Common.{◌≡◌, ℕ, zero, suc, ◌+◌, ◌-◌, ◌*◌, ◌%◌, ◌<◌, ◌≤◌, max, Bool, true, false, cond, eqb, List, [], ◌∷◌, ◌++◌, length, get_or, take, drop, set, sym, refl, ap, ◌∙◌, append_assoc, append-nil, add-one, arith, length-append, take-append-drop, length-take-le, drop-cons, ne_eqb}
+use lib.Seq.{set_at}
 use Rattle.buffers.specs.Bytes.{word_from}
 use Rattle.shelf.specs.Answers.{Over, To}
 use Rattle.shelf.specs.Stream.{byte_at, length_at, walk}
 use Rattle.shelf.specs.Block.{bytes_from, sum_to}
 use Rattle.shelf.specs.Judge.{zeros_from}
 use Rattle.shelf.proofs.Walks.{walk-stop, walk-over, walk-on}
-use Rattle.shelf.proofs.Bytes.{bytes-part}
+use Rattle.shelf.proofs.Bytes.{bytes-long}
 
 -- bytes copied
-pub copied : (s d m : List ℕ) (from to k : ℕ) → from + k ≤ length s → to + k ≤ length d → m ≡ take (from + k - from) (drop from s)
-    → put_mid to (to + k - to) d m ≡ take to d ++ bytes_from (byte_at s) from k ++ drop (to + k) d
-copied s d m from to k h g e =
-    let n : from + k - from ≡ k = omega arith in
-    let q : m ≡ bytes_from (byte_at s) from k = e ∙ ap (λ (x : ℕ). take x (drop from s)) n ∙ sym (bytes-part s from k h) in
-    ap (λ (x : List ℕ). take to d ++ (m ++ x)) (Post-is to (to + k) d (omega arith))
-    ∙ sym (append_assoc (take to d) m (drop (to + k) d))
-    ∙ ap (λ (x : List ℕ). take to d ++ x ++ drop (to + k) d) q
+module _ (s d₀ : List ℕ) (from to : ℕ) where
+  pub copied_none : d₀ ≡ take to d₀ ++ bytes_from (byte_at s) from 0 ++ drop (to + 0) d₀
+  unfolding bytes_from
+  copied_none = let e : to + 0 ≡ to = omega arith in rw (e, append-nil (take to d₀)) (sym (take-append-drop to d₀))
+
+  pub copied_more : (d : List ℕ) (i : ℕ) → to + i < length d₀ → d ≡ take to d₀ ++ bytes_from (byte_at s) from i ++ drop (to + i) d₀
+      → set d (to + i) (get_or s (from + i) 0) ≡ take to d₀ ++ bytes_from (byte_at s) from (i + 1) ++ drop (to + (i + 1)) d₀
+  unfolding bytes_from
+  copied_more d i h e =
+      let F = bytes_from (byte_at s) from i in
+      let v = get_or s (from + i) 0 in
+      let l : length (take to d₀ ++ F) ≡ to + i = length-append (take to d₀) F ∙ omega (arith, length-take-le to d₀ (omega arith), bytes-long (byte_at s) from i) in
+      let n : to + (i + 1) ≡ suc (to + i) = omega arith in
+      ap (λ (x : List ℕ). set x (to + i) v) (e ∙ ap (λ (x : List ℕ). take to d₀ ++ F ++ x) (drop-cons d₀ (to + i) 0 h))
+      ∙ set_at (take to d₀ ++ F) (get_or d₀ (to + i) 0) (drop (suc (to + i)) d₀) v (to + i) l
+      ∙ sym (append_assoc (take to d₀ ++ F) (v ∷ []) (drop (suc (to + i)) d₀))
+      ∙ ap (λ (x : List ℕ). x ++ drop (suc (to + i)) d₀) (append_assoc (take to d₀) F (v ∷ []))
+      ∙ rw (n, add-one i)
 
 -- words summed
 pub summed-more : (s : List ℕ) (from i : ℕ) {sum w r : ℕ} → sum ≡ sum_to s from i → w ≡ word_from s (from + 4 * i) → r ≡ (sum + w) % 4294967296 → r ≡ sum_to s from (i + 1)

@@ -25,8 +25,9 @@ area_words a entries dropped =
 unfoldable pub area_of : Answer → (entries dropped : ℕ) → List ℕ
 area_of a entries dropped = bytes_of (area_words a entries dropped)
 
-abbrev pub at_place : ℕ → Sizes → Answer
-at_place place s = record { number = 0; place = place; records = s.records; stream = s.stream; file = s.file }
+-- any five numbers as an answer
+abbrev pub answer_by : (number place : ℕ) → Sizes → Answer
+answer_by number place s = record { number = number; place = place; records = s.records; stream = s.stream; file = s.file }
 
 -- the area's size first: an area of another size, and the output buffer, are zero throughout
 unfoldable pub called : (area room : ℕ) → Outcome → Back

@@ -11,13 +11,16 @@ use crate::sums::sum_words;
 use buffers::{clear, put_half, put_word};
 use numbers::limit;
 
-// k bytes copied from a place of one buffer to a place of another.
+// k bytes copied from a place of one buffer to a place of another: the compiler makes a memcpy of the loop, and of `copy_from_slice` here a memmove, a name
+// that the archive for C would newly need from outside.
 pub fn copy_bytes(s: &[u8], from: usize, d: &mut [u8], to: usize, k: usize)
     requires { (from + k ≤ length s.now) × (to + k ≤ length d.old) }
     ensures { d.new
         ≡ take to d.old ++ bytes_from (byte_at s.now) from k ++ drop (to + k) d.old }
 {
-    d[to..to + k].copy_from_slice(&s[from..from + k]);
+    for i in 0..k {
+        d[to + i] = s[from + i];
+    }
 }
 
 // A block's head.

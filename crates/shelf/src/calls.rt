@@ -2,7 +2,7 @@
 ghost use Rattle.std.specs.Prelude.{◌≡◌, ◌/◌, ◌%◌, [], ◌∷◌, length};
 ghost use Rattle.numbers.specs.Limit.{shelf_area};
 ghost use Rattle.shelf.specs.Answers.{answer_of};
-ghost use Rattle.shelf.specs.Calls.{back, area_of, at_place, write_call, read_call, salvage_call};
+ghost use Rattle.shelf.specs.Calls.{back, area_of, answer_by, write_call, read_call, salvage_call};
 
 use crate::answers::{Answer, Listed, Sizes};
 use crate::rescue::place_word;
@@ -36,10 +36,11 @@ fn low(x: usize) -> u32
     (x % 4294967296) as u32
 }
 
-// Puts the place, the sizes and what was listed into the area.
-fn lay(area: &mut [u8], place: usize, sizes: Sizes, listed: Listed)
+// Tells any five numbers of an answer in the area, with what was listed, and gives the first of them back.
+pub fn tell(area: &mut [u8], number: u32, place: usize, sizes: Sizes, listed: Listed) -> u32
     requires { length area.old ≡ shelf_area }
-    ensures { area.new ≡ area_of (at_place place sizes) listed.entries listed.dropped }
+    ensures { (result ≡ number)
+        × (area.new ≡ area_of (answer_by number place sizes) listed.entries listed.dropped) }
 {
     let words = [
         place_word(place),
@@ -55,23 +56,18 @@ fn lay(area: &mut [u8], place: usize, sizes: Sizes, listed: Listed)
         low(listed.dropped),
     ];
     store(&words, area);
+    number
 }
 
-// Tells an answer in the area, and gives its number back.
-pub fn tell(area: &mut [u8], a: Answer, listed: Listed) -> u32
+// The same of an answer.
+pub fn tell_answer(area: &mut [u8], a: Answer, listed: Listed) -> u32
     requires { length area.old ≡ shelf_area }
     ensures { (result ≡ (answer_of a).number)
         × (area.new ≡ area_of (answer_of a) listed.entries listed.dropped) }
 {
     match a {
-        Ok(sizes) => {
-            lay(area, 0, sizes, listed);
-            refusal::ACCEPTED
-        }
-        Err(fault) => {
-            lay(area, fault.at, NO_SIZES, listed);
-            fault.why.number()
-        }
+        Ok(sizes) => tell(area, refusal::ACCEPTED, 0, sizes, listed),
+        Err(fault) => tell(area, fault.why.number(), fault.at, NO_SIZES, listed),
     }
 }
 
@@ -86,7 +82,7 @@ pub fn call_write(records: &[u8], file: &mut [u8], area: &mut [u8]) -> u32
         return Refusal::AreaSize.number();
     }
     let a = write(records, file);
-    tell(area, a, NOTHING_LISTED)
+    tell_answer(area, a, NOTHING_LISTED)
 }
 
 // Reads a shelf file into the stream of its records.
@@ -100,7 +96,7 @@ pub fn call_read(file: &[u8], records: &mut [u8], area: &mut [u8]) -> u32
         return Refusal::AreaSize.number();
     }
     let a = read(file, records);
-    tell(area, a, NOTHING_LISTED)
+    tell_answer(area, a, NOTHING_LISTED)
 }
 
 // Salvages a damaged shelf file: what is whole of it as a new file, and the list of what is dropped.
@@ -116,7 +112,7 @@ pub fn call_salvage(file: &[u8], fresh: &mut [u8], dropped: &mut [u8], area: &mu
         return Refusal::AreaSize.number();
     }
     match salvage(file, fresh, dropped) {
-        Ok(saved) => tell(area, Ok(saved.sizes), saved.listed),
-        Err(fault) => tell(area, Err(fault), NOTHING_LISTED),
+        Ok(saved) => tell_answer(area, Ok(saved.sizes), saved.listed),
+        Err(fault) => tell_answer(area, Err(fault), NOTHING_LISTED),
     }
 }

@@ -1,16 +1,13 @@
 -- Bytes laid from a byte on, or from a bit of one: each turn of the loops writes an octet.
-use Prim.Native.Nat.{ℕ, zero, suc, ◌+◌, ◌-◌, ◌*◌, ◌/◌, ◌%◌, ◌^◌, ◌<◌, ◌≤◌}
+use Prim.Native.Nat.{ℕ, suc, ◌+◌, ◌-◌, ◌*◌, ◌/◌, ◌%◌, ◌^◌, ◌<◌, ◌≤◌}
 use mathlib.Core.Path.{◌≡◌, refl, sym, ap, ◌∙◌}
-use mathlib.Core.List.{List, [], ◌∷◌, ◌++◌}
-use borrow.Rule.Slice.PartMut.{put_mid}
-use Rattle.std.proofs.lemmas.List.{drop_all}
-use Rattle.std.proofs.lemmas.Slice.{put_mid-paste}
+use mathlib.Core.List.{List, []}
 use native.Mathlib.Numerals.{add-one}
 use native.Mathlib.Omega.{arith}
 use mir.Val.{Fits}
 use mir.Syntax.{w8}
-use lib.ListN.{length, get_or, set, take, drop, length-set}
-use lib.Seq.{sets, sets-eq, drop-cons, get_or-set_same, get_or-set_other, set-get_or, take_all}
+use lib.ListN.{length, get_or, set, take, length-set}
+use lib.Seq.{get_or-set_same, get_or-set_other, set-get_or}
 use lib.Pow.{split, high}
 use Rattle.wire.specs.Bits.{digits}
 use Rattle.wire.specs.Put.{Wrote}
@@ -41,33 +38,6 @@ lay-start s a = let z : a + 8 * 0 ≡ a = omega arith in rw z (bytes-start s a)
 
 pub lay-end : (s t text : List ℕ) (a i : ℕ) → i ≤ length text → length text ≤ i → Wrote s t a (bytes (take i text)) (a + 8 * i) → Wrote s t a (bytes text) (a + 8 * length text)
 lay-end s t text a i h k w = let z : i ≡ length text = omega arith in rw z at (bytes-end s t text a (a + 8 * i) i h k w)
-
--- what is copied over a part is set there
-copied : (s text m : List ℕ) (q : ℕ) → q + length text ≤ length s → m ≡ text → put_mid q (q + length text - q) s m ≡ sets s q text
-copied s text m q room e =
-    put_mid-paste q (q + length text - q) s m text (length text) e (omega arith) refl
-    ∙ ap (λ (x : List ℕ). take q s ++ x ++ drop (q + length text) s) (take_all (length text) text (omega arith))
-    ∙ sym (sets-eq text s q room)
-
--- all of the text, from its byte i on
-lay-rest : (s text : List ℕ) (q : ℕ) → ((j : ℕ) → Fits w8 (get_or text j 0)) → (n i : ℕ) (t : List ℕ) → n + i ≡ length text → q + length text ≤ length t
-    → Wrote s t (8 * q) (bytes (take i text)) (8 * q + 8 * i) → Wrote s (sets t (q + i) (drop i text)) (8 * q) (bytes text) (8 * q + 8 * length text)
-lay-rest s text q f zero i t e room w =
-    rw (drop_all i text (omega arith)) (lay-end s t text (8 * q) i (omega arith) (omega arith) w)
-lay-rest s text q f (suc n) i t e room w =
-    let x = get_or text i 0 in
-    let z : suc (q + i) ≡ q + (i + 1) = omega arith in
-    let y : suc i ≡ i + 1 = omega arith in
-    let room-there : q + length text ≤ length (set t (q + i) x) = rw (length-set t (q + i) x) room in
-    let step : sets t (q + i) (x ∷ drop (i + 1) text) ≡ sets (set t (q + i) x) (q + (i + 1)) (drop (i + 1) text) = ap (λ (k : ℕ). sets (set t (q + i) x) k (drop (i + 1) text)) z in
-    rw (drop-cons text i 0 (omega arith), y, step)
-    (lay-rest s text q f n (i + 1) (set t (q + i) x) (omega arith) room-there (lay-turn s t text q i room (omega arith) (f i) w))
-
-pub lay-all : (s text m : List ℕ) (q : ℕ) → ((j : ℕ) → Fits w8 (get_or text j 0)) → q + length text ≤ length s → m ≡ text
-    → Wrote s (put_mid q (q + length text - q) s m) (8 * q) (bytes text) (8 * q + 8 * length text)
-lay-all s text m q f room e =
-    let z : q + 0 ≡ q = omega arith in
-    rw (copied s text m q room e) (rw z at (lay-rest s text q f (length text) 0 s (omega arith) room (lay-start s (8 * q))))
 
 -- from bit k of a byte on: the buffer as it is once byte p has the low bits of the octet c, and its own low bits
 abbrev pub close : ℕ → ℕ → ℕ → ℕ

@@ -2,12 +2,14 @@
 ghost use Rattle.std.specs.Prelude.{◌+◌, ◌*◌, ◌≤◌, ◌<◌, length};
 ghost use Rattle.value.specs.Answer.{WroteBytes};
 
-// From byte q on.
+// From byte q on: the compiler makes a memcpy of the loop, and of `copy_from_slice` a memmove, a name that an archive for C would newly need from outside.
 pub fn lay(buf: &mut [u8], q: usize, text: &[u8])
     requires { q + length text.now ≤ length buf.old }
     ensures { WroteBytes buf.old buf.new (8 * q) text.now }
 {
-    buf[q..q + text.len()].copy_from_slice(text);
+    for (i, &x) in text.iter().enumerate() {
+        buf[q + i] = x;
+    }
 }
 
 // From bit k of byte q on: each byte stored has the low bits of one octet, c, and the high bits of the next.

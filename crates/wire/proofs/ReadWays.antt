@@ -7,14 +7,16 @@ use native.Mathlib.Omega.{arith}
 use native.Mathlib.Decide.{ℕ_discrete, dec_lt}
 use borrow.Author.Tests.{le-leb, lt-leb, le-ltb, lt-ltb}
 use Rattle.wire.specs.declared.Bits.{Bits}
-use Rattle.std.specs.Prelude.{Ok, Err, ltb}
+use Rattle.wire.specs.declared.Number.{Number}
+use Rattle.std.specs.Prelude.{Result, Ok, Err, ltb}
 use Rattle.numbers.specs.declared.refusal.Refusal.{Refusal}
 use Rattle.numbers.specs.declared.refusal.Refusal.TheVariants as refusal
 use Rattle.numbers.specs.Refused.{number_of}
+use Rattle.numbers.specs.Refusal.{not_shortest}
 use Rattle.wire.specs.Res.{Res, got, fault}
 use Rattle.wire.specs.Bits.{bit_at, num, fixed_at}
 use Rattle.wire.proofs.BitLaws.{bit-lt, num-under, fixed-past, fixed_in}
-use Rattle.wire.specs.Answer.{Read, Numbered, read_is, number_is, fixed32}
+use Rattle.wire.specs.Answer.{Read, Numbered, Tells, read_by, number_by, read_is, number_is, fixed32}
 use Rattle.wire.specs.Number.{number5, second8_at, number8, strict, read5, read8}
 use Rattle.wire.proofs.Steps.{second-fault, second-third, second-long, second_short, eight-fault, eight-one, eight-two, strict-fault, strict-short, strict-long}
 
@@ -121,29 +123,44 @@ pub ruleset eight-ways = (way-eight-refuse, way-eight-one, way-eight-two, seven-
 
 pub ruleset second-ways = (way-second-refuse, way-second-third)
 
--- shortest, vlu5, vlu8
-module _ (n : Numbered) where
-  pub way-short-refuse : (m : Refusal) → n ≡ Err m → read_is (Err m) ≡ strict (number_is n)
-  unfolding read_is
-  way-short-refuse m w = sym (strict-fault (number-refuse refl w))
+-- shortest, of any refusals that have numbers
+module _ {E : Type 0} (number : E → ℕ) (n : Result Number E) where
+  pub way-short-refuse : (m : E) → n ≡ Err m → read_by number (Err m) ≡ strict (number_by number n)
+  unfolding read_by number_by
+  way-short-refuse m w = sym (strict-fault (rw w))
 
-  module _ (v : ℕ) (p : Bits) (t : Bool) (w : n ≡ Ok (record { value = v; next = p; short = t })) where
-    pub way-short-yes : t ≡ true → read_is (Ok (v, p)) ≡ strict (number_is n)
-    unfolding read_is
-    way-short-yes z = sym (strict-short {v = v} {p = p.0} (number-value refl w ∙ rw z))
+  module _ (m : Number) (w : n ≡ Ok m) where
+    pub way-short-yes : m.short ≡ true → read_by number (Ok (m.value, m.next)) ≡ strict (number_by number n)
+    unfolding read_by number_by
+    way-short-yes z = sym (strict-short {v = m.value} {p = m.next.0} (rw (w, z)))
 
-    pub way-short-no : t ≡ false → read_is (Err refusal.NotShortest) ≡ strict (number_is n)
-    unfolding read_is
-    way-short-no z = sym (strict-long {v = v} {p = p.0} (number-value refl w ∙ rw z))
+    pub way-short-no : m.short ≡ false → (e : E) → number e ≡ not_shortest → read_by number (Err e) ≡ strict (number_by number n)
+    unfolding read_by number_by
+    way-short-no z e f = rw f (sym (strict-long {v = m.value} {p = m.next.0} (rw (w, z))))
 
-pub ruleset short-ways = (way-short-refuse, way-short-yes, way-short-no)
+-- vlu5, vlu8: the refusals are names
+read-by : (r : Read) → read_by number_of r ≡ read_is r
+unfolding read_by read_is
+read-by (Ok (v, p)) = refl
+read-by (Err e) = refl
 
-pub way-strict5 : (b : ℕ → ℕ) (wall at : ℕ) (n : Numbered) (r : Read) → number_is n ≡ number5 b wall at → read_is r ≡ strict (number_is n) → read_is r ≡ read5 b wall at
+number-by : (n : Numbered) → number_by number_of n ≡ number_is n
+unfolding number_by number_is
+number-by (Ok n) = refl
+number-by (Err e) = refl
+
+abbrev Shortest : Numbered → Read → Type 0
+Shortest n r = (number : Refusal → ℕ) → Tells number (λ why e. e ≡ why) → read_by number r ≡ strict (number_by number n)
+
+by_name : (n : Numbered) (r : Read) → Shortest n r → read_is r ≡ strict (number_is n)
+by_name n r f = sym (read-by r) ∙ f number_of (λ why e w. ap number_of w) ∙ ap strict (number-by n)
+
+pub way-strict5 : (b : ℕ → ℕ) (wall at : ℕ) (n : Numbered) (r : Read) → number_is n ≡ number5 b wall at → Shortest n r → read_is r ≡ read5 b wall at
 unfolding read5
-way-strict5 b wall at n r e f = f ∙ ap strict e
+way-strict5 b wall at n r e f = by_name n r f ∙ ap strict e
 
-pub way-strict8 : (b : ℕ → ℕ) (wall at : ℕ) (n : Numbered) (r : Read) → number_is n ≡ number8 b wall at → read_is r ≡ strict (number_is n) → read_is r ≡ read8 b wall at
+pub way-strict8 : (b : ℕ → ℕ) (wall at : ℕ) (n : Numbered) (r : Read) → number_is n ≡ number8 b wall at → Shortest n r → read_is r ≡ read8 b wall at
 unfolding read8
-way-strict8 b wall at n r e f = f ∙ ap strict e
+way-strict8 b wall at n r e f = by_name n r f ∙ ap strict e
 
 pub ruleset strict-ways = (way-strict5, way-strict8)

@@ -1,8 +1,8 @@
 // Codes read from a place of a payload, below a wall.
-ghost use Rattle.std.specs.Prelude.{◌≡◌, ◌+◌, ◌*◌, ◌≤◌, ◌<◌, length};
+ghost use Rattle.std.specs.Prelude.{ℕ, ◌≡◌, ◌+◌, ◌*◌, ◌≤◌, ◌<◌, length};
 ghost use Rattle.wire.specs.Bits.{bit_at};
 ghost use Rattle.wire.specs.Number.{is_short, second8_at, number5, number8, strict, read5, read8};
-ghost use Rattle.wire.specs.Answer.{read_is, number_is, fixed32};
+ghost use Rattle.wire.specs.Answer.{Tells, read_by, number_by, read_is, number_is, fixed32};
 ghost use Rattle.wire.specs.Res.{got};
 ghost use Rattle.wire.specs.Leading.{Leading, cut_groups};
 
@@ -131,15 +131,19 @@ fn second8(s: &[u8], wall: Bits, x: u32, at: Bits) -> Result<Number, Refusal>
     })
 }
 
-// A number in shortest form; any other is NOT_SHORTEST.
-pub fn shortest(n: Result<Number, Refusal>) -> Read
-    ensures { read_is result ≡ strict (number_is n) }
+// A number in shortest form; any other is NOT_SHORTEST. A refusal stays, be it told by name or by any number: `number` says which number a refusal has.
+pub fn shortest<E: Copy + From<Refusal>>(n: Result<Number, E>) -> Result<(u32, Bits), E>
+    ensures { (number : E → ℕ) → Tells number E.from_gives → read_by number result ≡ strict (number_by number n) }
 {
-    let Number { value, next, short } = n?;
-    if short {
-        return Ok((value, next));
+    match n {
+        Err(why) => Err(why),
+        Ok(Number { value, next, short }) => {
+            if short {
+                return Ok((value, next));
+            }
+            Err(E::from(Refusal::NotShortest))
+        }
     }
-    Err(Refusal::NotShortest)
 }
 
 // vluimsbf5 in shortest form.

@@ -1,14 +1,11 @@
--- By the number's three cases.
-use Rattle.std.proofs.lemmas.Result.{err_from_is_err_and}
-use Rattle.wire.proofs.ReadWays.{short-ways, way-short-refuse}
-use borrow.Author.Rules.{rules}
+use Rattle.wire.proofs.ReadWays.{way-short-refuse, way-short-yes, way-short-no}
 use Rattle.wire.proofs.reading.shortest.Goals as goal
 
-pub returns-in_err-value : goal.returns-in_err-value
-returns-in_err-value c = let p = err_from_is_err_and c.from_residual.result c.from_residual.ensures.1 in rw (p.1, p.2) (way-short-refuse _ _ c.in_err-value.was)
+pub returns-in-Err : goal.returns-in-Err
+returns-in-Err c c' number tells = way-short-refuse number _ _ c'.in-Err.is
 
 pub returns-then-short : goal.returns-then-short
-returns-then-short c = search (rules, short-ways)
+returns-then-short c c' number tells = way-short-yes number _ _ c'.in-Ok.is c'.if-short.true
 
-pub returns : goal.returns
-returns c = search (rules, short-ways)
+pub returns-else-short : goal.returns-else-short
+returns-else-short c c' number tells = way-short-no number _ _ c'.in-Ok.is c'.if-short.false _ (tells _ _ c'.from.ensures)
