@@ -11,8 +11,8 @@ use crate::sums::sum_words;
 use buffers::{clear, put_half, put_word};
 use numbers::limit;
 
-// k bytes copied from a place of one buffer to a place of another: the compiler makes a memcpy of the loop, and of `copy_from_slice` here a memmove, a name
-// that the archive for C would newly need from outside.
+// k bytes copied from a place of one buffer to a place of another. Not by `copy_from_slice`: the compiler does not see that the two are apart and makes a
+// memmove of it, a name that the archive for C would newly need from outside.
 pub fn copy_bytes(s: &[u8], from: usize, d: &mut [u8], to: usize, k: usize)
     requires { (from + k ≤ length s.now) × (to + k ≤ length d.old) }
     ensures { d.new

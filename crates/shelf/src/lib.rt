@@ -23,7 +23,7 @@ ghost use Rattle.shelf.specs.Rescue as promises;
 ghost use Rattle.shelf.specs.Rescue.{has_room};
 
 use answers::{Answer, Rescued, Saved, Sizes};
-use block::{copy_bytes, cut_blocks, used_in};
+use block::{copy_bytes, cut_blocks};
 use buffers::clear;
 use judge::scan;
 use numbers::limit;
@@ -104,14 +104,20 @@ pub fn write(records: &[u8], file: &mut [u8]) -> Answer
     }
 }
 
-// The first n bytes of a file's stream, at the front of a buffer.
+// The first n bytes of a file's stream, at the front of a buffer: whole blocks, whose length the compiler knows as it copies them, and what is left.
 fn gather(f: &[u8], records: &mut [u8], n: usize)
     requires { (n ≤ block_data * blocks f.now) × (n ≤ length records.old) }
     ensures { records.new ≡ bytes_from (byte_of f.now) 0 n ++ drop n records.old }
 {
-    for i in 0..blocks_for(n) {
+    let whole = n / limit::BLOCK_DATA;
+    for i in 0..whole {
         let from = limit::BLOCK_BYTES * i + limit::BLOCK_HEAD;
-        copy_bytes(f, from, records, limit::BLOCK_DATA * i, used_in(n, i));
+        copy_bytes(f, from, records, limit::BLOCK_DATA * i, limit::BLOCK_DATA);
+    }
+    let at = limit::BLOCK_DATA * whole;
+    if at < n {
+        let from = limit::BLOCK_BYTES * whole + limit::BLOCK_HEAD;
+        copy_bytes(f, from, records, at, n - at);
     }
 }
 

@@ -2,7 +2,7 @@
 ghost use Rattle.std.specs.Prelude.{◌+◌, ◌*◌, ◌≤◌, ◌<◌, length};
 ghost use Rattle.value.specs.Answer.{WroteBytes};
 
-// From byte q on: the compiler makes a memcpy of the loop, and of `copy_from_slice` a memmove, a name that an archive for C would newly need from outside.
+// From byte q on. Not by `copy_from_slice`, of which the compiler makes a memmove here, a name that an archive for C would newly need from outside.
 pub fn lay(buf: &mut [u8], q: usize, text: &[u8])
     requires { q + length text.now ≤ length buf.old }
     ensures { WroteBytes buf.old buf.new (8 * q) text.now }
