@@ -125,42 +125,68 @@ pub ruleset second-ways = (way-second-refuse, way-second-third)
 
 -- shortest, of any refusals that have numbers
 module _ {E : Type 0} (number : E → ℕ) (n : Result Number E) where
-  pub way-short-refuse : (m : E) → n ≡ Err m → read_by number (Err m) ≡ strict (number_by number n)
+  pub way-shortest-refuse : (m : E) → n ≡ Err m → read_by number (Err m) ≡ strict (number_by number n)
   unfolding read_by number_by
-  way-short-refuse m w = sym (strict-fault (rw w))
+  way-shortest-refuse m w = sym (strict-fault (rw w))
 
   module _ (m : Number) (w : n ≡ Ok m) where
-    pub way-short-yes : m.short ≡ true → read_by number (Ok (m.value, m.next)) ≡ strict (number_by number n)
+    pub way-shortest-yes : m.short ≡ true → read_by number (Ok (m.value, m.next)) ≡ strict (number_by number n)
     unfolding read_by number_by
-    way-short-yes z = sym (strict-short {v = m.value} {p = m.next.0} (rw (w, z)))
+    way-shortest-yes z = sym (strict-short {v = m.value} {p = m.next.0} (rw (w, z)))
 
-    pub way-short-no : m.short ≡ false → (e : E) → number e ≡ not_shortest → read_by number (Err e) ≡ strict (number_by number n)
+    pub way-shortest-no : m.short ≡ false → (e : E) → number e ≡ not_shortest → read_by number (Err e) ≡ strict (number_by number n)
     unfolding read_by number_by
-    way-short-no z e f = rw f (sym (strict-long {v = m.value} {p = m.next.0} (rw (w, z))))
+    way-shortest-no z e f = rw f (sym (strict-long {v = m.value} {p = m.next.0} (rw (w, z))))
 
--- vlu5, vlu8: the refusals are names
-read-by : (r : Read) → read_by number_of r ≡ read_is r
+-- shortest, where the refusals are names: what it promises of every way to number them, it promises of their own numbers
+pub read-by : (r : Read) → read_by number_of r ≡ read_is r
 unfolding read_by read_is
 read-by (Ok (v, p)) = refl
 read-by (Err e) = refl
 
-number-by : (n : Numbered) → number_by number_of n ≡ number_is n
+pub number-by : (n : Numbered) → number_by number_of n ≡ number_is n
 unfolding number_by number_is
 number-by (Ok n) = refl
 number-by (Err e) = refl
 
-abbrev Shortest : Numbered → Read → Type 0
+abbrev pub Shortest : Numbered → Read → Type 0
 Shortest n r = (number : Refusal → ℕ) → Tells number (λ why e. e ≡ why) → read_by number r ≡ strict (number_by number n)
 
-by_name : (n : Numbered) (r : Read) → Shortest n r → read_is r ≡ strict (number_is n)
-by_name n r f = sym (read-by r) ∙ f number_of (λ why e w. ap number_of w) ∙ ap strict (number-by n)
+module _ (n : Numbered) where
+  named : (r : Read) → read_by number_of r ≡ strict (number_by number_of n) → read_is r ≡ strict (number_is n)
+  named r f = sym (read-by r) ∙ f ∙ ap strict (number-by n)
 
-pub way-strict5 : (b : ℕ → ℕ) (wall at : ℕ) (n : Numbered) (r : Read) → number_is n ≡ number5 b wall at → Shortest n r → read_is r ≡ read5 b wall at
+  pub by_name : (r : Read) → Shortest n r → read_is r ≡ strict (number_is n)
+  by_name r f = named r (f number_of (λ why e w. ap number_of w))
+
+  pub way-short-refuse : (m : Refusal) → n ≡ Err m → read_is (Err m) ≡ strict (number_is n)
+  way-short-refuse m w = named (Err m) (way-shortest-refuse number_of n m w)
+
+  module _ (v : ℕ) (p : Bits) (t : Bool) (w : n ≡ Ok (record { value = v; next = p; short = t })) where
+    pub way-short-yes : t ≡ true → read_is (Ok (v, p)) ≡ strict (number_is n)
+    way-short-yes z = named (Ok (v, p)) (way-shortest-yes number_of n _ w z)
+
+    pub way-short-no : t ≡ false → read_is (Err refusal.NotShortest) ≡ strict (number_is n)
+    way-short-no z = named (Err refusal.NotShortest) (way-shortest-no number_of n _ w z refusal.NotShortest refl)
+
+pub ruleset short-ways = (way-short-refuse, way-short-yes, way-short-no)
+
+-- vlu5, vlu8
+pub way-strict5 : (b : ℕ → ℕ) (wall at : ℕ) (n : Numbered) (r : Read) → number_is n ≡ number5 b wall at → read_is r ≡ strict (number_is n) → read_is r ≡ read5 b wall at
 unfolding read5
-way-strict5 b wall at n r e f = by_name n r f ∙ ap strict e
+way-strict5 b wall at n r e f = f ∙ ap strict e
 
-pub way-strict8 : (b : ℕ → ℕ) (wall at : ℕ) (n : Numbered) (r : Read) → number_is n ≡ number8 b wall at → Shortest n r → read_is r ≡ read8 b wall at
+pub way-strict8 : (b : ℕ → ℕ) (wall at : ℕ) (n : Numbered) (r : Read) → number_is n ≡ number8 b wall at → read_is r ≡ strict (number_is n) → read_is r ≡ read8 b wall at
 unfolding read8
-way-strict8 b wall at n r e f = by_name n r f ∙ ap strict e
+way-strict8 b wall at n r e f = f ∙ ap strict e
 
 pub ruleset strict-ways = (way-strict5, way-strict8)
+
+-- the same by what shortest promises of names
+pub way-named5 : (b : ℕ → ℕ) (wall at : ℕ) (n : Numbered) (r : Read) → number_is n ≡ number5 b wall at → Shortest n r → read_is r ≡ read5 b wall at
+way-named5 b wall at n r e f = way-strict5 b wall at n r e (by_name n r f)
+
+pub way-named8 : (b : ℕ → ℕ) (wall at : ℕ) (n : Numbered) (r : Read) → number_is n ≡ number8 b wall at → Shortest n r → read_is r ≡ read8 b wall at
+way-named8 b wall at n r e f = way-strict8 b wall at n r e (by_name n r f)
+
+pub ruleset named-ways = (way-named5, way-named8)

@@ -1,13 +1,13 @@
 -- A strict reading of a number.
-use Rattle.wire.proofs.ReadWays.{strict-ways}
+use Rattle.wire.proofs.ReadWays.{named-ways}
 use borrow.Author.Rules.{rules}
 use Rattle.wire.proofs.reading.vlu8.Goals as goal
 
 pub any8-requires : goal.any8-requires
-any8-requires c = search (rules, strict-ways)
+any8-requires c = search (rules, named-ways)
 
 pub shortest-requires : goal.shortest-requires
-shortest-requires c = search (rules, strict-ways)
+shortest-requires c = search (rules, named-ways)
 
 pub returns : goal.returns
-returns c = search (rules, strict-ways)
+returns c = search (rules, named-ways)
